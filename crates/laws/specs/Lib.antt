@@ -1,0 +1,6 @@
+-- Laws that every crate cites, each once.
+pub mod Bools
+pub mod Folds
+pub mod Counts
+pub mod Sums
+pub mod Tables

@@ -1,0 +1,1 @@
+// Laws that every crate cites: see specs/. There is no code here.
