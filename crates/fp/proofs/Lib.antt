@@ -1,0 +1,2 @@
+-- Laws that the proofs of `fp` share.
+pub mod Signs

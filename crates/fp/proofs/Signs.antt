@@ -1,0 +1,92 @@
+-- What the code's tests tell: of a sign, of a zero's one form, of the infinities, of a NaN's pattern. Assumes nothing.
+use Prim.Native.Nat.{ℕ, zero as z, suc, _+_, _*_, _^_, _≤_, _<_}
+use native.Mathlib.Nat.{zero-mul, mul-one, one-mul, mul-pos, zero-lt-suc}
+use native.Mathlib.Omega.{arith}
+use mathlib.Core.Path.{_≡_, refl, sym, ap, _∙_, subst}
+use mathlib.Core.Bool.{Bool, true, false, _&&_, true≢false}
+use lib.IntN.{ℤ, pos, negsuc}
+use lib.Dec.{T, eqb, ltb}
+use lib.Pow.{pow-lt}
+use lib.Ieee.{Float, nan, inf, fin, binary64, ofBits, fits, up, down, neg, lt, eq, div, isNan, nanBits}
+use lib.Ieee.Fits.{up-pos}
+use lib.Ieee.Bits.{nanBits-is}
+use borrow.Author.Tests.{ltb-true, ltb-false, eqb-true, eq-eqb}
+use Rattle.laws.specs.Bools.{both-left}
+use Rattle.fp.specs.Num.{zero, abs, finite, infinity, over}
+
+-- ---- abs
+
+-- a zero that fits has one exponent
+zero-exp : (e : ℤ) → up e * down e ≡ 1 → pos 0 ≡ e
+zero-exp (pos z) h = refl
+zero-exp (pos (suc k)) h =
+    let g : 2 ^ 0 < 2 ^ suc k = pow-lt (zero-lt-suc k) in let h' : 2 ^ suc k ≡ 1 = sym (mul-one (2 ^ suc k)) ∙ h in absurd (omega arith)
+zero-exp (negsuc k) h =
+    let g : 2 ^ 0 < 2 ^ suc k = pow-lt (zero-lt-suc k) in let h' : 2 ^ suc k ≡ 1 = sym (one-mul (2 ^ suc k)) ∙ h in absurd (omega arith)
+
+pub abs-below : (x : Float) → lt x zero ≡ true → neg x ≡ abs x
+unfolding lt neg ofBits
+abs-below nan h = refl
+abs-below (inf true) h = refl
+abs-below (inf false) h = cc
+abs-below (fin true m e) h = refl
+abs-below (fin false m e) h = absurd (none (m * up e * 1) (0 * down e) (zero-mul (down e)) (ltb-true (m * up e * 1) (0 * down e) h))
+  where
+    none : (a b : ℕ) → b ≡ 0 → a < b → ⊥
+    none a b p q = omega arith
+
+pub abs-level : (x : Float) → fits binary64 x ≡ true → eq x zero ≡ true → zero ≡ abs x
+unfolding eq ofBits fits
+abs-level nan f h = cc
+abs-level (inf s) f h = cc
+abs-level (fin s z e) f h = ap (fin false 0) (zero-exp e (eqb-true (up e * down e) 1 f))
+abs-level (fin s (suc m) e) f h =
+    absurd
+    (none (suc m * up e) (0 * down e) (zero-mul (down e)) (mul-pos (zero-lt-suc m) (up-pos e))
+    (sym (mul-one (suc m * up e)) ∙ eqb-true (suc m * up e * 1) (0 * down e) (both-left (eqb (suc m * up e * 1) (0 * down e)) _ h)))
+  where
+    none : (a b : ℕ) → b ≡ 0 → 0 < a → a ≡ b → ⊥
+    none a b p q r = omega arith
+
+pub abs-above : (x : Float) → lt x zero ≡ false → eq x zero ≡ false → x ≡ abs x
+unfolding lt eq ofBits
+abs-above nan h k = refl
+abs-above (inf true) h k = cc
+abs-above (inf false) h k = refl
+abs-above (fin true m e) h k =
+    let p : m * up e * 1 ≡ 0 = none (m * up e * 1) (0 * down e) (ltb-false 0 (m * up e * 1 + 0 * down e) h) in
+    let q : eqb (m * up e * 1) (0 * down e) ≡ true = eq-eqb _ _ (p ∙ sym (zero-mul (down e))) in
+    let r : eqb (m * up e * 1) 0 ≡ true = eq-eqb _ _ p in
+    absurd (true≢false (simp (q, r) at k))
+  where
+    none : (a b : ℕ) → a + b ≤ 0 → a ≡ 0
+    none a b p = omega arith
+abs-above (fin false m e) h k = refl
+
+-- ---- finite: the infinities bound it
+
+pub finite-below : (x : Float) → lt x infinity ≡ true → lt (neg infinity) x ≡ finite x
+unfolding lt neg ofBits div
+finite-below nan h = refl
+finite-below (inf true) h = refl
+finite-below (inf false) h = cc
+finite-below (fin s m e) h = refl
+
+pub finite-not : (x : Float) → lt x infinity ≡ false → false ≡ finite x
+unfolding lt ofBits div
+finite-not nan h = refl
+finite-not (inf s) h = refl
+finite-not (fin s m e) h = sym h
+
+-- ---- a NaN
+
+nan-only : (x : Float) → isNan x ≡ true → x ≡ nan
+unfolding isNan
+nan-only nan e = refl
+nan-only (inf s) e = absurd (true≢false (sym e))
+nan-only (fin s m k) e = absurd (true≢false (sym e))
+
+-- 0.0 / 0.0 is what every NaN pattern stands for
+pub nan-made : (b : ℕ) → nanBits binary64 b ≡ true → over zero zero ≡ ofBits binary64 b
+unfolding div ofBits
+nan-made b e = sym (nan-only (ofBits binary64 b) (sym (nanBits-is binary64 b) ∙ e))

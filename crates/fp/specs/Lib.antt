@@ -1,0 +1,4 @@
+-- Doubles: definitions that contracts cite (Num, Ranges), and laws of them.
+pub mod Num
+pub mod Ranges
+pub mod Decimals
