@@ -1,7 +1,8 @@
 -- What is asked of a car and its phase. Assumes nothing.
 use mathlib.Core.Bool.{Bool, true, false}
 use Prim.Native.Nat.{ℕ}
-use lib.Ieee.{Float, sub, binary64}
+use lib.Ieee.{Float}
+use Rattle.fp.specs.Num.{minus}
 use Rattle.components.specs.declared.Phase.{Phase}
 use Rattle.components.specs.declared.Phase.the-variants.{Idle, MovingToStop, Repositioning, DoorOpening, Loading, DoorClosing, Stopped, Unknown}
 use Rattle.components.specs.declared.Car.{Car}
@@ -50,4 +51,4 @@ servicing Unknown = false
 
 -- "remaining capacities (capacity less load)"
 abbrev pub remaining : Car → Float
-remaining c = sub binary64 (c .capacity) (c .load)
+remaining c = minus (c .capacity) (c .load)
