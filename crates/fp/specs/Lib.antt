@@ -2,3 +2,4 @@
 pub mod Num
 pub mod Ranges
 pub mod Decimals
+pub mod Fields

@@ -1,0 +1,2 @@
+-- Laws that the proofs of `scale` share.
+pub mod Rounding

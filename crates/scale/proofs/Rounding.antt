@@ -1,0 +1,169 @@
+-- The whole number nearest to a double, from its bits: one law for each way through the code. Assumes nothing.
+use Prim.Native.Nat.{ℕ, zero, suc, _+_, _-_, _*_, _/_, _%_, _^_, _≤_, _<_, min}
+use native.Mathlib.Nat.{one-mul, add-comm, eq-or-lt-of-le, mul-pos, mul-assoc, mul-comm, mul-left-comm, mul-right-comm, add-mul, mul-le-mul-left, mul-le-mul-right, mul-le-mul, le-trans, le-of-eq, lt-of-lt-of-le, lt-of-le-of-lt, mod-eq-of-lt, min-eq-right, div-eq-of-lt, le-div-iff-mul-le, lt-of-mul-lt-mul-right, le-of-mul-le-mul-right, mul-lt-mul-of-pos-right, eq-of-mul-eq-mul-left, mod-le, pow-succ'}
+use native.Mathlib.Omega.{arith}
+use mathlib.Core.Path.{_≡_, refl, sym, ap, _∙_, subst}
+use mathlib.Core.Logic.{inl, inr}
+use mathlib.Core.Bool.{Bool, true, false, not, cond, true≢false}
+use lib.Dec.{T, eqb, lit<, lit≤}
+use lib.Pow.{pow-add, pow-pos, pow-mono, pow-lt}
+use lib.Ieee.{Float, nan, inf, fin, binary64, up, down, odd, fits, isNan, ne, ofFields, ofBits, toBits}
+use lib.Ieee.Fits.{down-pos}
+use lib.Ieee.Bits.{ofBits-toBits}
+use lib.Ieee.Exact.{HasValue}
+use lib.Ieee.Compare.{nan-differs}
+use lib.Ieee.Nearest.{div-same}
+use Rattle.fp.specs.Fields.{fieldOne, signOne, inUnits, ofBits-clear, ofBits-set, bits-value}
+use Rattle.scale.specs.Scale.{whole, ceiling}
+
+-- ---- a sign that is set
+
+set-odd : (d q k l : ℕ) → whole (odd d true q k l) ≡ 0
+unfolding odd whole
+set-odd d zero k l = refl
+set-odd d (suc q) k l = refl
+
+set-fields : (x t : ℕ) → whole (ofFields binary64 true x t) ≡ 0
+unfolding ofFields whole
+set-fields zero t = set-odd 53 t 0 1074
+set-fields (suc x) t = go (eqb (suc x) 2047) (eqb t 0)
+  where
+    go : (a b : Bool) → whole (cond a (cond b (inf true) nan) (odd 53 true (fieldOne + t) x 1074)) ≡ 0
+    go true true = refl
+    go true false = refl
+    go false b = set-odd 53 (fieldOne + t) x 1074
+
+-- ---- a value A / C: below a half, from the ceiling on, and between
+
+small : (y : Float) (A C : ℕ) → HasValue y false A C → 2 * A < C → whole y ≡ 0
+unfolding whole
+small nan A C v h = refl
+small (inf true) A C v h = refl
+small (inf false) A C v h = absurd v
+small (fin true m e) A C v h = refl
+small (fin false m e) A C v h =
+    let d = down-pos e in
+    let p : 2 * (m * up e) * C < down e * C =
+    lt-of-le-of-lt (le-of-eq (mul-assoc 2 (m * up e) C ∙ ap (λ (z : ℕ). 2 * z) (v .1) ∙ sym (mul-assoc 2 A (down e))))
+    (lt-of-lt-of-le (mul-lt-mul-of-pos-right h d) (le-of-eq (mul-comm C (down e)))) in
+    let q : 2 * (m * up e) < down e = lt-of-mul-lt-mul-right C p in
+    let r : 2 * (m * up e) + down e < 2 * down e = omega arith in
+    rw (div-eq-of-lt r)
+
+big : (y : Float) (A C : ℕ) → 0 < C → HasValue y false A C → ceiling * C ≤ A → whole y ≡ ceiling
+unfolding whole
+big nan A C c v h = absurd v
+big (inf true) A C c v h = absurd v
+big (inf false) A C c v h = refl
+big (fin true m e) A C c v h = absurd (true≢false (v .0))
+big (fin false m e) A C c v h =
+    let p : ceiling * down e * C ≤ m * up e * C =
+    le-trans (le-of-eq (mul-right-comm ceiling (down e) C)) (le-trans (mul-le-mul-right (down e) h) (le-of-eq (sym (v .1)))) in
+    let q : ceiling * down e ≤ m * up e = le-of-mul-le-mul-right p c in
+    let r : ceiling * (2 * down e) ≤ 2 * (m * up e) + down e = omega arith in
+    min-eq-right (le-div-iff-mul-le (mul-pos (lit< tt) (down-pos e)) .1 r)
+
+-- q * 2 ^ x units, where k + 1 of the digits of q lie below the point
+middle : (y : Float) (q x k : ℕ) → x + suc k ≡ 1074 → HasValue y false (q * 2 ^ x) (2 ^ 1074) → whole y ≡ min ((q + 2 ^ k) / 2 ^ suc k) ceiling
+unfolding whole
+middle nan q x k e v = absurd v
+middle (inf true) q x k e v = absurd v
+middle (inf false) q x k e v = absurd v
+middle (fin true m c) q x k e v = absurd (true≢false (v .0))
+middle (fin false m c) q x k e v =
+    let X = 2 ^ x in
+    let H = 2 ^ k in
+    let S : 2 ^ suc k ≡ 2 * H = pow-succ' 2 k in
+    let P : 2 ^ 1074 ≡ X * (2 * H) = ap (λ (n : ℕ). 2 ^ n) (sym e) ∙ pow-add 2 x (suc k) ∙ ap (λ (n : ℕ). X * n) S in
+    let E : m * up c * (X * (2 * H)) ≡ q * X * down c = ap (λ (n : ℕ). m * up c * n) (sym P) ∙ v .1 in
+    let W : m * up c * (2 * H) ≡ q * down c =
+    eq-of-mul-eq-mul-left X (pow-pos x) (m * up c * (2 * H)) (q * down c)
+    (mul-left-comm X (m * up c) (2 * H) ∙ E ∙ mul-right-comm q X (down c) ∙ mul-comm (q * down c) X) in
+    let L : (2 * (m * up c) + down c) * (2 * H) ≡ 2 * (m * up c * (2 * H)) + down c * (2 * H) =
+    add-mul (2 * (m * up c)) (down c) (2 * H) ∙ ap (λ (n : ℕ). n + down c * (2 * H)) (mul-assoc 2 (m * up c) (2 * H)) in
+    let R : (q + H) * (2 * down c) ≡ 2 * (q * down c) + down c * (2 * H) = add-mul q H (2 * down c) ∙ simp (mul-comm, mul-left-comm) in
+    let Z : (2 * (m * up c) + down c) * (2 * H) ≡ (q + H) * (2 * down c) = L ∙ ap (λ (n : ℕ). 2 * n + down c * (2 * H)) W ∙ sym R in
+    ap (λ (n : ℕ). min n ceiling)
+    (div-same (2 * (m * up c) + down c) (2 * down c) (q + H) (2 * H) (mul-pos (lit< tt) (down-pos c)) (mul-pos (lit< tt) (pow-pos k)) Z
+    ∙ ap (λ (n : ℕ). (q + H) / n) (sym S))
+
+-- ---- the fields against a half and the ceiling
+
+-- omega reads no number of more than 38 digits
+twice : {a b : ℕ} → a < b → 2 * a < 2 * b
+twice h = omega arith
+
+small-units : (x t : ℕ) → t < fieldOne → x < 1022 → 2 * inUnits x t < 2 ^ 1074
+small-units zero t h k = lt-of-lt-of-le (twice h) (lit≤ tt)
+small-units (suc x) t h k =
+    let q : fieldOne + t < 2 ^ 53 = omega arith in
+    let l : x ≤ 1020 = omega arith in
+    let p : (fieldOne + t) * 2 ^ x < 2 ^ 53 * 2 ^ 1020 =
+    lt-of-lt-of-le (mul-lt-mul-of-pos-right q (pow-pos x)) (mul-le-mul-left (2 ^ 53) (pow-mono l)) in
+    lt-of-lt-of-le (twice p) (lit≤ tt)
+
+big-units : (x t : ℕ) → 1071 ≤ x → ceiling * 2 ^ 1074 ≤ inUnits x t
+big-units zero t h = absurd (omega arith)
+big-units (suc x) t h =
+    let q : fieldOne ≤ fieldOne + t = omega arith in
+    let l : 1070 ≤ x = omega arith in
+    le-trans (lit≤ tt) (mul-le-mul q (pow-mono l))
+
+shifted : (y : Float) (x t k a b : ℕ) → a ≡ k → b ≡ suc k → k < 64 → x + suc k ≡ 1074
+    → HasValue y false ((fieldOne + t) * 2 ^ x) (2 ^ 1074)
+    → min ((t + fieldOne + (1 * 2 ^ a) % 18446744073709551616) / 2 ^ b) ceiling ≡ whole y
+shifted y x t k a b p q r e v =
+    rw (p, q, one-mul (2 ^ k), mod-eq-of-lt (pow-lt r), add-comm t fieldOne) (sym (middle y (fieldOne + t) x k e v))
+
+middle-units : (y : Float) (x t : ℕ) → 1022 ≤ x → x < 1071 → HasValue y false (inUnits x t) (2 ^ 1074)
+    → min ((t + fieldOne + (1 * 2 ^ (1075 - x - 1)) % 18446744073709551616) / 2 ^ (1075 - x)) ceiling ≡ whole y
+middle-units y zero t h k v = absurd (omega arith)
+middle-units y (suc x) t h k v =
+    shifted y x t (1073 - x) (1075 - suc x - 1) (1075 - suc x) (omega arith) (omega arith) (omega arith) (omega arith) v
+
+-- a field of all ones is an infinity's
+endless : (t : ℕ) → T (not (isNan (ofFields binary64 false 2047 t))) → whole (ofFields binary64 false 2047 t) ≡ ceiling
+unfolding ofFields whole isNan
+endless t = go (eqb t 0)
+  where
+    go : (b : Bool) → T (not (isNan (cond b (inf false) nan))) → whole (cond b (inf false) nan) ≡ ceiling
+    go true n = refl
+    go false n = absurd n
+
+field-le : (b : ℕ) → b < signOne → b / fieldOne ≤ 2047
+field-le b p = omega arith
+
+-- ---- the ways of the code
+
+module _ (y : Float) (ok : T (fits binary64 y)) where
+  pub way-set : signOne ≤ toBits binary64 y → 0 ≡ whole y
+  way-set h = sym (ap whole (sym (ofBits-toBits binary64 y ok) ∙ ofBits-set (toBits binary64 y) h) ∙ set-fields _ _)
+
+  pub way-small : toBits binary64 y < signOne → toBits binary64 y / fieldOne < 1022 → 0 ≡ whole y
+  way-small h k = sym (small y _ _ (bits-value y ok h (omega arith)) (small-units _ _ (omega arith) k))
+
+  pub way-middle : toBits binary64 y < signOne → 1022 ≤ toBits binary64 y / fieldOne → toBits binary64 y / fieldOne < 1071
+      → min
+      ((toBits binary64 y % fieldOne + fieldOne + (1 * 2 ^ (1075 - toBits binary64 y / fieldOne - 1)) % 18446744073709551616)
+      / 2 ^ (1075 - toBits binary64 y / fieldOne))
+      ceiling ≡ whole y
+  way-middle h k l = middle-units y _ _ k l (bits-value y ok h (omega arith))
+
+  pub way-big : T (not (isNan y)) → toBits binary64 y < signOne → 1071 ≤ toBits binary64 y / fieldOne → ceiling ≡ whole y
+  way-big n h k = elim (eq-or-lt-of-le (field-le (toBits binary64 y) h)) [
+    | inl e ↦
+        let z : y ≡ ofFields binary64 false 2047 (toBits binary64 y % fieldOne) =
+        sym (ofBits-toBits binary64 y ok) ∙ ofBits-clear (toBits binary64 y) h
+        ∙ ap (λ (x : ℕ). ofFields binary64 false x (toBits binary64 y % fieldOne)) e in
+        sym (ap whole z ∙ endless _ (subst (λ (v : Float). T (not (isNan v))) z n))
+    | inr l ↦ sym (big y _ _ (pow-pos 1074) (bits-value y ok h l) (big-units _ _ k))
+  ]
+
+pub not-nan : (y : Float) → ne y y ≡ false → T (not (isNan y))
+unfolding isNan
+not-nan nan e = absurd (true≢false (sym nan-differs ∙ e))
+not-nan (inf s) e = tt
+not-nan (fin s m c) e = tt
+
+pub half-small : (x : ℕ) → 1022 ≤ x → (1 * 2 ^ (1075 - x - 1)) % 18446744073709551616 < 2 ^ 53
+half-small x h = lt-of-le-of-lt (mod-le _ _) (subst (λ (n : ℕ). n < 2 ^ 53) (sym (one-mul _)) (pow-lt {j = 53} (omega arith)))

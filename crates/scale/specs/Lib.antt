@@ -1,0 +1,3 @@
+-- Costs as cells.
+pub mod Scale
+pub mod Cases
