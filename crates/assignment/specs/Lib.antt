@@ -2,3 +2,5 @@
 pub mod Pending
 pub mod Candidates
 pub mod Cells
+pub mod CellLaws
+pub mod Demand3
