@@ -4,3 +4,4 @@ pub mod Candidates
 pub mod Cells
 pub mod CellLaws
 pub mod Demand3
+pub mod Example

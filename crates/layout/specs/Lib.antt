@@ -3,3 +3,4 @@ pub mod Offsets
 pub mod Records
 pub mod Refusals
 pub mod Verdict
+pub mod Open
