@@ -13,7 +13,14 @@ use Rattle.mask.specs.Mask.{pastStops}
 use Rattle.bits.specs.Field.{fieldAt}
 use Rattle.components.specs.declared.Kind.{Kind}
 use Rattle.components.specs.declared.Kind.the-variants.{Policy, Stop, Line, Car, Aboard, Waiting, Demand, Unknown}
-use Rattle.components.specs.Codes.{kindOf}
+use Rattle.components.specs.declared.Strategy.{Strategy}
+use Rattle.components.specs.declared.Strategy.the-variants.{Etd, Rsr, Scan}
+use Rattle.components.specs.declared.Strategy.the-variants as strategy
+use Rattle.components.specs.declared.Phase.{Phase}
+use Rattle.components.specs.declared.Phase.the-variants.{Idle, MovingToStop, Repositioning, DoorOpening, Loading, DoorClosing, Stopped}
+use Rattle.components.specs.declared.Phase.the-variants as phase
+use Rattle.components.specs.Codes.{kindOf, strategyOf, phaseOf}
+use Rattle.components.specs.Cars.{isMoving}
 use Rattle.layout.specs.declared.Counts.{Counts}
 use Rattle.layout.specs.Offsets.{bodyLength, isFull, lastKind, stopsFrom, linesFrom, carsFrom, demandsFrom, endOf}
 use Rattle.layout.specs.Records.{Fields, from, flag, double}
@@ -88,17 +95,20 @@ presentZero f o = flag f o && eqb (f (o + 1) 32) 0
 -- ---- kind 1, policy
 
 -- "8, strategy 3, .. or a one bit in an absent or unused field"; "Unused are ETD's sixth weight, SCAN's six"
-unfoldable pub refusal8Policy : Fields → Bool
-refusal8Policy f =
-    eqb (f 22 2) 3
-    || ((eqb (f 22 2) 0 && not (eqb (f 426 64) 0))
-    || (eqb (f 22 2) 2
-    && (not (eqb (f 106 64) 0)
+abbrev pub unusedWeights : Strategy → Fields → Bool
+unusedWeights Etd f = not (eqb (f 426 64) 0)
+unusedWeights Rsr f = false
+unusedWeights Scan f =
+    not (eqb (f 106 64) 0)
     || (not (eqb (f 170 64) 0)
     || (not (eqb (f 234 64) 0)
     || (not (eqb (f 298 64) 0)
     || (not (eqb (f 362 64) 0)
-    || not (eqb (f 426 64) 0))))))))
+    || not (eqb (f 426 64) 0)))))
+unusedWeights strategy.Unknown f = true
+
+unfoldable pub refusal8Policy : Fields → Bool
+refusal8Policy f = unusedWeights (strategyOf (f 22 2)) f
 
 -- "11, a double outside: .. the six weights 0 to 1,000,000,000; .. tick rate 1 to 1,000,000"
 unfoldable pub refusal11Policy : Fields → Bool
@@ -116,8 +126,14 @@ unfoldable pub refusal12 : Fields → Bool
 refusal12 f = eqb (f 24 16) 0
 
 -- "15, RSR with a load weight above 0"
+abbrev pub loadWeighed : Strategy → Fields → Bool
+loadWeighed Etd f = false
+loadWeighed Rsr f = lt zero (double f 298)
+loadWeighed Scan f = false
+loadWeighed strategy.Unknown f = false
+
 unfoldable pub refusal15 : Fields → Bool
-refusal15 f = eqb (f 22 2) 1 && lt zero (double f 298)
+refusal15 f = loadWeighed (strategyOf (f 22 2)) f
 
 -- ---- kind 2, stop
 
@@ -141,23 +157,30 @@ refusal10Line c f = pastStops (f 54 64) (c .stops)
 
 -- ---- kind 4, car
 
--- the phases that use their stop: moving and repositioning
-abbrev pub usesStop : ℕ → Bool
-usesStop phase = eqb phase 1 || eqb phase 2
+-- "Unused are .. the stop of any phase but 1 and 2"; phase 7 is refused whatever its stop
+abbrev pub unusedStop : Phase → Bool → Bool
+unusedStop Idle set = set
+unusedStop (MovingToStop id) set = false
+unusedStop (Repositioning id) set = false
+unusedStop DoorOpening set = set
+unusedStop Loading set = set
+unusedStop DoorClosing set = set
+unusedStop Stopped set = set
+unusedStop phase.Unknown set = true
 
--- "8, .. phase 7, or a one bit in an absent or unused field"; "Unused are .. the stop of any phase but 1 and 2"
+abbrev pub phaseAt : Fields → Phase
+phaseAt f = phaseOf (f 86 3) (f 89 32)
+
+-- "8, .. phase 7, or a one bit in an absent or unused field"
 unfoldable pub refusal8Car : Fields → Bool
-refusal8Car f =
-    eqb (f 86 3) 7
-    || ((not (usesStop (f 86 3)) && not (eqb (f 89 32) 0))
-    || (absentSet f 121 32 || (absentSet f 415 64 || absentSet f 480 64)))
+refusal8Car f = unusedStop (phaseAt f) (not (eqb (f 89 32) 0)) || (absentSet f 121 32 || (absentSet f 415 64 || absentSet f 480 64))
 
 -- "9, id 0 in any id field that is present and used, .. a car id of an earlier car"
 unfoldable pub refusal9Car : List ℕ → Counts → Fields → Bool
 refusal9Car s c f =
     eqb (f 22 32) 0
     || (eqb (f 54 32) 0
-    || ((usesStop (f 86 3) && eqb (f 89 32) 0)
+    || ((isMoving (phaseAt f) && eqb (f 89 32) 0)
     || (presentZero f 121
     || hasCar s c (f 22 32))))
 
