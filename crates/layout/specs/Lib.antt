@@ -3,4 +3,5 @@ pub mod Offsets
 pub mod Records
 pub mod Refusals
 pub mod Verdict
+pub mod VerdictLaws
 pub mod Open

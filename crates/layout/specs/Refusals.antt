@@ -28,10 +28,10 @@ use Rattle.layout.specs.Records.{Fields, from, flag, double}
 -- ---- the record's head
 
 abbrev pub kindAt : List ℕ → Counts → ℕ
-kindAt s c = fieldAt s (endOf c) 6
+kindAt s c = from s (endOf c) 0 6
 
 abbrev pub lengthAt : List ℕ → Counts → ℕ
-lengthAt s c = fieldAt s (endOf c + 6) 16
+lengthAt s c = from s (endOf c) 6 16
 
 -- bit e lies past the end
 abbrev pub pastEnd : List ℕ → ℕ → Bool

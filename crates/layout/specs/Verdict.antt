@@ -77,7 +77,7 @@ module _ (s : List ℕ) (c : Counts) where
 
   -- "After the last record come 0 to 7 zero bits up to the byte's end, then nothing."
   unfoldable pub tailFits : Bool
-  tailFits = eqb (length s) ((endOf c + 7) / 8) && eqb (fieldAt s (endOf c) ((8 - endOf c % 8) % 8)) 0
+  tailFits = eqb (length s) ((endOf c + 7) / 8) && eqb (from s (endOf c) 0 ((8 - endOf c % 8) % 8)) 0
 
   -- "16, the tail isn't as above", at "the tail's start"
   unfoldable pub tailVerdict : Reading

@@ -1,0 +1,86 @@
+-- Laws of the verdict: what a record without a refusal says, and one record more. Assumes nothing.
+use Prim.Native.Nat.{ℕ, zero, suc, _+_, _-_, _≤_, _<_}
+use mathlib.Core.Path.{_≡_, refl, sym, ap, _∙_, subst}
+use mathlib.Core.Bool.{Bool, true, false, cond}
+use mathlib.Core.List.{List}
+use mathlib.Core.Logic.{_≢_}
+use native.Mathlib.Omega.{arith}
+use lib.Dec.{eqb, leb}
+use borrow.Author.Tests.{eq-eqb, ne-eqb, leb-false}
+use Rattle.components.specs.declared.Kind.{Kind}
+use Rattle.components.specs.declared.Kind.the-variants.{Policy, Stop, Line, Car, Aboard, Waiting, Demand, Unknown}
+use Rattle.components.specs.Codes.{kindOf}
+use Rattle.layout.specs.declared.Counts.{Counts}
+use Rattle.layout.specs.declared.Reading.{Reading}
+use Rattle.layout.specs.declared.Reading.the-variants.{Refused, Accepted}
+use Rattle.layout.specs.Offsets.{Small, isFull, next, endOf}
+use Rattle.layout.specs.Records.{from}
+use Rattle.layout.specs.Refusals.{kindAt, lengthAt, refusal2, isUnknown, refusal5, refusal6}
+use Rattle.layout.specs.Verdict.{pick, bodyRefusal, recordRefusal, tailVerdict, recordsVerdict}
+
+-- ---- no number was picked
+
+pub pick-none : (b : Bool) (n rest : ℕ) → 0 < n → pick b n rest ≡ 0 → (b ≡ false) × (rest ≡ 0)
+unfolding pick
+pick-none true n rest h e = absurd (omega arith)
+pick-none false n rest h e = (refl, e)
+
+-- a record without a refusal: no condition holds
+pub record Clean (s : List ℕ) (c : Counts) : Type 0 where
+  pub whole : refusal2 s c ≡ false
+  pub known : isUnknown (kindOf (kindAt s c)) ≡ false
+  pub its-length : refusal5 (kindOf (kindAt s c)) (lengthAt s c) ≡ false
+  pub in-order : refusal6 c (kindAt s c) ≡ false
+  pub has-room : isFull c (kindOf (kindAt s c)) ≡ false
+  pub body : bodyRefusal s c (kindOf (kindAt s c)) (from s (endOf c)) ≡ 0
+
+pub clean : (s : List ℕ) (c : Counts) → recordRefusal s c ≡ 0 → Clean s c
+unfolding recordRefusal
+clean s c e =
+    let a = pick-none (refusal2 s c) 2 _ (omega arith) e in
+    let b = pick-none (isUnknown (kindOf (kindAt s c))) 4 _ (omega arith) (a .1) in
+    let d = pick-none (refusal5 (kindOf (kindAt s c)) (lengthAt s c)) 5 _ (omega arith) (b .1) in
+    let f = pick-none (refusal6 c (kindAt s c)) 6 _ (omega arith) (d .1) in
+    let g = pick-none (isFull c (kindOf (kindAt s c))) 7 _ (omega arith) (f .1) in
+    record { whole = a .0; known = b .0; its-length = d .0; in-order = f .0; has-room = g .0; body = g .1 }
+
+-- ---- one record more
+
+pub next-small : (c : Counts) (k : Kind) → Small c → isFull c k ≡ false → c .demands < 65535 → Small (next c k)
+next-small c Policy h e d = let l = leb-false 1 (c .policies) e in record { policies = omega arith; stops = h .stops; lines = h .lines; cars = h .cars; aboards = h .aboards; waits = h .waits; demands = h .demands }
+next-small c Stop h e d = let l = leb-false 64 (c .stops) e in record { policies = h .policies; stops = omega arith; lines = h .lines; cars = h .cars; aboards = h .aboards; waits = h .waits; demands = h .demands }
+next-small c Line h e d = let l = leb-false 8 (c .lines) e in record { policies = h .policies; stops = h .stops; lines = omega arith; cars = h .cars; aboards = h .aboards; waits = h .waits; demands = h .demands }
+next-small c Car h e d = let l = leb-false 32 (c .cars) e in record { policies = h .policies; stops = h .stops; lines = h .lines; cars = omega arith; aboards = h .aboards; waits = h .waits; demands = h .demands }
+next-small c Aboard h e d = let l = leb-false 512 (c .aboards) e in record { policies = h .policies; stops = h .stops; lines = h .lines; cars = h .cars; aboards = omega arith; waits = h .waits; demands = h .demands }
+next-small c Waiting h e d = let l = leb-false 512 (c .waits) e in record { policies = h .policies; stops = h .stops; lines = h .lines; cars = h .cars; aboards = h .aboards; waits = omega arith; demands = h .demands }
+next-small c Demand h e d = record { policies = h .policies; stops = h .stops; lines = h .lines; cars = h .cars; aboards = h .aboards; waits = h .waits; demands = omega arith }
+next-small c Unknown h e d = h
+
+-- the next record adds at most one demand
+pub next-demands : (c : Counts) (k : Kind) → next c k .demands ≤ c .demands + 1
+next-demands c Policy = omega arith
+next-demands c Stop = omega arith
+next-demands c Line = omega arith
+next-demands c Car = omega arith
+next-demands c Aboard = omega arith
+next-demands c Waiting = omega arith
+next-demands c Demand = omega arith
+next-demands c Unknown = omega arith
+
+-- ---- the records that are left
+
+one-less : (n : ℕ) → 0 < n → n ≡ suc (n - 1)
+one-less n h = omega arith
+
+module _ (s : List ℕ) (n : ℕ) (c : Counts) (h : 0 < n) where
+  pub verdict-on : recordRefusal s c ≡ 0 → recordsVerdict s n c ≡ recordsVerdict s (n - 1) (next c (kindOf (kindAt s c)))
+  unfolding recordsVerdict
+  verdict-on e = ap (λ (m : ℕ). recordsVerdict s m c) (one-less n h) ∙ rw (eq-eqb _ _ e)
+
+  pub verdict-stop : recordRefusal s c ≢ 0 → recordsVerdict s n c ≡ Refused (recordRefusal s c) (endOf c)
+  unfolding recordsVerdict
+  verdict-stop e = ap (λ (m : ℕ). recordsVerdict s m c) (one-less n h) ∙ rw (ne-eqb (recordRefusal s c) 0 e)
+
+pub verdict-end : (s : List ℕ) (n : ℕ) (c : Counts) → n ≤ 0 → recordsVerdict s n c ≡ tailVerdict s c
+unfolding recordsVerdict
+verdict-end s n c h = let e : n ≡ 0 = omega arith in rw e

@@ -1,0 +1,211 @@
+// The reader: every byte string is a sheet or one numbered refusal. An accepted sheet is its bytes and its counts; a record is decoded in place.
+ghost use mathlib.Core.Path.{_≡_};
+ghost use Prim.Native.Nat.{_≤_, _<_};
+ghost use Rattle.layout.specs.Offsets.{Small, none, endOf};
+ghost use Rattle.layout.specs.Records.{from, sheetOf, limitOf};
+ghost use Rattle.layout.specs.Refusals.{pastEnd, isUnknown};
+ghost use Rattle.layout.specs.Verdict.{bodyRefusal, recordRefusal, tailVerdict, recordsVerdict, verdict};
+
+use components::Aboard;
+use components::Car;
+use components::Demand;
+use components::Kind;
+use components::Line;
+use components::Policy;
+use components::Stop;
+use components::Waiting;
+use layout::Counts;
+use layout::Reading;
+use refusals::pick;
+
+// Whether bit e lies past the end.
+fn past_end(s: &[u8], e: u32) -> bool
+    ensures { λ r. ⌜ r ≡ pastEnd (now (s .entry)) e ⌝ }
+{
+    s.len() < bits::bytes_for(e)
+}
+
+// The numbers from 8 on, by kind.
+fn body_refusal(s: &[u8], c: Counts, kind: Kind) -> u32
+    requires { ⌜ Small c ⌝ }
+    ensures { λ r. ⌜ r ≡ bodyRefusal (now (s .entry)) c kind (from (now (s .entry)) (endOf c)) ⌝ }
+{
+    match kind {
+        Kind::Policy => refusals_policy::policy_refusal(s, c),
+        Kind::Stop => refusals::stop_refusal(s, c),
+        Kind::Line => refusals::line_refusal(s, c),
+        Kind::Car => refusals_car::car_refusal(s, c),
+        Kind::Aboard => refusals::aboard_refusal(s, c),
+        Kind::Waiting => refusals::waiting_refusal(s, c),
+        Kind::Demand => refusals::demand_refusal(s, c),
+        Kind::Unknown => 0,
+    }
+}
+
+fn is_unknown(kind: Kind) -> bool
+    ensures { λ r. ⌜ r ≡ isUnknown kind ⌝ }
+{
+    match kind {
+        Kind::Policy => false,
+        Kind::Stop => false,
+        Kind::Line => false,
+        Kind::Car => false,
+        Kind::Aboard => false,
+        Kind::Waiting => false,
+        Kind::Demand => false,
+        Kind::Unknown => true,
+    }
+}
+
+// The refusal of the next record: the first number whose condition holds, 0 where none does.
+fn record_refusal(s: &[u8], c: Counts) -> u32
+    requires { ⌜ Small c ⌝ }
+    ensures { λ r. ⌜ r ≡ recordRefusal (now (s .entry)) c ⌝ }
+{
+    let at = c.end_of();
+    let code = bits::field(s, at, 0, 6);
+    let len = bits::field(s, at, 6, 16);
+    let kind = Kind::of_code(code);
+    let short = past_end(s, at + 22 + len as u32);
+    let wrong = len != layout::body_length(kind);
+    let late = pick(c.out_of_order(code), 6, pick(c.is_full(kind), 7, body_refusal(s, c, kind)));
+    pick(short, 2, pick(is_unknown(kind), 4, pick(wrong, 5, late)))
+}
+
+// What is left after the last record: 16, or the sheet is accepted.
+fn tail(s: &[u8], c: Counts) -> Reading
+    requires { ⌜ Small c ⌝ }
+    ensures { λ r. ⌜ r ≡ tailVerdict (now (s .entry)) c ⌝ }
+{
+    let at = c.end_of();
+    let refused = Reading::Refused {
+        number: 16,
+        offset: at as u64,
+    };
+    if s.len() != bits::bytes_for(at) {
+        return refused;
+    }
+    if bits::field(s, at, 0, bits::padding(at)) == 0 {
+        Reading::Accepted(c)
+    } else {
+        refused
+    }
+}
+
+// The records in turn: the first refusal, or the tail.
+fn records(s: &[u8], count: u32) -> Reading
+    requires { ⌜ count ≤ 65535 ⌝ }
+    ensures { λ r. ⌜ r ≡ recordsVerdict (now (s .entry)) count none ⌝ }
+{
+    let mut c = Counts {
+        policies: 0,
+        stops: 0,
+        lines: 0,
+        cars: 0,
+        aboards: 0,
+        waits: 0,
+        demands: 0,
+    };
+    let mut left = count;
+    while 0 < left {
+        let n = record_refusal(s, c);
+        let at = c.end_of();
+        if n != 0 {
+            return Reading::Refused {
+                number: n,
+                offset: at as u64,
+            };
+        }
+        c = c.next(Kind::of_code(bits::field(s, at, 0, 6)));
+        left -= 1;
+    }
+    tail(s, c)
+}
+
+// The verdict on a byte string.
+pub fn read(s: &[u8]) -> Reading
+    ensures { λ r. ⌜ r ≡ verdict (now (s .entry)) ⌝ }
+{
+    if s.len() < 3 {
+        return Reading::Refused {
+            number: 2,
+            offset: 0,
+        };
+    }
+    if bits::field(s, 0, 0, 8) != 1 {
+        return Reading::Refused {
+            number: 3,
+            offset: 0,
+        };
+    }
+    let count = bits::field(s, 0, 8, 16);
+    if count == 0 {
+        return Reading::Refused {
+            number: 6,
+            offset: 24,
+        };
+    }
+    records(s, count as u32)
+}
+
+// The policy record of a sheet, without its limit.
+pub fn policy_at(s: &[u8], c: Counts) -> Policy
+    ensures { λ r. ⌜ r ≡ sheetOf (now (s .entry)) c .policy ⌝ }
+{
+    records::policy_at(s, 24)
+}
+
+// The candidate limit.
+pub fn limit(s: &[u8]) -> u64
+    ensures { λ r. ⌜ r ≡ limitOf (now (s .entry)) ⌝ }
+{
+    bits::field(s, 0, 48, 16)
+}
+
+// Stop record i.
+pub fn stop_at(s: &[u8], c: Counts, i: u32) -> Stop
+    requires { ⌜ Small c × (i < c .stops) ⌝ }
+    ensures { λ r. ⌜ r ≡ sheetOf (now (s .entry)) c .stop i ⌝ }
+{
+    records::stop_at(s, c.stops_from() + 118 * i)
+}
+
+// Line record i.
+pub fn line_at(s: &[u8], c: Counts, i: u32) -> Line
+    requires { ⌜ Small c × (i < c .lines) ⌝ }
+    ensures { λ r. ⌜ r ≡ sheetOf (now (s .entry)) c .line i ⌝ }
+{
+    records::line_at(s, c.lines_from() + 118 * i)
+}
+
+// Car record i.
+pub fn car_at(s: &[u8], c: Counts, i: u32) -> Car
+    requires { ⌜ Small c × (i < c .cars) ⌝ }
+    ensures { λ r. ⌜ r ≡ sheetOf (now (s .entry)) c .car i ⌝ }
+{
+    records::car_at(s, c.cars_from() + 737 * i)
+}
+
+// Aboard record i.
+pub fn aboard_at(s: &[u8], c: Counts, i: u32) -> Aboard
+    requires { ⌜ Small c × (i < c .aboards) ⌝ }
+    ensures { λ r. ⌜ r ≡ sheetOf (now (s .entry)) c .aboard i ⌝ }
+{
+    records::aboard_at(s, c.aboards_from() + 87 * i)
+}
+
+// Waiting record i.
+pub fn waiting_at(s: &[u8], c: Counts, i: u32) -> Waiting
+    requires { ⌜ Small c × (i < c .waits) ⌝ }
+    ensures { λ r. ⌜ r ≡ sheetOf (now (s .entry)) c .waiting i ⌝ }
+{
+    records::waiting_at(s, c.waits_from() + 248 * i)
+}
+
+// Demand record i.
+pub fn demand_at(s: &[u8], c: Counts, i: u32) -> Demand
+    requires { ⌜ Small c × (i < c .demands) ⌝ }
+    ensures { λ r. ⌜ r ≡ sheetOf (now (s .entry)) c .demand i ⌝ }
+{
+    records::demand_at(s, c.demands_from() + 71 * i)
+}
