@@ -73,3 +73,28 @@ sum-upd (suc n) f i l =
     omega (arith, upd-same f i 0 n (sym e)))
     (λ e. omega (arith, sum-upd n f i (omega arith), upd-other f i 0 n (λ q. e (sym q))))
     (same? i n)
+
+-- parts each at most another's, and one of them less: the sum is less
+pub sum-lt : (n : ℕ) {f g : ℕ → ℕ} (i : ℕ) → i < n → ((k : ℕ) → k < n → f k ≤ g k) → f i < g i → sum n f < sum n g
+unfolding sum
+sum-lt zero i l h s = absurd (omega arith)
+sum-lt (suc n) {f} {g} i l h s =
+    ⊎-elim
+    (λ (e : i ≡ n).
+    let fe : f i ≡ f n = ap f e in
+    let ge : g i ≡ g n = ap g e in
+    omega (arith, sum-mono n {f = f} {g = g} (λ k lk. h k (omega arith))))
+    (λ ne. omega (arith, sum-lt n {f = f} {g = g} i (omega arith) (λ k lk. h k (omega arith)) s, h n (omega arith)))
+    (same? i n)
+
+-- the first part of a sum, and the rest
+pub sum-front : (n : ℕ) (f : ℕ → ℕ) → sum (suc n) f ≡ f 0 + sum n (λ k. f (suc k))
+unfolding sum
+sum-front zero f = omega arith
+sum-front (suc n) f = omega (arith, sum-front n f)
+
+-- n ones
+pub sum-one : (n : ℕ) → sum n (λ k. 1) ≡ n
+unfolding sum
+sum-one zero = refl
+sum-one (suc n) = omega (arith, sum-one n)

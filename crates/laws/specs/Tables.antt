@@ -43,6 +43,12 @@ module _ {A : Type 0} where
   tab-cong f g (suc n) h =
       ap₂ (λ (x : List A) (y : A). x ++ (y ∷ [])) (tab-cong f g n (λ k l. h k (omega arith))) (h n (omega arith))
 
+  -- the first entry, and the table of the rest
+  pub tab-front : (f : ℕ → A) (n : ℕ) → tab f (suc n) ≡ f 0 ∷ tab (λ k. f (suc k)) n
+  unfolding tab
+  tab-front f zero = refl
+  tab-front f (suc n) = ap (λ (l : List A). l ++ (f (suc n) ∷ [])) (tab-front f n)
+
   -- an entry of the table, and of what follows it
   pub getD-tab : (f : ℕ → A) (n k : ℕ) (r : List A) (d : A) → k < n → getD (tab f n ++ r) k d ≡ f k
   unfolding tab
@@ -53,6 +59,9 @@ module _ {A : Type 0} where
       (λ (e : k ≡ n). getD-at (tab f n) (f n) r d k (length-tab f n ∙ sym e) ∙ ap f (sym e))
       (λ ne. getD-tab f n k (f n ∷ r) d (omega arith))
       (same? k n)
+
+  pub getD-tab₀ : (f : ℕ → A) (n k : ℕ) (d : A) → k < n → getD (tab f n) k d ≡ f k
+  getD-tab₀ f n k d h = ap (λ (l : List A). getD l k d) (sym (append-nil (tab f n))) ∙ getD-tab f n k [] d h
 
   pub getD-past : (f : ℕ → A) (n k : ℕ) (r : List A) (d : A) → n ≤ k → getD (tab f n ++ drop n r) k d ≡ getD r k d
   getD-past f n k r d h =

@@ -1,0 +1,1 @@
+// The assignment problem: see specs/. There is no code here.

@@ -1,0 +1,64 @@
+-- Laws of 64 bits read at once, across nine bytes. Assumes nothing.
+use Prim.Native.Nat.{ℕ, zero, suc, _+_, _-_, _*_, _/_, _%_, _^_, _≤_, _<_}
+use mathlib.Core.Path.{_≡_, refl, sym, ap, _∙_, subst}
+use mathlib.Core.List.{List}
+use native.Mathlib.Omega.{arith}
+use lib.ListN.{getD}
+use native.Mathlib.Nat.{add-mul, mul-assoc}
+use lib.Pow.{shl-lt, pow-mono, mod-pow-add, shr-mod, shl-exact, high, low, pow-add, mod-mod-pow}
+use Rattle.bits.specs.Field.{fieldAt, field-lt, field-split, field-byte, field-join}
+
+-- a whole byte
+whole-byte : (s : List ℕ) (k : ℕ) → getD s k 0 < 256 → fieldAt s (8 * k) 8 ≡ getD s k 0
+whole-byte s k h =
+    let d : 8 * k / 8 ≡ k = omega arith in
+    let m : 8 * k % 8 ≡ 0 = omega arith in
+    let b : getD s k 0 / 1 % 256 ≡ getD s k 0 = omega arith in
+    field-byte s (8 * k) 8 (omega arith) ∙ rw (d, m) b
+
+-- one byte more
+pub word-grows : (s : List ℕ) (k i : ℕ) → i < 8 → getD s (k + i) 0 < 256
+    → fieldAt s (8 * k) (8 * i) * 2 ^ 8 % 2 ^ 64 + getD s (k + i) 0 ≡ fieldAt s (8 * k) (8 * (i + 1))
+word-grows s k i h b =
+    let e : 8 * (k + i) ≡ 8 * k + 8 * i = omega arith in
+    let f : 8 * i + 8 ≡ 8 * (i + 1) = omega arith in
+    ap (λ (x : ℕ). fieldAt s (8 * k) (8 * i) * 2 ^ 8 % 2 ^ 64 + x) (sym (whole-byte s (k + i) b) ∙ ap (λ (x : ℕ). fieldAt s x 8) e)
+    ∙ field-join s (8 * k) (8 * i) 8 (omega arith) ∙ ap (fieldAt s (8 * k)) f
+
+-- the first w of 64 bits
+pub first-bits : (s : List ℕ) (p w : ℕ) → w ≤ 64 → fieldAt s p 64 / 2 ^ (64 - w) ≡ fieldAt s p w
+first-bits s p w h =
+    let e : 64 ≡ w + (64 - w) = omega arith in
+    ap (λ (x : ℕ). fieldAt s p x / 2 ^ (64 - w)) e ∙ ap (λ (x : ℕ). x / 2 ^ (64 - w)) (field-split s p w (64 - w))
+    ∙ high (fieldAt s p w) (64 - w) (field-lt s (p + w) (64 - w))
+
+-- the last bits of the word, moved up
+last-bits : (s : List ℕ) (p o : ℕ) → o ≤ 64 → fieldAt s p 64 * 2 ^ o % 2 ^ 64 ≡ fieldAt s (p + o) (64 - o) * 2 ^ o
+last-bits s p o h =
+    let a = fieldAt s p o in
+    let b = fieldAt s (p + o) (64 - o) in
+    let e : 64 ≡ o + (64 - o) = omega arith in
+    let f : 64 - o + o ≡ 64 = omega arith in
+    let q : 2 ^ (64 - o) * 2 ^ o ≡ 2 ^ 64 = sym (pow-add 2 (64 - o) o) ∙ ap (λ (x : ℕ). 2 ^ x) f in
+    let fits : b * 2 ^ o < 2 ^ 64 = subst (λ (x : ℕ). b * 2 ^ o < 2 ^ x) f (shl-lt (64 - o) o (field-lt s (p + o) (64 - o))) in
+    ap (λ (x : ℕ). x * 2 ^ o % 2 ^ 64) (ap (fieldAt s p) e ∙ field-split s p o (64 - o))
+    ∙ ap (λ (x : ℕ). x % 2 ^ 64) (add-mul (a * 2 ^ (64 - o)) b (2 ^ o) ∙ ap (λ (x : ℕ). x + b * 2 ^ o) (mul-assoc a (2 ^ (64 - o)) (2 ^ o) ∙ ap (λ (x : ℕ). a * x) q))
+    ∙ low a 64 fits
+
+-- 64 bits across nine bytes
+pub window-is : (s : List ℕ) (p : ℕ) → getD s (p / 8 + 8) 0 < 256
+    → fieldAt s (8 * (p / 8)) 64 * 2 ^ (p % 8) % 2 ^ 64 + getD s (p / 8 + 8) 0 / 2 ^ (8 - p % 8) ≡ fieldAt s p 64
+window-is s p h =
+    let o : ℕ = p % 8 in
+    let k : ℕ = p / 8 in
+    let e : 8 * k + o ≡ p = omega arith in
+    let f : 64 ≡ 64 - o + o = omega arith in
+    let g : 8 * (k + 8) ≡ p + (64 - o) = omega arith in
+    let i : 8 * (k + 8) / 8 ≡ k + 8 = omega arith in
+    let j : 8 * (k + 8) % 8 ≡ 0 = omega arith in
+    let n : 8 ≡ o + (8 - o) = omega arith in
+    let tail : getD s (k + 8) 0 / 2 ^ (8 - o) ≡ fieldAt s (p + (64 - o)) o =
+    sym (ap (λ (x : ℕ). fieldAt s x o) (sym g) ∙ field-byte s (8 * (k + 8)) o (omega arith) ∙ rw (i, j) (shr-mod o (8 - o) (subst (λ (x : ℕ). getD s (k + 8) 0 < 2 ^ x) n h))) in
+    ap (λ (x : ℕ). x + getD s (k + 8) 0 / 2 ^ (8 - o)) (last-bits s (8 * k) o (omega arith) ∙ ap (λ (x : ℕ). fieldAt s x (64 - o) * 2 ^ o) e)
+    ∙ ap (λ (x : ℕ). fieldAt s p (64 - o) * 2 ^ o + x) tail
+    ∙ sym (ap (fieldAt s p) f ∙ field-split s p (64 - o) o)

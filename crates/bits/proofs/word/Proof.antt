@@ -1,0 +1,41 @@
+-- `bits::word` meets its contract.
+use mathlib.Core.Path.{_≡_, refl, sym, ap, _∙_, subst}
+use Prim.Native.Nat.{ℕ, _≤_, _<_, _+_, _-_, _*_, _%_, _^_}
+use native.Mathlib.Omega.{arith}
+use borrow.Author.Needs.{needs}
+use lib.ListN.{getD}
+use Rattle.bits.specs.Field.{fieldAt, field-64}
+use Rattle.bits.proofs.NineBytes.{word-grows}
+use Rattle.bits.proofs.word.Statement.{statement}
+use Rattle.bits.proofs.word.Tie as tie
+
+abbrev Inv : tie.InvT-loop
+Inv s k r₀ i₀ r i = (i ≤ 8) × (r ≡ fieldAt s (8 * k) (8 * i))
+
+abbrev μ : tie.MeasureT-loop
+μ s k r₀ i₀ r i = 8 - i
+
+loop-holds : tie.Need-loop-holds Inv μ
+unfolding fieldAt
+loop-holds c = search needs
+
+sum-is : (c : tie.After-byte Inv μ)
+    → c .before .before .loop .r * 2 ^ 8 % 2 ^ 64 + c .byte .result ≡ fieldAt (c .before .before .before .before .args .s .now) (8 * c .before .before .before .before .args .k) (8 * (c .before .before .loop .i + 1))
+sum-is c =
+    let a = c .before .before .before .before .args in
+    let l = c .before .before .loop in
+    let b : getD (a .s .now) (a .k + l .i) 0 < 256 = subst (λ (x : ℕ). x < 256) (c .byte .ensures .0) (c .byte .ensures .1) in
+    rw (l .inv .1, c .byte .ensures .0) (word-grows (a .s .now) (a .k) (l .i) (omega arith) b)
+
+returns : tie.Need-returns Inv μ
+returns c =
+    let e : c .before .loop .i ≡ 8 = omega arith in
+    let a = c .before .before .before .args in
+    c .before .loop .inv .1 ∙ ap (λ (x : ℕ). fieldAt (a .s .now) (8 * a .k) (8 * x)) e
+
+pub word-spec : {M : Type 1} → statement M
+word-spec =
+    tie.close
+    (tie.spec Inv μ loop-holds (λ c. search needs) (λ c κs. search needs)
+    (λ c. record { fits = rw (sum-is c) (field-64 _ _ _ (omega arith)) })
+    (λ c. search needs) (λ c. search needs) (λ c. (search needs, sum-is c)) returns)

@@ -1,0 +1,71 @@
+// Fields of bits in a slice of bytes, most significant bit first. Past the end of the slice every bit is 0.
+ghost use mathlib.Core.Path.{_≡_};
+ghost use Prim.Native.Nat.{_+_, _*_, _/_, _%_, _^_, _<_, _≤_};
+ghost use lib.ListN.{getD};
+ghost use Rattle.bits.specs.Field.{fieldAt, flagAt, IsField};
+
+// Where a bit stands: its byte, and its place in that byte, 0 for the highest.
+struct BitPlace {
+    byte: usize,
+    bit: usize,
+}
+
+// The one place where a bit offset becomes a byte and a bit.
+fn place(at: usize) -> BitPlace
+    ensures { λ r. ⌜ (r .byte ≡ at / 8) × (r .bit ≡ at % 8) ⌝ }
+{
+    BitPlace {
+        byte: at / 8,
+        bit: at % 8,
+    }
+}
+
+// Byte k, or 0 past the end.
+fn byte(s: &[u8], k: usize) -> u64
+    ensures { λ r. ⌜ (r ≡ getD (now (s .entry)) k 0) × (r < 256) ⌝ }
+{
+    if k < s.len() { s[k] as u64 } else { 0 }
+}
+
+// The eight bytes from byte k.
+fn word(s: &[u8], k: usize) -> u64
+    requires { ⌜ k < 2 ^ 60 ⌝ }
+    ensures { λ r. ⌜ r ≡ fieldAt (now (s .entry)) (8 * k) 64 ⌝ }
+{
+    let mut r: u64 = 0;
+    let mut i: usize = 0;
+    while i < 8 {
+        r = (r << 8) + byte(s, k + i);
+        i += 1;
+    }
+    r
+}
+
+// The 64 bits from bit at, in nine bytes.
+fn window(s: &[u8], at: usize) -> u64
+    requires { ⌜ at < 2 ^ 60 ⌝ }
+    ensures { λ r. ⌜ r ≡ fieldAt (now (s .entry)) at 64 ⌝ }
+{
+    let p = place(at);
+    let k = p.byte;
+    let o = p.bit;
+    (word(s, k) << o) + (byte(s, k + 8) >> (8 - o))
+}
+
+// The w bits from bit off of what starts at bit at. The types bound the offset, so a caller shows only the width.
+pub fn field(s: &[u8], at: u32, off: u32, w: usize) -> u64
+    requires { ⌜ w ≤ 64 ⌝ }
+    ensures { λ r. ⌜ IsField (now (s .entry)) (at + off) w r ⌝ }
+{
+    if w == 0 {
+        return 0;
+    }
+    window(s, at as usize + off as usize) >> (64 - w)
+}
+
+// Whether the bit at off of what starts at bit at is one.
+pub fn flag(s: &[u8], at: u32, off: u32) -> bool
+    ensures { λ r. ⌜ r ≡ flagAt (now (s .entry)) (at + off) ⌝ }
+{
+    field(s, at, off, 1) == 1
+}
