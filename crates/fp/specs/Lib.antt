@@ -3,3 +3,4 @@ pub mod Num
 pub mod Ranges
 pub mod Decimals
 pub mod Fields
+pub mod Order
