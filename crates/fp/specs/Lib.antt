@@ -4,3 +4,8 @@ pub mod Ranges
 pub mod Decimals
 pub mod Fields
 pub mod Order
+pub mod Nonneg
+pub mod Inside
+pub mod Naturals
+pub mod Distances
+pub mod Least

@@ -4,7 +4,7 @@ use Prim.Native.Nat.{ℕ, zero, suc, _+_, _*_, _/_, _^_, _≤_, _<_}
 use native.Mathlib.Nat.{zero-lt-suc, mul-one, one-mul, mul-pos, mul-right-comm, add-mul, mul-le-mul-right, le-of-mul-le-mul-right}
 use native.Mathlib.Omega.{arith}
 use mathlib.Core.Path.{_≡_, refl, sym, ap, _∙_}
-use mathlib.Core.Bool.{Bool, true, false, not, _&&_, _||_, Bool·beq, true≢false, and-true}
+use mathlib.Core.Bool.{Bool, true, false, not, _&&_, _||_, Bool·beq, and-true}
 use mathlib.Core.Logic.{_⊎_, inl, inr, ⊎-elim, _≢_}
 use lib.Dec.{T, ltb, eqb, eqb→eq}
 use lib.Pow.{pow-lt}
@@ -14,7 +14,7 @@ use lib.Ieee.Fits.{up-pos, down-pos}
 use lib.Ieee.Nearest.{div-same}
 use lib.Ieee.Bits.{ofBits-toBits}
 use borrow.Author.Tests.{ltb-true, ltb-false, lt-ltb, le-ltb, eqb-true, eq-eqb, ne-eqb}
-use Rattle.laws.specs.Bools.{which, never, not-both, same?, less?, either, both-left, both-right}
+use Rattle.laws.specs.Bools.{which, never, not-both, same?, less?, either, either-right, both-left, both-right}
 use Rattle.fp.specs.Num as Num
 use Rattle.fp.specs.Num.{finite, abs}
 
@@ -297,6 +297,46 @@ le-antisym x y p q =
     let (a, b, h) = le-tells y x q in
     ⊎-elim (λ (e : lt x y ≡ true). absurd (not-both e h)) (λ (e : eq x y ≡ true). e) (either (lt x y) (eq x y) p)
 
+like : (s t : Bool) → Bool·beq s t ≡ true → s ≡ t
+like true true h = refl
+like true false h = never h
+like false true h = never h
+like false false h = refl
+
+level-not : (s : Bool) (a : ℕ) (t : Bool) (b : ℕ) → level s a t b ≡ true → below s a t b ≡ false
+level-not s a t b h =
+    let p : a ≡ b = eqb-true a b (both-left (eqb a b) (Bool·beq s t || eqb a 0) h) in
+    ⊎-elim
+    (λ (l : Bool·beq s t ≡ true). rw (like s t l, p) (below-self t b))
+    (λ (o : eqb a 0 ≡ true). rw (sym p ∙ eqb-true a 0 o, eqb-true a 0 o) (not-below s 0 t 0 (by s t)))
+    (either (Bool·beq s t) (eqb a 0) (both-right (eqb a b) (Bool·beq s t || eqb a 0) h))
+  where
+    by : (s t : Bool) → over t 0 + under s 0 ≤ over s 0 + under t 0
+    by true true = omega arith
+    by true false = omega arith
+    by false true = omega arith
+    by false false = omega arith
+
+-- level doubles: neither is below the other
+pub eq-not-lt : (x y : Float) → eq x y ≡ true → lt x y ≡ false
+unfolding eq lt
+eq-not-lt nan y h = never h
+eq-not-lt (inf s) nan h = never h
+eq-not-lt (inf true) (inf true) h = refl
+eq-not-lt (inf true) (inf false) h = never h
+eq-not-lt (inf false) (inf t) h = refl
+eq-not-lt (inf s) (fin t n d) h = never h
+eq-not-lt (fin s m e) nan h = refl
+eq-not-lt (fin s m e) (inf t) h = never h
+eq-not-lt (fin s m e) (fin t n d) h = level-not s (m * up e * down d) t (n * up d * down e) h
+
+pub eq-le : (x y : Float) → eq x y ≡ true → le x y ≡ true
+unfolding le
+eq-le x y h = either-right (lt x y) (eq x y) h
+
+pub eq-ge : (x y : Float) → eq x y ≡ true → le y x ≡ true
+eq-ge x y h = let (a, b, l) = le-tells x y (eq-le x y h) in le-not y x b a (eq-not-lt x y h)
+
 -- ---- level doubles are equal, or both zeros
 
 -- a zero that fits has one exponent
@@ -306,9 +346,9 @@ zero-exp (pos (suc k)) h = let g : 2 ^ 0 < 2 ^ suc k = pow-lt (zero-lt-suc k) in
 zero-exp (negsuc k) h = let g : 2 ^ 0 < 2 ^ suc k = pow-lt (zero-lt-suc k) in absurd (omega (arith, one-mul (2 ^ suc k)))
 
 -- a product with a power is 0 only at 0
-no-digits : (m u d : ℕ) → 0 < u → 0 < d → m * u * d ≡ 0 → m ≡ 0
-no-digits zero u d p q h = refl
-no-digits (suc m) u d p q h = absurd (omega (arith, mul-pos (mul-pos (zero-lt-suc m) p) q))
+pub no-digits : (m u : ℕ) → 0 < u → m * u ≡ 0 → m ≡ 0
+no-digits zero u p h = refl
+no-digits (suc m) u p h = absurd (omega (arith, mul-pos (zero-lt-suc m) p))
 
 zero-only : (s : Bool) (m : ℕ) (e : ℤ) → T (fits binary64 (fin s m e)) → m ≡ 0 → fin false m e ≡ Num.zero
 unfolding fits ofBits
@@ -322,12 +362,6 @@ same-bits s m n e d h =
     div-same (m * up e * 2 ^ 1074) (down e) (n * up d * 2 ^ 1074) (down d) (down-pos e) (down-pos d)
     (mul-right-comm (m * up e) (2 ^ 1074) (down d) ∙ ap (λ (k : ℕ). k * 2 ^ 1074) h ∙ mul-right-comm (n * up d) (down e) (2 ^ 1074)) in
     rw same
-
-like : (s t : Bool) → Bool·beq s t ≡ true → s ≡ t
-like true true h = refl
-like true false h = never h
-like false true h = never h
-like false false h = refl
 
 -- antisymmetric up to the sign of zero
 pub eq-same : (x y : Float) → T (fits binary64 x) → T (fits binary64 y) → eq x y ≡ true → (x ≡ y) ⊎ ((abs x ≡ Num.zero) × (abs y ≡ Num.zero))
@@ -349,7 +383,7 @@ eq-same (fin s m e) (fin t n d) f g h =
     (λ (o : eqb (m * up e * down d) 0 ≡ true).
     let q = eqb-true (m * up e * down d) 0 o in
     inr (
-      zero-only s m e f (no-digits m (up e) (down d) (up-pos e) (down-pos d) q),
-      zero-only t n d g (no-digits n (up d) (down e) (up-pos d) (down-pos e) (sym p ∙ q)),
+      zero-only s m e f (no-digits m (up e) (up-pos e) (no-digits (m * up e) (down d) (down-pos d) q)),
+      zero-only t n d g (no-digits n (up d) (up-pos d) (no-digits (n * up d) (down e) (down-pos e) (sym p ∙ q))),
     ))
     (either (Bool·beq s t) (eqb (m * up e * down d) 0) (both-right (eqb (m * up e * down d) (n * up d * down e)) _ h))

@@ -1,6 +1,5 @@
 -- vectors::run meets its contract: each turn passes a vector, and no count is above the bytes passed.
 use Prim.Native.Nat.{_-_, _≤_}
-use native.Mathlib.Omega.{arith}
 use borrow.Author.Needs.{needs}
 use lib.ListN.{length}
 use Rattle.vectors.specs.Vectors.{Counted}

@@ -1,10 +1,8 @@
 -- vectors::turn meets its contract.
-use Prim.Native.Nat.{ℕ, _+_, _≤_, _<_}
-use mathlib.Core.Path.{_≡_}
+use Prim.Native.Nat.{_+_, _≤_}
 use native.Mathlib.Omega.{arith}
 use borrow.Author.Needs.{needs}
 use lib.ListN.{length}
-use Rattle.vectors.specs.Vectors.{Whole, Counted}
 use Rattle.vectors.proofs.turn.Statement.{statement}
 use Rattle.vectors.proofs.turn.Tie as tie
 
