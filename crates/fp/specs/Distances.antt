@@ -1,4 +1,4 @@
--- Distances: the same both ways, never a NaN nor below zero between finite positions, and at most 2,000,000 between a sheet's. Assumes nothing.
+-- Distances: the same both ways, never a NaN nor below zero between finite positions, and finite between a sheet's. Assumes nothing.
 use Prim.Native.Nat.{ℕ, zero, suc, _+_, _-_, _*_, _^_, _≤_, _<_}
 use native.Mathlib.Nat.{add-comm, mul-comm, mul-assoc, mul-pos, mul-le-mul-right, le-trans, le-of-eq}
 use native.Mathlib.Omega.{arith}
@@ -12,11 +12,11 @@ use lib.Ieee.Order.{round-mono}
 use borrow.Author.Tests.{ltb-true, ltb-false}
 use Rattle.laws.specs.Bools.{never}
 use Rattle.fp.specs.Num as Num
-use Rattle.fp.specs.Num.{abs, finite, natural, distance}
-use Rattle.fp.specs.Ranges.{isPosition}
+use Rattle.fp.specs.Num.{abs, plus, minus, finite, natural, distance}
+use Rattle.fp.specs.Ranges.{isPosition, isMass}
 use Rattle.fp.specs.Order.{real, le-tells}
 use Rattle.fp.specs.Nonneg.{round-nonneg, finite-under}
-use Rattle.fp.specs.Inside.{position-finite, position-size}
+use Rattle.fp.specs.Inside.{AtMost, position-size, mass-size}
 
 -- ---- the size of a sum is its size rounded
 
@@ -108,36 +108,76 @@ distance-nonneg (fin s m e) (fin t n d) p q =
 pub distance-real : (x y : Float) → finite x ≡ true → finite y ≡ true → real (distance x y) ≡ true
 distance-real x y p q = let (a, b, l) = le-tells Num.zero (distance x y) (distance-nonneg x y p q) in b
 
--- ---- between a sheet's positions
+abs-real : (x : Float) → real (abs x) ≡ real x
+abs-real nan = refl
+abs-real (inf s) = refl
+abs-real (fin s m e) = refl
+
+-- a difference and a sum of finite doubles are no NaN
+pub minus-real : (x y : Float) → finite x ≡ true → finite y ≡ true → real (minus x y) ≡ true
+unfolding distance
+minus-real x y p q = sym (abs-real (minus x y)) ∙ distance-real x y p q
+
+pub plus-real : (x y : Float) → finite x ≡ true → finite y ≡ true → real (plus x y) ≡ true
+unfolding sub neg
+plus-real x nan p q = never q
+plus-real x (inf t) p q = never q
+plus-real x (fin true n d) p q = minus-real x (fin false n d) p refl
+plus-real x (fin false n d) p q = minus-real x (fin true n d) p refl
+
+-- ---- of doubles that are at most k in size
 
 size-le : (l : Bool) (a b : ℕ) → size l a b ≤ a + b
 size-le true a b = omega arith
 size-le false a b = omega arith
 
-pub distance-le : (x y : Float) → isPosition x ≡ true → isPosition y ≡ true → le (distance x y) (natural 2_000_000) ≡ true
+pub distance-le : (k : ℕ) (x y : Float) → AtMost k x → AtMost k y → le (distance x y) (natural (2 * k)) ≡ true
 unfolding distance sub add neg ofInt
-distance-le nan y p q = never (position-finite nan p)
-distance-le (inf s) y p q = never (position-finite (inf s) p)
-distance-le (fin s m e) nan p q = never (position-finite nan q)
-distance-le (fin s m e) (inf t) p q = never (position-finite (inf t) q)
-distance-le (fin s m e) (fin t n d) p q =
-    let l = Bool·beq s (not t) in
+distance-le k nan y p q = absurd p
+distance-le k (inf s) y p q = absurd p
+distance-le k (fin s m e) nan p q = absurd q
+distance-le k (fin s m e) (inf t) p q = absurd q
+distance-le k (fin s m e) (fin t n d) p q =
     let a = m * up e * down d in
     let b = n * up d * down e in
     let c = down e * down d in
-    let h : a ≤ 1_000_000 * c =
-    le-trans (mul-le-mul-right (down d) (position-size s m e p)) (le-of-eq (mul-assoc 1_000_000 (down e) (down d))) in
-    let g : b ≤ 1_000_000 * c =
-    le-trans (mul-le-mul-right (down e) (position-size t n d q))
-    (le-of-eq (mul-assoc 1_000_000 (down d) (down e) ∙ ap (λ (k : ℕ). 1_000_000 * k) (mul-comm (down d) (down e)))) in
+    let h : a ≤ k * c = le-trans (mul-le-mul-right (down d) p) (le-of-eq (mul-assoc k (down e) (down d))) in
+    let g : b ≤ k * c =
+    le-trans (mul-le-mul-right (down e) q)
+    (le-of-eq (mul-assoc k (down d) (down e) ∙ ap (λ (j : ℕ). k * j) (mul-comm (down d) (down e)))) in
     rw (abs-sum s a (not t) b c)
     (is-true _
-    (round-mono binary64 (size l a b) c 2_000_000 1 (mul-pos (down-pos e) (down-pos d)) (lit< tt) (omega (arith, size-le l a b))))
+    (round-mono binary64 (size (Bool·beq s (not t)) a b) c (2 * k) 1 (mul-pos (down-pos e) (down-pos d)) (lit< tt)
+    (omega (arith, size-le (Bool·beq s (not t)) a b, mul-assoc 2 k c))))
+
+size-finite : (k : ℕ) (x : Float) → AtMost k x → finite x ≡ true
+size-finite k nan p = absurd p
+size-finite k (inf s) p = absurd p
+size-finite k (fin s m e) p = refl
+
+size-far : (k : ℕ) (x y : Float) → AtMost k x → AtMost k y → finite (natural (2 * k)) ≡ true → finite (distance x y) ≡ true
+size-far k x y p q f =
+    finite-under (distance x y) (natural (2 * k)) (distance-nonneg x y (size-finite k x p) (size-finite k y q)) (distance-le k x y p q) f
 
 two-million : finite (natural 2_000_000) ≡ true
 unfolding ofInt
 two-million = refl
 
+two-billion : finite (natural 2_000_000_000) ≡ true
+unfolding ofInt
+two-billion = refl
+
+-- between a sheet's positions
 pub distance-finite : (x y : Float) → isPosition x ≡ true → isPosition y ≡ true → finite (distance x y) ≡ true
-distance-finite x y p q =
-    finite-under (distance x y) (natural 2_000_000) (distance-nonneg x y (position-finite x p) (position-finite y q)) (distance-le x y p q) two-million
+distance-finite x y p q = size-far 1_000_000 x y (position-size x p) (position-size y q) two-million
+
+abs-finite : (x : Float) → finite (abs x) ≡ finite x
+abs-finite nan = refl
+abs-finite (inf s) = refl
+abs-finite (fin s m e) = refl
+
+-- what a car has room for: its capacity less its load
+pub room-finite : (capacity load : Float) → isMass capacity ≡ true → isMass load ≡ true → finite (minus capacity load) ≡ true
+unfolding distance
+room-finite c l p q =
+    sym (abs-finite (minus c l)) ∙ size-far 1_000_000_000 c l (mass-size c p) (mass-size l q) two-billion

@@ -1,6 +1,6 @@
 -- What the ranges give: each of their doubles is finite, masses and thresholds are at least zero, tick rates and speeds but zero are above it. Assumes
 -- nothing.
-use Prim.Native.Nat.{ℕ, _*_, _≤_}
+use Prim.Native.Nat.{ℕ, _+_, _*_, _≤_}
 use native.Mathlib.Omega.{arith}
 use mathlib.Core.Path.{_≡_, refl}
 use mathlib.Core.Bool.{Bool, true, false}
@@ -40,13 +40,20 @@ pub position-finite : (x : Float) → isPosition x ≡ true → finite x ≡ tru
 unfolding isPosition ofBits neg
 position-finite x h = within-finite (neg million) x million refl refl h
 
--- at most 1,000,000 in size
-pub position-size : (s : Bool) (m : ℕ) (e : ℤ) → isPosition (fin s m e) ≡ true → m * up e ≤ 1_000_000 * down e
+-- finite, and at most k in size
+abbrev pub AtMost : ℕ → Float → Type 0
+AtMost k nan = ⊥
+AtMost k (inf s) = ⊥
+AtMost k (fin s m e) = m * up e ≤ k * down e
+
+pub position-size : (x : Float) → isPosition x ≡ true → AtMost 1_000_000 x
 unfolding isPosition ofBits neg lt
-position-size false m e h =
+position-size nan h = absurd (not-both (position-finite nan h) refl)
+position-size (inf s) h = absurd (not-both (position-finite (inf s) h) refl)
+position-size (fin false m e) h =
     let (a, b, l) = le-tells (fin false m e) million (within-high (neg million) (fin false m e) million h) in
     omega (arith, ltb-false (15625 * 64 * down e) (m * up e * 1) l)
-position-size true m e h =
+position-size (fin true m e) h =
     let (a, b, l) = le-tells (neg million) (fin true m e) (within-low (neg million) (fin true m e) million h) in
     omega (arith, ltb-false (15625 * 64 * down e) (m * up e * 1) l)
 
@@ -59,6 +66,17 @@ mass-finite x h = within-finite zero x billion refl refl h
 pub mass-nonneg : (x : Float) → isMass x ≡ true → le zero x ≡ true
 unfolding isMass
 mass-nonneg x h = within-low zero x billion h
+
+pub mass-size : (x : Float) → isMass x ≡ true → AtMost 1_000_000_000 x
+unfolding isMass ofBits lt
+mass-size nan h = absurd (not-both (mass-finite nan h) refl)
+mass-size (inf s) h = absurd (not-both (mass-finite (inf s) h) refl)
+mass-size (fin false m e) h =
+    let (a, b, l) = le-tells (fin false m e) billion (within-high zero (fin false m e) billion h) in
+    omega (arith, ltb-false (1953125 * 512 * down e) (m * up e * 1) l)
+mass-size (fin true m e) h =
+    let (a, b, l) = le-tells zero (fin true m e) (within-low zero (fin true m e) billion h) in
+    omega (arith, ltb-false 0 (m * up e * 1 + 0 * down e) l)
 
 pub threshold-finite : (x : Float) → isThreshold x ≡ true → finite x ≡ true
 unfolding isThreshold ofBits
