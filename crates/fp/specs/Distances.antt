@@ -16,7 +16,7 @@ use Rattle.fp.specs.Num.{abs, plus, minus, finite, natural, distance}
 use Rattle.fp.specs.Ranges.{isPosition, isMass}
 use Rattle.fp.specs.Order.{real, le-tells}
 use Rattle.fp.specs.Nonneg.{round-nonneg, finite-under}
-use Rattle.fp.specs.Inside.{AtMost, position-size, mass-size}
+use Rattle.fp.specs.Inside.{AtMost, size-finite, position-size, mass-size}
 
 -- ---- the size of a sum is its size rounded
 
@@ -37,11 +37,11 @@ pub abs-round : (f : Format) (s : Bool) (a b : ℕ) → abs (round f s a b) ≡ 
 abs-round f s a b = ap abs (round-is f s a b) ∙ abs-units f s _ _ ∙ sym (round-is f false a b)
 
 -- a + b where the signs are like, else the one less the other
-abbrev size : Bool → ℕ → ℕ → ℕ
+abbrev pub size : Bool → ℕ → ℕ → ℕ
 size true a b = a + b
 size false a b = (a - b) + (b - a)
 
-abs-sum : (s : Bool) (a : ℕ) (t : Bool) (b c : ℕ) → abs (sum binary64 s a t b c) ≡ round binary64 false (size (Bool·beq s t) a b) c
+pub abs-sum : (s : Bool) (a : ℕ) (t : Bool) (b c : ℕ) → abs (sum binary64 s a t b c) ≡ round binary64 false (size (Bool·beq s t) a b) c
 unfolding sum
 abs-sum s a t b c = by (Bool·beq s t)
   where
@@ -127,7 +127,7 @@ plus-real x (fin false n d) p q = minus-real x (fin true n d) p refl
 
 -- ---- of doubles that are at most k in size
 
-size-le : (l : Bool) (a b : ℕ) → size l a b ≤ a + b
+pub size-le : (l : Bool) (a b : ℕ) → size l a b ≤ a + b
 size-le true a b = omega arith
 size-le false a b = omega arith
 
@@ -149,11 +149,6 @@ distance-le k (fin s m e) (fin t n d) p q =
     (is-true _
     (round-mono binary64 (size (Bool·beq s (not t)) a b) c (2 * k) 1 (mul-pos (down-pos e) (down-pos d)) (lit< tt)
     (omega (arith, size-le (Bool·beq s (not t)) a b, mul-assoc 2 k c))))
-
-size-finite : (k : ℕ) (x : Float) → AtMost k x → finite x ≡ true
-size-finite k nan p = absurd p
-size-finite k (inf s) p = absurd p
-size-finite k (fin s m e) p = refl
 
 size-far : (k : ℕ) (x y : Float) → AtMost k x → AtMost k y → finite (natural (2 * k)) ≡ true → finite (distance x y) ≡ true
 size-far k x y p q f =

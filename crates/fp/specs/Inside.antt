@@ -3,9 +3,8 @@
 use Prim.Native.Nat.{ℕ, _+_, _*_, _≤_}
 use native.Mathlib.Omega.{arith}
 use mathlib.Core.Path.{_≡_, refl}
-use mathlib.Core.Bool.{Bool, true, false}
+use mathlib.Core.Bool.{true, false}
 use mathlib.Core.Logic.{⊎-elim}
-use lib.IntN.{ℤ}
 use lib.Ieee.{Float, nan, inf, fin, ofBits, up, down, lt, le, eq, neg}
 use borrow.Author.Tests.{ltb-false}
 use Rattle.laws.specs.Bools.{never, not-both, either, both-left, both-right}
@@ -45,6 +44,11 @@ abbrev pub AtMost : ℕ → Float → Type 0
 AtMost k nan = ⊥
 AtMost k (inf s) = ⊥
 AtMost k (fin s m e) = m * up e ≤ k * down e
+
+pub size-finite : (k : ℕ) (x : Float) → AtMost k x → finite x ≡ true
+size-finite k nan p = absurd p
+size-finite k (inf s) p = absurd p
+size-finite k (fin s m e) p = refl
 
 pub position-size : (x : Float) → isPosition x ≡ true → AtMost 1_000_000 x
 unfolding isPosition ofBits neg lt

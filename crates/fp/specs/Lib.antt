@@ -8,4 +8,5 @@ pub mod Nonneg
 pub mod Inside
 pub mod Naturals
 pub mod Distances
+pub mod Sizes
 pub mod Least

@@ -28,7 +28,7 @@ pub nonneg : (x : Float) → real x ≡ true → lt x Num.zero ≡ false → le 
 nonneg x p h = le-not Num.zero x zero-real p h
 
 -- a sign that is set has no digits
-unsigned : (m : ℕ) (e : ℤ) → le Num.zero (fin true m e) ≡ true → m * up e ≡ 0
+pub unsigned : (m : ℕ) (e : ℤ) → le Num.zero (fin true m e) ≡ true → m * up e ≡ 0
 unfolding lt ofBits
 unsigned m e h =
     let (p, q, l) = le-tells Num.zero (fin true m e) h in
