@@ -1,6 +1,6 @@
 // Fields of bits in a slice of bytes, most significant bit first. Past the end of the slice every bit is 0.
 ghost use mathlib.Core.Path.{_≡_};
-ghost use Prim.Native.Nat.{_+_, _*_, _/_, _%_, _^_, _<_, _≤_};
+ghost use Prim.Native.Nat.{_+_, _-_, _*_, _/_, _%_, _^_, _<_, _≤_};
 ghost use lib.ListN.{getD};
 ghost use Rattle.bits.specs.Field.{fieldAt, flagAt, IsField};
 
@@ -68,4 +68,28 @@ pub fn flag(s: &[u8], at: u32, off: u32) -> bool
     ensures { λ r. ⌜ r ≡ flagAt (now (s .entry)) (at + off) ⌝ }
 {
     field(s, at, off, 1) == 1
+}
+
+// A field of 32 bits: an id, a number of ticks.
+pub fn field32(s: &[u8], at: u32, off: u32) -> u32
+    ensures { λ r. ⌜ r ≡ fieldAt (now (s .entry)) (at + off) 32 ⌝ }
+{
+    field(s, at, off, 32) as u32
+}
+
+// How many bytes n bits reach into.
+pub fn bytes_for(n: u32) -> usize
+    ensures { λ r. ⌜ r ≡ (n + 7) / 8 ⌝ }
+{
+    let p = place(n as usize + 7);
+    p.byte
+}
+
+// How many bits are left of the byte that n bits end in, none where they end with it.
+pub fn padding(n: u32) -> usize
+    ensures { λ r. ⌜ r ≡ (8 - n % 8) % 8 ⌝ }
+{
+    let p = place(n as usize);
+    let o = p.bit;
+    if o == 0 { 0 } else { 8 - o }
 }

@@ -60,6 +60,18 @@ pub enum Threshold {
     At(f64),
 }
 
+// Where a stop stands, by its id: stop_position of world.rs. An id without a record stands nowhere.
+pub enum Place {
+    Nowhere,
+    At(f64),
+}
+
+// What a strategy's rank answers of a pair: a cost, or none.
+pub enum Rank {
+    Never,
+    Cost(f64),
+}
+
 // The six weights by their slots. ETD: wait, delay, door, wait squared, age. RSR: eta, wrong direction, coincident call, load, age, peak multiplier.
 pub struct Policy {
     pub strategy: Strategy,

@@ -1,0 +1,47 @@
+-- The stops that a car is ranked for: on its line, not restricted, within the candidate limit. Assumes nothing.
+use Prim.Native.Nat.{ℕ}
+use mathlib.Core.Bool.{Bool, true, false, not, _&&_, _||_}
+use lib.Dec.{eqb, ltb}
+use lib.Ieee.{Float, lt}
+use Rattle.laws.specs.Folds.{any, count}
+use Rattle.fp.specs.Num.{distance}
+use Rattle.mask.specs.Mask.{has}
+use Rattle.components.specs.Sheet.{Sheet}
+use Rattle.manifest.specs.World.{stopId, stopAt}
+use Rattle.assignment.specs.Pending.{pending}
+
+-- "65,535: none"
+abbrev pub noLimit : ℕ
+noLimit = 65535
+
+-- a stop with c viable ones before it is among those that a limit keeps
+unfoldable pub keeps : ℕ → ℕ → Bool
+keeps limit c = eqb limit noLimit || ltb c limit
+
+-- of two distances with their ids, the first comes before the second: "the nearest by distance, then id"
+unfoldable pub precedes : Float → ℕ → Float → ℕ → Bool
+precedes x a y b = lt x y || (not (lt y x) && ltb a b)
+
+module _ (s : Sheet) (i : ℕ) where
+  -- "A line serves the stops of its mask": the car's line serves stop j
+  unfoldable pub lineServes : ℕ → Bool
+  lineServes j = any (λ l. eqb (s .line l .id) (s .car i .line) && has (s .line l .serves) j) (s .lines)
+
+  -- "a stop is barred to a car by its bit in the car's restricted mask"
+  abbrev pub barred : ℕ → Bool
+  barred j = has (s .car i .restricted) j
+
+  -- "Viable: pending, not restricted, on the car's line."
+  unfoldable pub viable : ℕ → Bool
+  viable j = pending s j && (not (barred j) && lineServes j)
+
+  abbrev pub away : ℕ → Float
+  away j = distance (s .car i .position) (stopAt s j)
+
+  -- how many viable stops come before stop j
+  unfoldable pub nearer : ℕ → ℕ
+  nearer j = count (λ k. viable k && precedes (away k) (stopId s k) (away j) (stopId s j)) (s .stops)
+
+  -- "The limit keeps the nearest by distance, then id."
+  unfoldable pub kept : ℕ → ℕ → Bool
+  kept limit j = viable j && keeps limit (nearer j)

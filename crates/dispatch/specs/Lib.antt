@@ -1,0 +1,2 @@
+pub mod Useful
+pub mod Waits

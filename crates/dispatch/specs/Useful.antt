@@ -1,0 +1,72 @@
+-- Whether a car's trip to a stop does any work: pair_is_useful of mod.rs, "as there, in its order; the aboard-path test for RSR only". Assumes nothing.
+use Prim.Native.Nat.{ℕ}
+use mathlib.Core.Bool.{Bool, true, false, not, _&&_, _||_, cond}
+use lib.Dec.{eqb}
+use lib.Ieee.{Float, lt, le}
+use Rattle.laws.specs.Folds.{any}
+use Rattle.fp.specs.Num.{zero, minus, times, over, abs}
+use Rattle.components.specs.declared.Car.{Car}
+use Rattle.components.specs.declared.Place.{Place}
+use Rattle.components.specs.declared.Place.the-variants as place
+use Rattle.components.specs.declared.Threshold.{Threshold}
+use Rattle.components.specs.declared.Threshold.the-variants as threshold
+use Rattle.components.specs.Cars.{remaining}
+use Rattle.components.specs.Sheet.{Sheet}
+use Rattle.manifest.specs.World.{stopId, stopAt, stopPosition, goal, rides}
+use Rattle.manifest.specs.Manifest.{waitsAt, someoneWaits, riderlessCall}
+
+-- ---- on values: c a car, x its position, p the stop's position
+
+-- the car is at or above the threshold
+abbrev pub loadedTo : Car → Threshold → Bool
+loadedTo c threshold.Absent = false
+loadedTo c (threshold.At pct) = not (le (c .capacity) zero) && not (lt (over (c .load) (c .capacity)) pct)
+
+-- bypass_in_current_direction: the car moves to g, is loaded to the threshold of that direction, and the stop lies that way
+abbrev pub bypass : Car → Place → Float → Bool
+bypass c place.Nowhere p = false
+bypass c (place.At g) p =
+    cond (lt (c .position) g)
+    (loadedTo c (c .bypassup) && lt (c .position) p)
+    (lt g (c .position) && (loadedTo c (c .bypassdown) && lt p (c .position)))
+
+-- the car's lamps let a rider bound for d board at p
+abbrev pub lampsAllow : Car → Float → Place → Bool
+lampsAllow c p place.Nowhere = true
+lampsAllow c p (place.At d) = not (lt p d && not (c .up)) && not (lt d p && not (c .down))
+
+-- rider_can_board
+unfoldable pub riderCanBoard : Car → Float → Float → Place → Bool
+riderCanBoard c p weight d = not (lt (remaining c) weight) && lampsAllow c p d
+
+-- the stop is on the path to d: to_dest * to_cand >= 0.0 && to_cand.abs() <= to_dest.abs()
+abbrev pub onPathTo : Float → Float → Place → Bool
+onPathTo x p place.Nowhere = false
+onPathTo x p (place.At d) = le zero (times (minus d x) (minus p x)) && le (abs (minus p x)) (abs (minus d x))
+
+-- ---- over a sheet
+
+module _ (s : Sheet) (i j : ℕ) where
+  -- can_exit_here: a rider of the car is bound for the stop
+  unfoldable pub canExitHere : Bool
+  canExitHere = any (λ a. rides s i a && eqb (s .aboard a .destination) (stopId s j)) (s .aboards)
+
+  -- someone who waits can board; with nobody waiting, a hall call has no rider
+  unfoldable pub servable : Bool
+  servable =
+      cond (someoneWaits s j)
+      (any (λ w. waitsAt s j w && riderCanBoard (s .car i) (stopAt s j) (s .waiting w .weight) (stopPosition s (s .waiting w .destination))) (s .waits))
+      (riderlessCall s j)
+
+  -- no rider aboard has a route, or the stop is on the path of one
+  unfoldable pub onAboardPath : Bool
+  onAboardPath =
+      not (any (λ a. rides s i a && not (eqb (s .aboard a .destination) 0)) (s .aboards))
+      || any (λ a. rides s i a && onPathTo (s .car i .position) (stopAt s j) (stopPosition s (s .aboard a .destination))) (s .aboards)
+
+  -- pair_is_useful, with respect_aboard_path
+  unfoldable pub pairIsUseful : Bool → Bool
+  pairIsUseful path =
+      canExitHere
+      || (not (bypass (s .car i) (goal s i) (stopAt s j))
+      && (not (le (remaining (s .car i)) zero) && (servable && (not path || onAboardPath))))

@@ -1,0 +1,16 @@
+-- One name that opens every definition from bytes to the verdict, for theorems by computation: `unfolding reading`. Assumes nothing.
+use Prim.Native.Nat.{ℕ}
+use lib.Ieee.{ofBits, lt, le, eq, neg}
+use Rattle.laws.specs.Folds.{any}
+use Rattle.fp.specs.Ranges.{isPosition, isSpeed, isMass, isThreshold, isTickRate}
+use Rattle.bits.specs.Field.{bitAt, fieldAt}
+use Rattle.mask.specs.Mask.{has, pastStops}
+use Rattle.components.specs.Codes.{kindOf, strategyOf, trafficOf, phaseOf, directionOf, modeOf}
+use Rattle.layout.specs.Offsets.{lastKind}
+use Rattle.layout.specs.Records.{policyOf, stopOf, lineOf, carOf, aboardOf, waitingOf, demandOf, sheetOf, limitOf}
+use Rattle.layout.specs.Refusals.{refusal2, refusal5, refusal6, seen, lastStop, refusal8Policy, refusal11Policy, refusal12, refusal15, refusal9Stop, refusal11Stop, refusal9Line, refusal10Line, refusal8Car, refusal9Car, refusal10Car, refusal11Car, refusal13, refusal8Aboard, refusal9Aboard, refusal10Aboard, refusal8Waiting, refusal9Waiting, refusal10Waiting, refusal11Waiting, refusal14, refusal9Demand, refusal10Demand}
+use Rattle.layout.specs.Verdict.{pick, policyRefusal, stopRefusal, lineRefusal, carRefusal, aboardRefusal, waitingRefusal, demandRefusal, recordRefusal, tailFits, tailVerdict, recordsVerdict, verdict}
+
+unfoldable pub reading : ℕ
+unfolding ofBits lt le eq neg any isPosition isSpeed isMass isThreshold isTickRate bitAt fieldAt has pastStops kindOf strategyOf trafficOf phaseOf directionOf modeOf lastKind policyOf stopOf lineOf carOf aboardOf waitingOf demandOf sheetOf limitOf refusal2 refusal5 refusal6 seen lastStop refusal8Policy refusal11Policy refusal12 refusal15 refusal9Stop refusal11Stop refusal9Line refusal10Line refusal8Car refusal9Car refusal10Car refusal11Car refusal13 refusal8Aboard refusal9Aboard refusal10Aboard refusal8Waiting refusal9Waiting refusal10Waiting refusal11Waiting refusal14 refusal9Demand refusal10Demand pick policyRefusal stopRefusal lineRefusal carRefusal aboardRefusal waitingRefusal demandRefusal recordRefusal tailFits tailVerdict recordsVerdict verdict
+reading = 0

@@ -1,0 +1,163 @@
+// The sheet's format: how many records of each kind there are, and what reading finds. The definitions of document 01's records and refusals are
+// in specs/.
+
+ghost use mathlib.Core.Path.{_≡_};
+ghost use mathlib.Core.Bool.{_||_};
+ghost use Prim.Native.Nat.{_<_, _≤_};
+ghost use Rattle.layout.specs.Offsets.{Small, bodyLength, isFull, next, stopsFrom, linesFrom, carsFrom, aboardsFrom, waitsFrom, demandsFrom, endOf, lastKind};
+ghost use Rattle.layout.specs.Refusals.{refusal6};
+
+use components::Kind;
+
+// How many records of each kind.
+pub struct Counts {
+    pub policies: u32,
+    pub stops: u32,
+    pub lines: u32,
+    pub cars: u32,
+    pub aboards: u32,
+    pub waits: u32,
+    pub demands: u32,
+}
+
+// What reading a sheet finds: a refusal with its number and the bit offset where the record starts, or the counts of an accepted sheet.
+pub enum Reading {
+    Refused { number: u32, offset: u64 },
+    Accepted(Counts),
+}
+
+// The length of a kind's body in bits.
+pub fn body_length(kind: Kind) -> u64
+    ensures { λ r. ⌜ r ≡ bodyLength kind ⌝ }
+{
+    match kind {
+        Kind::Policy => 468,
+        Kind::Stop => 96,
+        Kind::Line => 96,
+        Kind::Car => 715,
+        Kind::Aboard => 65,
+        Kind::Waiting => 226,
+        Kind::Demand => 49,
+        Kind::Unknown => 0,
+    }
+}
+
+impl Counts {
+    // Where the stops start.
+    pub fn stops_from(self) -> u32
+        requires { ⌜ Small self ⌝ }
+        ensures { λ r. ⌜ r ≡ stopsFrom self ⌝ }
+    {
+        24 + 490 * self.policies
+    }
+
+    pub fn lines_from(self) -> u32
+        requires { ⌜ Small self ⌝ }
+        ensures { λ r. ⌜ r ≡ linesFrom self ⌝ }
+    {
+        24 + 490 * self.policies + 118 * self.stops
+    }
+
+    pub fn cars_from(self) -> u32
+        requires { ⌜ Small self ⌝ }
+        ensures { λ r. ⌜ r ≡ carsFrom self ⌝ }
+    {
+        24 + 490 * self.policies + 118 * self.stops + 118 * self.lines
+    }
+
+    pub fn aboards_from(self) -> u32
+        requires { ⌜ Small self ⌝ }
+        ensures { λ r. ⌜ r ≡ aboardsFrom self ⌝ }
+    {
+        self.cars_from() + 737 * self.cars
+    }
+
+    pub fn waits_from(self) -> u32
+        requires { ⌜ Small self ⌝ }
+        ensures { λ r. ⌜ r ≡ waitsFrom self ⌝ }
+    {
+        self.cars_from() + 737 * self.cars + 87 * self.aboards
+    }
+
+    pub fn demands_from(self) -> u32
+        requires { ⌜ Small self ⌝ }
+        ensures { λ r. ⌜ r ≡ demandsFrom self ⌝ }
+    {
+        self.cars_from() + 737 * self.cars + 87 * self.aboards + 248 * self.waits
+    }
+
+    // Where the next record starts.
+    pub fn end_of(self) -> u32
+        requires { ⌜ Small self ⌝ }
+        ensures { λ r. ⌜ r ≡ endOf self ⌝ }
+    {
+        self.demands_from() + 71 * self.demands
+    }
+
+    // The code of the last record's kind, 0 before the first.
+    pub fn last_kind(self) -> u64
+        ensures { λ r. ⌜ r ≡ lastKind self ⌝ }
+    {
+        if 0 < self.demands {
+            return 7;
+        }
+        if 0 < self.waits {
+            return 6;
+        }
+        if 0 < self.aboards {
+            return 5;
+        }
+        if 0 < self.cars {
+            return 4;
+        }
+        if 0 < self.lines {
+            return 3;
+        }
+        if 0 < self.stops {
+            return 2;
+        }
+        if 0 < self.policies { 1 } else { 0 }
+    }
+
+    // 6: kinds out of order, or no kind 1 first.
+    pub fn out_of_order(self, kind: u64) -> bool
+        ensures { λ r. ⌜ r ≡ refusal6 self kind ⌝ }
+    {
+        (kind < self.last_kind()) | ((self.policies == 0) & (kind != 1))
+    }
+
+    // 7: the kind has all the records that it may have.
+    pub fn is_full(self, kind: Kind) -> bool
+        ensures { λ r. ⌜ r ≡ isFull self kind ⌝ }
+    {
+        match kind {
+            Kind::Policy => 1 <= self.policies,
+            Kind::Stop => 64 <= self.stops,
+            Kind::Line => 8 <= self.lines,
+            Kind::Car => 32 <= self.cars,
+            Kind::Aboard => 512 <= self.aboards,
+            Kind::Waiting => 512 <= self.waits,
+            Kind::Demand => false,
+            Kind::Unknown => false,
+        }
+    }
+
+    // One record more.
+    pub fn next(self, kind: Kind) -> Counts
+        requires { ⌜ Small self × (self .demands < 65535) ⌝ }
+        ensures { λ r. ⌜ r ≡ next self kind ⌝ }
+    {
+        let mut c = self;
+        match kind {
+            Kind::Policy => c.policies += 1,
+            Kind::Stop => c.stops += 1,
+            Kind::Line => c.lines += 1,
+            Kind::Car => c.cars += 1,
+            Kind::Aboard => c.aboards += 1,
+            Kind::Waiting => c.waits += 1,
+            Kind::Demand => c.demands += 1,
+            Kind::Unknown => {}
+        }
+        c
+    }
+}

@@ -1,0 +1,10 @@
+-- records::double_at meets its contract.
+use borrow.Author.Needs.{needs}
+use Rattle.records.proofs.double_at.Statement.{statement}
+use Rattle.records.proofs.double_at.Tie as tie
+
+returns : tie.Need-returns
+returns c = cc
+
+pub double-at-spec : {M : Type 1} → statement M
+double-at-spec = tie.close (tie.spec (λ c κs. search needs) (λ c κs. search needs) returns)

@@ -1,0 +1,10 @@
+-- refusals::has_car meets its contract.
+use borrow.Author.Needs.{needs}
+use Rattle.refusals.proofs.has_car.Statement.{statement}
+use Rattle.refusals.proofs.has_car.Tie as tie
+
+returns : tie.Need-returns
+returns c = cc
+
+pub has-car-spec : {M : Type 1} → statement M
+has-car-spec = tie.close (tie.spec (λ c κs. search needs) (λ c κs. search needs) returns)

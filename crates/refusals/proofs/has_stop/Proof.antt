@@ -1,0 +1,10 @@
+-- refusals::has_stop meets its contract.
+use borrow.Author.Needs.{needs}
+use Rattle.refusals.proofs.has_stop.Statement.{statement}
+use Rattle.refusals.proofs.has_stop.Tie as tie
+
+returns : tie.Need-returns
+returns c = cc
+
+pub has-stop-spec : {M : Type 1} → statement M
+has-stop-spec = tie.close (tie.spec (λ c κs. search needs) (λ c κs. search needs) returns)

@@ -1,0 +1,15 @@
+-- refusals_car::unused_bits meets its contract.
+use Rattle.layout.specs.Refusals.{refusal8Car}
+use borrow.Author.Needs.{needs}
+use Rattle.refusals_car.proofs.unused_bits.Statement.{statement}
+use Rattle.refusals_car.proofs.unused_bits.Tie as tie
+
+returns : tie.Need-returns
+unfolding refusal8Car
+returns c = cc
+
+pub unused-bits-spec : {M : Type 1} → statement M
+unused-bits-spec =
+    tie.close
+    (tie.spec (λ c κs. search needs) (λ c κs. search needs) (λ c κs. search needs) (λ c κs. search needs) (λ c κs. search needs)
+    (λ c κs. search needs) returns)

@@ -1,0 +1,109 @@
+// The refusals of a car record: 8, 9, 10, 11, 13.
+ghost use mathlib.Core.Path.{_≡_};
+ghost use Rattle.layout.specs.Offsets.{endOf, Small};
+ghost use Rattle.layout.specs.Records.{from};
+ghost use Rattle.layout.specs.Refusals.{unusedStop, phaseAt, refusal8Car, refusal9Car, refusal10Car, refusal11Car, refusal13};
+ghost use Rattle.layout.specs.Verdict.{carRefusal};
+
+use components::Phase;
+use layout::Counts;
+use refusals::pick;
+
+fn phase_at(s: &[u8], at: u32) -> Phase
+    ensures { λ r. ⌜ r ≡ phaseAt (from (now (s .entry)) at) ⌝ }
+{
+    Phase::of_code(bits::field(s, at, 86, 3), bits::field32(s, at, 89))
+}
+
+// Whether the phase is unknown, or leaves a stop unused that is set.
+fn unused_stop(phase: Phase, set: bool) -> bool
+    ensures { λ r. ⌜ r ≡ unusedStop phase set ⌝ }
+{
+    match phase {
+        Phase::Idle => set,
+        Phase::MovingToStop(_) => false,
+        Phase::Repositioning(_) => false,
+        Phase::DoorOpening => set,
+        Phase::Loading => set,
+        Phase::DoorClosing => set,
+        Phase::Stopped => set,
+        Phase::Unknown => true,
+    }
+}
+
+// 8: phase 7, or a one bit in an absent or unused field.
+fn unused_bits(s: &[u8], at: u32) -> bool
+    ensures { λ r. ⌜ r ≡ refusal8Car (from (now (s .entry)) at) ⌝ }
+{
+    let stop = bits::field32(s, at, 89);
+    let phase = unused_stop(phase_at(s, at), stop != 0);
+    let target = refusals::absent_set(s, at, 121, 122, 32);
+    let up = refusals::absent_set(s, at, 415, 416, 64);
+    let down = refusals::absent_set(s, at, 480, 481, 64);
+    phase | (target | (up | down))
+}
+
+// 9: id 0 in an id field that is present and used, or the id of an earlier car.
+fn bad_ids(s: &[u8], c: Counts) -> bool
+    requires { ⌜ Small c ⌝ }
+    ensures { λ r. ⌜ r ≡ refusal9Car (now (s .entry)) c (from (now (s .entry)) (endOf c)) ⌝ }
+{
+    let at = c.end_of();
+    let id = bits::field32(s, at, 22);
+    let line = bits::field32(s, at, 54);
+    let stop = bits::field32(s, at, 89);
+    let moving = phase_at(s, at).is_moving();
+    let target = refusals::present_zero(s, at, 121, 122);
+    let again = refusals::has_car(s, c, id);
+    (id == 0) | ((line == 0) | ((moving & (stop == 0)) | (target | again)))
+}
+
+// 10: no record for the line, or a mask bit past the stops.
+fn unknown_records(s: &[u8], c: Counts) -> bool
+    requires { ⌜ Small c ⌝ }
+    ensures { λ r. ⌜ r ≡ refusal10Car (now (s .entry)) c (from (now (s .entry)) (endOf c)) ⌝ }
+{
+    let at = c.end_of();
+    let known = refusals::has_line(s, c, bits::field32(s, at, 54));
+    let n = c.stops;
+    let stops = n as usize;
+    let restricted = mask::past_stops(bits::field(s, at, 609, 64), stops);
+    let calls = mask::past_stops(bits::field(s, at, 673, 64), stops);
+    !known | (restricted | calls)
+}
+
+// 11: a double out of its range.
+fn out_of_range(s: &[u8], at: u32) -> bool
+    ensures { λ r. ⌜ r ≡ refusal11Car (from (now (s .entry)) at) ⌝ }
+{
+    let position = fp::is_position(records::double_at(s, at, 159));
+    let speed = fp::is_speed(records::double_at(s, at, 223));
+    let capacity = refusals::mass_at(s, at, 287);
+    let load = refusals::mass_at(s, at, 351);
+    let up = fp::is_threshold(records::double_at(s, at, 416));
+    let down = fp::is_threshold(records::double_at(s, at, 481));
+    !(position & (speed & (capacity & (load & (up & down)))))
+}
+
+// 13: twice the transition ticks plus the open ticks above 4,294,967,295.
+fn long_doors(s: &[u8], at: u32) -> bool
+    ensures { λ r. ⌜ r ≡ refusal13 (from (now (s .entry)) at) ⌝ }
+{
+    let transition = bits::field(s, at, 545, 32);
+    let dwell = bits::field(s, at, 577, 32);
+    4_294_967_295 < 2 * transition + dwell
+}
+
+// Kind 4: 8, 9, 10, 11, 13.
+pub fn car_refusal(s: &[u8], c: Counts) -> u32
+    requires { ⌜ Small c ⌝ }
+    ensures { λ r. ⌜ r ≡ carRefusal (now (s .entry)) c (from (now (s .entry)) (endOf c)) ⌝ }
+{
+    let at = c.end_of();
+    let late = pick(out_of_range(s, at), 11, pick(long_doors(s, at), 13, 0));
+    pick(
+        unused_bits(s, at),
+        8,
+        pick(bad_ids(s, c), 9, pick(unknown_records(s, c), 10, late)),
+    )
+}

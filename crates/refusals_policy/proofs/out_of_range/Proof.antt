@@ -1,0 +1,15 @@
+-- refusals_policy::out_of_range meets its contract.
+use Rattle.layout.specs.Refusals.{refusal11Policy}
+use borrow.Author.Needs.{needs}
+use Rattle.refusals_policy.proofs.out_of_range.Statement.{statement}
+use Rattle.refusals_policy.proofs.out_of_range.Tie as tie
+
+returns : tie.Need-returns
+unfolding refusal11Policy
+returns c = cc
+
+pub out-of-range-spec : {M : Type 1} → statement M
+out-of-range-spec =
+    tie.close
+    (tie.spec (λ c κs. search needs) (λ c κs. search needs) (λ c κs. search needs) (λ c κs. search needs) (λ c κs. search needs)
+    (λ c κs. search needs) (λ c κs. search needs) (λ c κs. search needs) returns)

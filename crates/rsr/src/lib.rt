@@ -1,0 +1,1 @@
+// RSR: rsr.rs, without its load term.

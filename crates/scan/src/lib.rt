@@ -1,0 +1,1 @@
+// SCAN: scan.rs, and sweep.rs's strict_demand_ahead.

@@ -1,0 +1,42 @@
+-- Sweeps: sweep.rs, and SCAN's prepare_car. Assumes nothing.
+use Prim.Native.Nat.{ℕ, _+_, _*_}
+use mathlib.Core.Bool.{Bool, true, false, cond}
+use lib.Ieee.{Float, lt}
+use Rattle.fp.specs.Num.{plus, minus, epsilon, distance}
+use Rattle.components.specs.declared.Direction.{Direction}
+use Rattle.components.specs.declared.Direction.the-variants.{Up, Down}
+use Rattle.components.specs.declared.Mode.{Mode}
+use Rattle.components.specs.declared.Mode.the-variants.{Strict, Lenient}
+use Rattle.components.specs.declared.Rank.{Rank}
+use Rattle.components.specs.declared.Rank.the-variants.{Cost, Never}
+use Rattle.components.specs.Codes.{directionCode, modeCode}
+use Rattle.sweep.specs.declared.Sweep.{Sweep}
+
+-- SweepDirection::reversed
+abbrev pub reversed : Direction → Direction
+reversed Up = Down
+reversed Down = Up
+
+-- strictly ahead of the car at x: "p > position + 1e-9 going up, p < position - 1e-9 going down"
+abbrev pub strictlyAhead : Direction → Float → Float → Bool
+strictlyAhead Up x p = lt (plus x epsilon) p
+strictlyAhead Down x p = lt p (minus x epsilon)
+
+-- prepare_car: with demand strictly ahead the sweep goes on, strict; without, it turns round, lenient
+unfoldable pub prepared : Sweep → Bool → Sweep
+prepared w ahead =
+    cond ahead (record { direction = w .direction; mode = Strict }) (record { direction = reversed (w .direction); mode = Lenient })
+
+-- the half of the shaft that a sweep takes stops from
+abbrev pub accepts : Mode → Direction → Float → Float → Bool
+accepts Strict d x p = strictlyAhead d x p
+accepts Lenient Up x p = lt (minus x epsilon) p
+accepts Lenient Down x p = lt p (plus x epsilon)
+
+-- rank
+unfoldable pub sweepRank : Sweep → Float → Float → Rank
+sweepRank w x p = cond (accepts (w .mode) (w .direction) x p) (Cost (distance x p)) Never
+
+-- "for each car record 2 × sweep + mode"
+unfoldable pub sweepCode : Sweep → ℕ
+sweepCode w = 2 * directionCode (w .direction) + modeCode (w .mode)
