@@ -1,28 +1,19 @@
 -- What the code's tests tell: of a sign, of a zero's one form, of the infinities, of a NaN's pattern. Assumes nothing.
-use Prim.Native.Nat.{ℕ, zero as z, suc, _+_, _*_, _^_, _≤_, _<_}
-use native.Mathlib.Nat.{zero-mul, mul-one, one-mul, mul-pos, zero-lt-suc}
+use Prim.Native.Nat.{ℕ, zero as z, suc, _+_, _*_, _≤_, _<_}
+use native.Mathlib.Nat.{zero-mul, mul-one, mul-pos, zero-lt-suc}
 use native.Mathlib.Omega.{arith}
-use mathlib.Core.Path.{_≡_, refl, sym, ap, _∙_, subst}
-use mathlib.Core.Bool.{Bool, true, false, _&&_, true≢false}
-use lib.IntN.{ℤ, pos, negsuc}
-use lib.Dec.{T, eqb, ltb}
-use lib.Pow.{pow-lt}
+use mathlib.Core.Path.{_≡_, refl, sym, ap, _∙_}
+use mathlib.Core.Bool.{true, false, true≢false}
+use lib.Dec.{eqb}
 use lib.Ieee.{Float, nan, inf, fin, binary64, ofBits, fits, up, down, neg, lt, eq, div, isNan, nanBits}
 use lib.Ieee.Fits.{up-pos}
 use lib.Ieee.Bits.{nanBits-is}
 use borrow.Author.Tests.{ltb-true, ltb-false, eqb-true, eq-eqb}
 use Rattle.laws.specs.Bools.{both-left}
+use Rattle.fp.specs.Order.{zero-exp}
 use Rattle.fp.specs.Num.{zero, abs, finite, infinity, over}
 
 -- ---- abs
-
--- a zero that fits has one exponent
-zero-exp : (e : ℤ) → up e * down e ≡ 1 → pos 0 ≡ e
-zero-exp (pos z) h = refl
-zero-exp (pos (suc k)) h =
-    let g : 2 ^ 0 < 2 ^ suc k = pow-lt (zero-lt-suc k) in let h' : 2 ^ suc k ≡ 1 = sym (mul-one (2 ^ suc k)) ∙ h in absurd (omega arith)
-zero-exp (negsuc k) h =
-    let g : 2 ^ 0 < 2 ^ suc k = pow-lt (zero-lt-suc k) in let h' : 2 ^ suc k ≡ 1 = sym (one-mul (2 ^ suc k)) ∙ h in absurd (omega arith)
 
 pub abs-below : (x : Float) → lt x zero ≡ true → neg x ≡ abs x
 unfolding lt neg ofBits
@@ -39,7 +30,7 @@ pub abs-level : (x : Float) → fits binary64 x ≡ true → eq x zero ≡ true 
 unfolding eq ofBits fits
 abs-level nan f h = cc
 abs-level (inf s) f h = cc
-abs-level (fin s z e) f h = ap (fin false 0) (zero-exp e (eqb-true (up e * down e) 1 f))
+abs-level (fin s z e) f h = ap (fin false 0) (sym (zero-exp e (eqb-true (up e * down e) 1 f)))
 abs-level (fin s (suc m) e) f h =
     absurd
     (none (suc m * up e) (0 * down e) (zero-mul (down e)) (mul-pos (zero-lt-suc m) (up-pos e))

@@ -3,8 +3,8 @@ use Prim.Native.Nat.{ℕ, _+_, _-_, _*_, _^_}
 use mathlib.Core.Path.{_≡_, refl}
 use mathlib.Core.Bool.{Bool, true, false, _&&_}
 use lib.Dec.{ltb}
-use lib.Ieee.{Float, nan, inf, fin, binary64, up, down, ofBits, ofInt, round, size}
-use Rattle.fp.specs.Num.{zero, one, half, threeTenths, epsilon, million, natural}
+use lib.Ieee.{Float, nan, inf, fin, binary64, up, down, ofBits, ofInt, round, size, div}
+use Rattle.fp.specs.Num.{zero, one, half, threeTenths, epsilon, million, infinity, natural}
 use Rattle.fp.specs.Ranges.{leastSpeed, thousand, billion}
 
 -- ---- in whole numbers
@@ -66,3 +66,9 @@ million-is = refl
 pub billion-is : billion ≡ natural 1_000_000_000
 unfolding ofBits ofInt
 billion-is = refl
+
+-- ---- what 1.0 / 0.0 is
+
+pub infinity-is : infinity ≡ inf false
+unfolding ofBits div
+infinity-is = refl

@@ -3,3 +3,10 @@ pub mod Num
 pub mod Ranges
 pub mod Decimals
 pub mod Fields
+pub mod Order
+pub mod Nonneg
+pub mod Inside
+pub mod Naturals
+pub mod Distances
+pub mod Sizes
+pub mod Least

@@ -74,7 +74,7 @@ fma a b c = plus (times a b) c
 abbrev pub lesser : Float → Float → Float
 lesser a b = cond (lt b a) b a
 
--- a whole number as a double, rounded to nearest; exact up to 2^53 (specs/Values.antt)
+-- a whole number as a double, rounded to nearest; exact up to 2^53 (specs/Naturals.antt)
 abbrev pub natural : ℕ → Float
 natural n = ofInt binary64 (pos n)
 

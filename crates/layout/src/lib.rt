@@ -6,7 +6,6 @@ ghost use mathlib.Core.Bool.{_||_};
 ghost use Prim.Native.Nat.{_<_, _≤_};
 ghost use Rattle.layout.specs.Offsets.{Small, bodyLength, isFull, next, stopsFrom, linesFrom, carsFrom, aboardsFrom, waitsFrom, demandsFrom, endOf, lastKind};
 ghost use Rattle.layout.specs.Refusals.{refusal6};
-
 use components::Kind;
 
 // How many records of each kind.

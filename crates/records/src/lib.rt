@@ -5,7 +5,6 @@ ghost use Prim.Native.Nat.{_+_};
 ghost use lib.Ieee.{ofBits, binary64};
 ghost use Rattle.bits.specs.Field.{fieldAt, flagAt};
 ghost use Rattle.layout.specs.Records.{from, double, optional, policyOf, stopOf, lineOf, carOf, aboardOf, waitingOf, demandOf};
-
 use components::Aboard;
 use components::Car;
 use components::Demand;

@@ -9,7 +9,6 @@ ghost use Rattle.layout.specs.Offsets.{Small, endOf};
 ghost use Rattle.layout.specs.Records.{from, double, flag};
 ghost use Rattle.layout.specs.Refusals.{seen, hasStop, hasLine, hasCar, hasDemand, lastStop, refusal8Waiting, refusal9Waiting};
 ghost use Rattle.layout.specs.Verdict.{pick, stopRefusal, lineRefusal, aboardRefusal, waitingRefusal, demandRefusal};
-
 use layout::Counts;
 
 // The number where the condition holds, else the rest; 0 is no refusal.
@@ -136,7 +135,11 @@ pub fn aboard_refusal(s: &[u8], c: Counts) -> u32
     pick(
         absent_set(s, at, 54, 55, 32),
         8,
-        pick((car == 0) | present_zero(s, at, 54, 55), 9, pick(!known, 10, 0)),
+        pick(
+            (car == 0) | present_zero(s, at, 54, 55),
+            9,
+            pick(!known, 10, 0),
+        ),
     )
 }
 

@@ -4,7 +4,6 @@ ghost use Rattle.layout.specs.Offsets.{endOf, Small};
 ghost use Rattle.layout.specs.Records.{from};
 ghost use Rattle.layout.specs.Refusals.{unusedStop, phaseAt, refusal8Car, refusal9Car, refusal10Car, refusal11Car, refusal13};
 ghost use Rattle.layout.specs.Verdict.{carRefusal};
-
 use components::Phase;
 use layout::Counts;
 use refusals::pick;

@@ -5,7 +5,6 @@ ghost use Rattle.layout.specs.Offsets.{endOf, Small};
 ghost use Rattle.layout.specs.Records.{from};
 ghost use Rattle.layout.specs.Refusals.{unusedWeights, loadWeighed, refusal8Policy, refusal11Policy, refusal15};
 ghost use Rattle.layout.specs.Verdict.{policyRefusal};
-
 use components::Strategy;
 use layout::Counts;
 use refusals::pick;
@@ -72,5 +71,9 @@ pub fn policy_refusal(s: &[u8], c: Counts) -> u32
     let at = c.end_of();
     let none = bits::field(s, at, 24, 16) == 0;
     let late = pick(none, 12, pick(load_weighed(s, at), 15, 0));
-    pick(unused_weights(s, at), 8, pick(out_of_range(s, at), 11, late))
+    pick(
+        unused_weights(s, at),
+        8,
+        pick(out_of_range(s, at), 11, late),
+    )
 }

@@ -51,10 +51,11 @@ returns c =
 loop-again : tie.Need-loop-again Inv-loop μ-loop
 unfolding seen
 loop-again c =
-    let a = c .before .before .before .before .before .args in
-    (omega arith,
-    any-no (here (a .s .now) (a .base) (a .len) (a .id)) (c .before .before .before .loop .i)
-    (ne-eqb _ _ (λ e. c .if1 .left (c .before .field32 .ensures ∙ e))) (c .before .before .before .loop .inv .1))
+    let a = c .before .before .before .before .before .args in (
+      omega arith,
+      any-no (here (a .s .now) (a .base) (a .len) (a .id)) (c .before .before .before .loop .i)
+          (ne-eqb _ _ (λ e. c .if1 .left (c .before .field32 .ensures ∙ e))) (c .before .before .before .loop .inv .1),
+    )
 
 returns-2 : tie.Need-returns-2 Inv-loop μ-loop
 unfolding seen

@@ -1,0 +1,2 @@
+-- Vectors.
+pub mod Vectors
