@@ -3,11 +3,12 @@ use Prim.Native.Nat.{ℕ, zero, suc, _+_, _<_}
 use native.Mathlib.Omega.{arith}
 use mathlib.Core.Path.{_≡_, refl, sym, ap, _∙_}
 use mathlib.Core.Bool.{Bool, true, false, not, _&&_, _||_, cond, or-false}
-use lib.Ieee.{Float, nan, inf, fin, ofBits, lt, div}
-use Rattle.laws.specs.Bools.{never}
+use mathlib.Core.Logic.{⊎-elim}
+use lib.Ieee.{Float, nan, inf, fin, ofBits, lt, le, div}
+use Rattle.laws.specs.Bools.{never, same?}
 use Rattle.laws.specs.Folds.{fold, fold-next, any}
 use Rattle.fp.specs.Num.{infinity, lesser, finite}
-use Rattle.fp.specs.Order.{real, le-through, lt-asym}
+use Rattle.fp.specs.Order.{real, le-through, lt-asym, lt-le, le-self, le-not, le-trans}
 
 -- the least w k of the k below n that pass, infinity where none does
 unfoldable pub least : (ℕ → Bool) → (ℕ → Float) → ℕ → Float
@@ -31,6 +32,21 @@ lesser-real a b p q = by (lt b a)
     by : (c : Bool) → real (cond c b a) ≡ true
     by true = q
     by false = p
+
+-- the lesser is at most either
+pub lesser-left : (a b : Float) → real a ≡ true → real b ≡ true → le (lesser a b) a ≡ true
+lesser-left a b p q = by (lt b a) refl
+  where
+    by : (c : Bool) → lt b a ≡ c → le (cond c b a) a ≡ true
+    by true h = lt-le b a h
+    by false h = le-self a p
+
+pub lesser-right : (a b : Float) → real a ≡ true → real b ≡ true → le (lesser a b) b ≡ true
+lesser-right a b p q = by (lt b a) refl
+  where
+    by : (c : Bool) → lt b a ≡ c → le (cond c b a) b ≡ true
+    by true h = le-self b q
+    by false h = le-not a b p q h
 
 -- room is at least the lesser exactly where it is at least one of them
 pub lesser-room : (room a b : Float) → real a ≡ true → real b ≡ true → not (lt room (lesser a b)) ≡ (not (lt room a) || not (lt room b))
@@ -66,6 +82,25 @@ module _ (p : ℕ → Bool) (w : ℕ → Float) where
       by : (c : Bool) → p n ≡ c → real (least p w n) ≡ true → real (cond c (lesser (least p w n) (w n)) (least p w n)) ≡ true
       by true e r = lesser-real (least p w n) (w n) r (h n (omega arith) e)
       by false e r = r
+
+  -- the least is at most each
+  pub least-le : (n k : ℕ) → ((k : ℕ) → k < n → p k ≡ true → real (w k) ≡ true) → k < n → p k ≡ true → le (least p w n) (w k) ≡ true
+  unfolding least fold
+  least-le zero k h l e = absurd (omega arith)
+  least-le (suc n) k h l e =
+      let r = least-real n (λ j u. h j (omega arith)) in
+      ⊎-elim
+      (λ (i : k ≡ n).
+      let d : p n ≡ true = ap p (sym i) ∙ e in
+      rw (i, d) (lesser-right (least p w n) (w n) r (h n (omega arith) d)))
+      (λ i. by (p n) refl r (least-le n k (λ j u. h j (omega arith)) (omega arith) e))
+      (same? k n)
+    where
+      by : (c : Bool) → p n ≡ c → real (least p w n) ≡ true → le (least p w n) (w k) ≡ true
+          → le (cond c (lesser (least p w n) (w n)) (least p w n)) (w k) ≡ true
+      by true d r q =
+          le-trans (lesser (least p w n) (w n)) (least p w n) (w k) (lesser-left (least p w n) (w n) r (h n (omega arith) d)) q
+      by false d r q = q
 
   least-or : (room : Float) (n : ℕ) → ((k : ℕ) → k < n → p k ≡ true → real (w k) ≡ true)
       → not (lt room (least p w n)) ≡ (not (lt room infinity) || any (λ k. p k && not (lt room (w k))) n)
