@@ -1,0 +1,112 @@
+// The candidate cut: of a car's viable stops, the nearest that the limit keeps.
+ghost use mathlib.Core.Path.{_≡_};
+ghost use Prim.Native.Nat.{_<_};
+ghost use lib.ListN.{length, getD};
+ghost use lib.Ieee.{nan};
+ghost use Rattle.laws.specs.Bools.{bit};
+ghost use Rattle.laws.specs.Folds.{count};
+ghost use Rattle.laws.specs.Tables.{tab};
+ghost use Rattle.fp.specs.Num.{distance};
+ghost use Rattle.mask.specs.Mask.{built};
+ghost use Rattle.assignment.specs.Candidates.{precedes};
+ghost use Rattle.candidates.specs.Cut.{viableBy, comesBefore, cut};
+
+// The stops that are pending and on the car's line, and not barred to it.
+pub fn viable_stops(pending: u64, restricted: u64, serves: u64) -> u64
+    ensures { λ r. ⌜ r ≡ built (viableBy pending restricted serves) 64 ⌝ }
+{
+    mask::both(pending, mask::without(serves, restricted))
+}
+
+// How far each of 64 positions is from x.
+pub fn fill_distances(xs: &[f64], x: f64, ds: &mut [f64])
+    requires { ⌜ (length (now xs) ≡ 64) × (length (now ds) ≡ 64) ⌝ }
+    ensures { λ _. ⌜ now (ds .exit) ≡ tab (λ j. distance x (getD (now (xs .entry)) j nan)) 64 ⌝ }
+{
+    let mut j: usize = 0;
+    while j < 64 {
+        ds[j] = fp::distance(x, xs[j]);
+        j += 1;
+    }
+}
+
+// Of two stops at distances e and d, the first comes before the second: nearer, or as near and with the lower id, which is the lower index.
+fn precedes(e: f64, k: usize, d: f64, j: usize) -> bool
+    ensures { λ r. ⌜ r ≡ precedes e k d j ⌝ }
+{
+    if e < d {
+        return true;
+    }
+    if d < e {
+        return false;
+    }
+    k < j
+}
+
+// 1 where a viable stop k comes before stop j.
+fn one_before(viable: u64, ds: &[f64], j: usize, k: usize) -> u32
+    requires { ⌜ (length (now ds) ≡ 64) × (j < 64) × (k < 64) ⌝ }
+    ensures { λ r. ⌜ r ≡ bit (comesBefore viable (now (ds .entry)) j k) ⌝ }
+{
+    if mask::has(viable, k) & precedes(ds[k], k, ds[j], j) {
+        1
+    } else {
+        0
+    }
+}
+
+// How many viable stops come before stop j.
+fn count_before(viable: u64, ds: &[f64], j: usize) -> u32
+    requires { ⌜ (length (now ds) ≡ 64) × (j < 64) ⌝ }
+    ensures { λ r. ⌜ r ≡ count (comesBefore viable (now (ds .entry)) j) 64 ⌝ }
+{
+    let mut n: u32 = 0;
+    let mut k: usize = 0;
+    while k < 64 {
+        n += one_before(viable, ds, j, k);
+        k += 1;
+    }
+    n
+}
+
+// Whether the limit keeps stop j.
+fn is_kept(viable: u64, ds: &[f64], limit: u32, j: usize) -> bool
+    requires { ⌜ (length (now ds) ≡ 64) × (j < 64) ⌝ }
+    ensures { λ r. ⌜ r ≡ cut viable (now (ds .entry)) limit j ⌝ }
+{
+    if !mask::has(viable, j) {
+        return false;
+    }
+    if limit == 65535 {
+        return true;
+    }
+    count_before(viable, ds, j) < limit
+}
+
+// The stops that the limit keeps, one by one.
+fn cut_stops(viable: u64, ds: &[f64], limit: u32) -> u64
+    requires { ⌜ length (now ds) ≡ 64 ⌝ }
+    ensures { λ r. ⌜ r ≡ built (cut viable (now (ds .entry)) limit) 64 ⌝ }
+{
+    let mut m: u64 = 0;
+    let mut j: usize = 0;
+    while j < 64 {
+        m = mask::pushed(m, is_kept(viable, ds, limit, j));
+        j += 1;
+    }
+    m
+}
+
+// The kept stops: all that are viable where they are not more than the limit.
+pub fn kept_stops(viable: u64, ds: &[f64], limit: u32) -> u64
+    requires { ⌜ length (now ds) ≡ 64 ⌝ }
+    ensures { λ r. ⌜ r ≡ built (cut viable (now (ds .entry)) limit) 64 ⌝ }
+{
+    if limit == 65535 {
+        return viable;
+    }
+    if mask::size(viable) <= limit {
+        return viable;
+    }
+    cut_stops(viable, ds, limit)
+}
