@@ -2,4 +2,54 @@
 
 include!(concat!(env!("OUT_DIR"), "/published.rs"));
 
-fn main() {}
+mod answer;
+mod rust_pass;
+
+use std::io::{Read, Write};
+use std::process::ExitCode;
+
+const USAGE: &str = "\
+oracle passprint [FILE]        the lines of passprint, from the Rust's side
+oracle pass [--ranks] [FILE]   pending stops, sweeps, matrix, least total; single ranks as 64-bit patterns
+Sheets are read from FILE or standard input.";
+
+fn input(file: Option<&str>) -> std::io::Result<Vec<u8>> {
+    match file {
+        Some(path) => std::fs::read(path),
+        None => {
+            let mut bytes = Vec::new();
+            std::io::stdin().read_to_end(&mut bytes)?;
+            Ok(bytes)
+        }
+    }
+}
+
+fn run(args: &[&str]) -> Result<(), String> {
+    let fault = |e: std::io::Error| e.to_string();
+    let mut rust = rust_pass::Rust::new();
+    let text = match args {
+        ["passprint", rest @ ..] if rest.len() < 2 => {
+            answer::passprint(&mut rust, &input(rest.first().copied()).map_err(fault)?)
+        }
+        ["pass", "--ranks", rest @ ..] if rest.len() < 2 => {
+            answer::details(&mut rust, &input(rest.first().copied()).map_err(fault)?, true)
+        }
+        ["pass", rest @ ..] if rest.len() < 2 => {
+            answer::details(&mut rust, &input(rest.first().copied()).map_err(fault)?, false)
+        }
+        _ => return Err(USAGE.into()),
+    };
+    std::io::stdout().write_all(text.as_bytes()).map_err(fault)
+}
+
+fn main() -> ExitCode {
+    let args: Vec<String> = std::env::args().skip(1).collect();
+    let words: Vec<&str> = args.iter().map(String::as_str).collect();
+    match run(&words) {
+        Ok(()) => ExitCode::SUCCESS,
+        Err(message) => {
+            eprintln!("{message}");
+            ExitCode::from(2)
+        }
+    }
+}
