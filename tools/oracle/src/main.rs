@@ -3,6 +3,10 @@
 include!(concat!(env!("OUT_DIR"), "/published.rs"));
 
 mod answer;
+mod bench;
+mod broken;
+mod choice;
+mod compare;
 mod rust_pass;
 
 use std::io::{Read, Write};
@@ -11,6 +15,9 @@ use std::process::ExitCode;
 const USAGE: &str = "\
 oracle passprint [FILE]        the lines of passprint, from the Rust's side
 oracle pass [--ranks] [FILE]   pending stops, sweeps, matrix, least total; single ranks as 64-bit patterns
+oracle compare LIBRARY SEED COUNT [PROFILE]
+                               both sides on COUNT sheets of each profile; LIBRARY is a shared object
+oracle selftest [COUNT]        benches that are wrong on purpose must be found out
 Sheets are read from FILE or standard input.";
 
 fn input(file: Option<&str>) -> std::io::Result<Vec<u8>> {
@@ -24,8 +31,25 @@ fn input(file: Option<&str>) -> std::io::Result<Vec<u8>> {
     }
 }
 
+fn number(word: &str) -> Result<u64, String> {
+    word.parse().map_err(|e| format!("{word}: {e}"))
+}
+
+fn clean(same: bool) -> Result<(), String> {
+    if same { Ok(()) } else { Err("differences".into()) }
+}
+
 fn run(args: &[&str]) -> Result<(), String> {
     let fault = |e: std::io::Error| e.to_string();
+    match args {
+        ["compare", library, seed, count, rest @ ..] if rest.len() < 2 => {
+            let mut bench = bench::Linked::load(library)?;
+            return clean(compare::run(&mut bench, number(seed)?, number(count)?, rest.first().copied()));
+        }
+        ["selftest"] => return clean(compare::selftest(3000)),
+        ["selftest", count] => return clean(compare::selftest(number(count)?)),
+        _ => {}
+    }
     let mut rust = rust_pass::Rust::new();
     let text = match args {
         ["passprint", rest @ ..] if rest.len() < 2 => {

@@ -1,0 +1,364 @@
+//! Both sides on the same sheets; the first difference of each profile, shrunk.
+
+use std::time::Instant;
+
+use sheetgen::generate::{PROFILES, Profile, generate};
+use sheetgen::shrink::shrink;
+use sheetgen::{Sheet, describe, read};
+
+use crate::answer::{Answer, Pass, answer};
+use crate::bench::{Bench, Has, Lent};
+use crate::choice;
+use crate::rust_pass::Rust;
+
+#[derive(Clone, Debug)]
+pub struct Difference {
+    /// Which promise is broken; shrinking keeps to it.
+    pub what: &'static str,
+    pub detail: String,
+}
+
+fn differ<T: std::fmt::Debug>(what: &'static str, expected: T, found: T) -> Option<Difference> {
+    Some(Difference { what, detail: format!("expected {expected:?}, the bench has {found:?}") })
+}
+
+/// What was looked at.
+#[derive(Default)]
+pub struct Tally {
+    pub sheets: u64,
+    pub refused: u64,
+    /// Passes whose cells and decisions the Rust gave, and those where document 01 alone does.
+    pub rust_passes: u64,
+    pub document_passes: u64,
+    pub cells: u64,
+    /// Refusals by number.
+    pub numbers: [u64; 17],
+}
+
+pub struct Comparison<'a> {
+    pub rust: Rust,
+    pub bench: &'a mut dyn Bench,
+    pub has: Has,
+    pub tally: Tally,
+}
+
+impl<'a> Comparison<'a> {
+    pub fn new(bench: &'a mut dyn Bench) -> Self {
+        let has = bench.has();
+        Self { rust: Rust::new(), bench, has, tally: Tally::default() }
+    }
+
+    /// The first difference on one sheet.
+    pub fn sheet(&mut self, bytes: &[u8]) -> Option<Difference> {
+        let refusal = read(bytes);
+        let expected = refusal.map_or((0, 0), |r| (r.number, r.offset));
+        if self.has.read {
+            let found = self.bench.read(bytes);
+            if found.0 != expected.0 {
+                return differ("read: number", expected, found);
+            }
+            if expected.0 != 0 && found.1 != expected.1 {
+                return differ("read: offset", expected, found);
+            }
+        }
+        let right = match refusal {
+            Some(r) => {
+                self.tally.numbers[r.number as usize] += 1;
+                Answer::Refused(r)
+            }
+            None if self.has.pass => answer(&mut self.rust, bytes),
+            None => return None,
+        };
+        if self.has.pass { self.pass(bytes, &right) } else { None }
+    }
+
+    fn pass(&mut self, bytes: &[u8], right: &Answer) -> Option<Difference> {
+        // Lengths at and above the least, by the bytes.
+        let mix = bytes.iter().fold(7usize, |h, b| h.wrapping_mul(31).wrapping_add(usize::from(*b)));
+        let fresh = Lent::new(32 + mix % 3, 2048 + mix / 3 % 3, 32 + mix / 9 % 3);
+        if mix % 16 == 0 {
+            let short = match mix / 16 % 4 {
+                0 => Lent::new(31, 2048, 32),
+                1 => Lent::new(32, 2047, 32),
+                2 => Lent::new(32, 2048, 31),
+                _ => Lent::new(0, 0, 0),
+            };
+            let mut lent = short.clone();
+            let number = self.bench.pass(bytes, &mut lent);
+            if (number, lent.offset) != (1, 0) {
+                return differ("pass: refusal 1", (1, 0), (number, lent.offset));
+            }
+            if lent != (Lent { offset: 0, ..short }) {
+                return Some(Difference { what: "pass: refusal 1 writes", detail: String::new() });
+            }
+        }
+        let mut lent = fresh.clone();
+        let number = self.bench.pass(bytes, &mut lent);
+        match right {
+            Answer::Refused(r) => {
+                if number != r.number {
+                    return differ("pass: number", r.number, number);
+                }
+                if lent.offset != r.offset {
+                    return differ("pass: offset", r.offset, lent.offset);
+                }
+                if lent != (Lent { offset: r.offset, ..fresh }) {
+                    let detail = "a refusal changed a lent buffer".to_string();
+                    return Some(Difference { what: "pass: refusal writes", detail });
+                }
+                self.tally.refused += 1;
+                None
+            }
+            Answer::Passed(pass) => {
+                if number != 0 {
+                    return differ("pass: number", (0, 0), (number, lent.offset));
+                }
+                let found = self.passed(pass, &fresh, &lent);
+                if pass.from_the_rust {
+                    self.tally.rust_passes += 1;
+                    self.tally.cells += pass.cells.len() as u64;
+                } else {
+                    self.tally.document_passes += 1;
+                }
+                found
+            }
+        }
+    }
+
+    fn passed(&self, pass: &Pass, fresh: &Lent, lent: &Lent) -> Option<Difference> {
+        if lent.cars != pass.cars {
+            return differ("pass: cars", pass.cars, lent.cars);
+        }
+        if lent.stops != pass.stops {
+            return differ("pass: stops", pass.stops, lent.stops);
+        }
+        let n = pass.cells.len();
+        if let Some(k) = (0..n).find(|k| lent.matrix[*k] != pass.cells[*k]) {
+            let columns = pass.cars.max(pass.stops) as usize;
+            let at = format!("row {} column {}: ", k / columns, k % columns);
+            let detail = format!("{at}expected {}, the bench has {}", pass.cells[k], lent.matrix[k]);
+            return Some(Difference { what: "pass: cell", detail });
+        }
+        if lent.total != pass.total {
+            return differ("pass: total", pass.total, lent.total);
+        }
+        let d = pass.decisions.len();
+        if lent.decisions[..d] != pass.decisions[..] {
+            return differ("pass: decisions", &pass.decisions[..], &lent.decisions[..d]);
+        }
+        let s = pass.sweeps.len();
+        if lent.sweeps[..s] != pass.sweeps[..] {
+            return differ("pass: sweeps", &pass.sweeps[..], &lent.sweeps[..s]);
+        }
+        if lent.matrix[n..] != fresh.matrix[n..]
+            || lent.decisions[d..] != fresh.decisions[d..]
+            || lent.sweeps[s..] != fresh.sweeps[s..]
+            || lent.offset != fresh.offset
+        {
+            let detail = "an entry beyond what a pass writes was changed".to_string();
+            return Some(Difference { what: "pass: further entries", detail });
+        }
+        if lent.ranked > pass.rank_bound {
+            return differ("pass: ranked pairs above the bound", pass.rank_bound, lent.ranked);
+        }
+        None
+    }
+
+    fn matrix(&mut self, m: &choice::Matrix) -> Option<Difference> {
+        let right = choice::expected(m.cars, m.columns, &m.cells, m.places);
+        let fresh = (vec![0xdead_beefu32; m.places], 0xa3a3_a3a3_a3a3u64);
+        let (mut chosen, mut total) = fresh.clone();
+        let answer = self.bench.choose(m.cars, m.columns, &m.cells, &mut chosen, &mut total);
+        match right {
+            None if answer == 0 => differ("choose: none", "none", "a choice"),
+            None if (&chosen, total) != (&fresh.0, fresh.1) => {
+                Some(Difference { what: "choose: none writes", detail: String::new() })
+            }
+            None => None,
+            Some(_) if answer != 0 => differ("choose: choice", "a choice", "none"),
+            Some((columns, sum)) => {
+                let n = columns.len();
+                if chosen[..n] != columns[..] {
+                    differ("choose: columns", &columns[..], &chosen[..n])
+                } else if total != sum {
+                    differ("choose: total", sum, total)
+                } else if chosen[n..] != fresh.0[n..] {
+                    Some(Difference { what: "choose: further places", detail: String::new() })
+                } else {
+                    None
+                }
+            }
+        }
+    }
+}
+
+/// A difference with what shows it.
+pub struct Found {
+    pub index: u64,
+    pub first: Difference,
+    pub small: Difference,
+    pub bytes: Vec<u8>,
+    pub matrix: Option<choice::Matrix>,
+}
+
+/// Sheets `0..count` of a profile; stops at the first difference and shrinks it.
+pub fn sheets(c: &mut Comparison, profile: Profile, seed: u64, count: u64) -> Option<Found> {
+    for index in 0..count {
+        let bytes = generate(profile, seed, index);
+        c.tally.sheets += 1;
+        if let Some(first) = c.sheet(&bytes) {
+            let what = first.what;
+            let small = shrink(&bytes, &mut |b| c.sheet(b).is_some_and(|d| d.what == what));
+            let difference = c.sheet(&small).unwrap();
+            return Some(Found { index, first, small: difference, bytes: small, matrix: None });
+        }
+    }
+    None
+}
+
+/// Matrices `0..count` for the matcher.
+pub fn matrices(c: &mut Comparison, seed: u64, count: u64) -> Option<Found> {
+    for index in 0..count {
+        let matrix = choice::generate(seed, index);
+        if let Some(first) = c.matrix(&matrix) {
+            let what = first.what;
+            let small = choice::shrink(&matrix, &mut |m| c.matrix(m).is_some_and(|d| d.what == what));
+            let difference = c.matrix(&small).unwrap();
+            return Some(Found { index, first, small: difference, bytes: Vec::new(), matrix: Some(small) });
+        }
+    }
+    None
+}
+
+/// Prints a difference with everything needed to see it again.
+pub fn report(rust: &mut Rust, profile: &str, seed: u64, found: &Found) {
+    println!("DIFFERENCE in {profile}, seed {seed}, number {}", found.index);
+    println!("  first seen: {}: {}", found.first.what, found.first.detail);
+    println!("  smallest:   {}: {}", found.small.what, found.small.detail);
+    if let Some(m) = &found.matrix {
+        println!("  cars {} columns {} places {} cells {:?}", m.cars, m.columns, m.places, m.cells);
+        return;
+    }
+    println!("  {} bytes:", found.bytes.len());
+    for line in describe::hex(&found.bytes).lines() {
+        println!("    {line}");
+    }
+    if read(&found.bytes).is_none() {
+        for line in describe::describe(&Sheet::of_accepted(&found.bytes)).lines() {
+            println!("    {line}");
+        }
+    }
+    println!("  the Rust's side:");
+    for line in crate::answer::details(rust, &found.bytes, true).lines() {
+        println!("    {line}");
+    }
+}
+
+/// The whole comparison; true where nothing differs.
+pub fn run(bench: &mut dyn Bench, seed: u64, count: u64, only: Option<&str>) -> bool {
+    let has = bench.has();
+    let mut clean = true;
+    let said = |name: &str, there: bool| {
+        println!("{name}: {}", if there { "compared" } else { "NOT COMPARED, the library has no such function" });
+    };
+    said("dispatch_bench_read", has.read);
+    said("dispatch_bench_pass", has.pass);
+    said("dispatch_bench_choose", has.choose);
+    if !has.read && !has.pass && !has.choose {
+        return false;
+    }
+    if has.read || has.pass {
+        for (name, profile) in PROFILES {
+            if only.is_some_and(|o| o != name) {
+                continue;
+            }
+            let start = Instant::now();
+            let mut c = Comparison::new(bench);
+            // A full sheet is some thirty times the size of an ordinary one.
+            let count = if profile == Profile::Full { count.div_ceil(20) } else { count };
+            let found = sheets(&mut c, profile, seed, count);
+            let t = &c.tally;
+            let seconds = start.elapsed().as_secs_f64();
+            let numbers: Vec<String> = (2..17)
+                .filter(|k| t.numbers[*k] > 0)
+                .map(|k| format!("{k}:{}", t.numbers[k]))
+                .collect();
+            println!(
+                "{name}: {} sheets, {} with cells of the Rust ({} cells), {} of document 01 alone, refused {} in {seconds:.1} s",
+                t.sheets,
+                t.rust_passes,
+                t.cells,
+                t.document_passes,
+                if numbers.is_empty() { "none".into() } else { numbers.join(" ") },
+            );
+            if let Some(found) = found {
+                clean = false;
+                report(&mut Rust::new(), name, seed, &found);
+            }
+        }
+    }
+    if has.choose && only.is_none_or(|o| o == "matrices") {
+        let start = Instant::now();
+        let mut c = Comparison::new(bench);
+        let found = matrices(&mut c, seed, count);
+        println!("matrices: {count} in {:.1} s", start.elapsed().as_secs_f64());
+        if let Some(found) = found {
+            clean = false;
+            report(&mut Rust::new(), "matrices", seed, &found);
+        }
+    }
+    clean
+}
+
+/// Each broken bench must be found out, and the one without a fault must not.
+pub fn selftest(count: u64) -> bool {
+    use crate::broken::{Broken, FAULTS, Fault};
+    let mut good = true;
+    for fault in FAULTS {
+        let mut bench = Broken::new(fault);
+        let mut c = Comparison::new(&mut bench);
+        let mut caught = None;
+        for (name, profile) in PROFILES {
+            let count = if profile == Profile::Full { count.div_ceil(100) } else { count };
+            if let Some(found) = sheets(&mut c, profile, 1, count) {
+                caught = Some((name, found));
+                break;
+            }
+        }
+        if caught.is_none() {
+            caught = matrices(&mut c, 1, count).map(|found| ("matrices", found));
+        }
+        let right = caught.is_some() == (fault != Fault::None);
+        good &= right;
+        match caught {
+            None => println!("{fault:?}: no difference{}", if right { "" } else { ", WRONG" }),
+            Some((name, found)) => {
+                let size = match &found.matrix {
+                    Some(m) => format!("{} x {} matrix {:?}", m.cars, m.columns, m.cells),
+                    None if read(&found.bytes).is_none() => {
+                        let s = Sheet::of_accepted(&found.bytes);
+                        format!(
+                            "{} bytes: {} stops {} lines {} cars {} aboard {} waiting {} demands",
+                            found.bytes.len(),
+                            s.stops.len(),
+                            s.lines.len(),
+                            s.cars.len(),
+                            s.aboard.len(),
+                            s.waiting.len(),
+                            s.demands.len()
+                        )
+                    }
+                    None => format!("{} bytes", found.bytes.len()),
+                };
+                println!(
+                    "{fault:?}: {name} {}: {} ({}){}; {size}",
+                    found.index,
+                    found.small.what,
+                    found.small.detail,
+                    if right { "" } else { ", WRONG" }
+                );
+            }
+        }
+    }
+    good
+}
