@@ -76,13 +76,14 @@ fn main() {
     let source = place.join("crates/elevator-core/src");
     let missing: Vec<_> = PUBLISHED.iter().filter(|f| !source.join(f).is_file()).collect();
     if !missing.is_empty() {
-        panic!(
-            "\n\nThe published files of elevator-core are not at {}:\n  missing: {}\n\
+        eprintln!(
+            "The published files of elevator-core are not at {}:\n  missing: {}\n\
              Set ELEVATOR_CORE_SRC to the folder that holds crates/elevator-core/src \
-             (default: ../shared/docs/src beside the repository).\n",
+             (default: ../shared/docs/src beside the repository).",
             place.display(),
             missing.iter().map(|f| f.to_string()).collect::<Vec<_>>().join(", ")
         );
+        std::process::exit(1);
     }
     let source = source.canonicalize().unwrap();
     let tree = out.join("elevator_core");

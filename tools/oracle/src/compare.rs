@@ -4,7 +4,7 @@ use std::time::Instant;
 
 use sheetgen::generate::{PROFILES, Profile, generate};
 use sheetgen::shrink::shrink;
-use sheetgen::{Sheet, describe, read};
+use sheetgen::{Refusal, Sheet, describe, read};
 
 use crate::answer::{Answer, Pass, answer};
 use crate::bench::{Bench, Has, Lent};
@@ -13,17 +13,29 @@ use crate::rust_pass::Rust;
 
 #[derive(Clone, Debug)]
 pub struct Difference {
-    /// Which promise is broken; shrinking keeps to it.
+    /// Which promise is broken.
     pub what: &'static str,
     pub detail: String,
+    /// The refusal that document 01 gives, 0 for none. Shrinking keeps to it and to `what`.
+    pub refusal: u32,
+}
+
+impl Difference {
+    fn like(&self, other: &Self) -> bool {
+        self.what == other.what && self.refusal == other.refusal
+    }
+}
+
+fn plain(what: &'static str, detail: &str) -> Option<Difference> {
+    Some(Difference { what, detail: detail.into(), refusal: 0 })
 }
 
 fn differ<T: std::fmt::Debug>(what: &'static str, expected: T, found: T) -> Option<Difference> {
-    Some(Difference { what, detail: format!("expected {expected:?}, the bench has {found:?}") })
+    plain(what, &format!("expected {expected:?}, the bench has {found:?}"))
 }
 
 /// What was looked at.
-#[derive(Default)]
+#[derive(Clone, Default)]
 pub struct Tally {
     pub sheets: u64,
     pub refused: u64,
@@ -51,6 +63,11 @@ impl<'a> Comparison<'a> {
     /// The first difference on one sheet.
     pub fn sheet(&mut self, bytes: &[u8]) -> Option<Difference> {
         let refusal = read(bytes);
+        let found = self.against(bytes, refusal);
+        found.map(|d| Difference { refusal: refusal.map_or(0, |r| r.number), ..d })
+    }
+
+    fn against(&mut self, bytes: &[u8], refusal: Option<Refusal>) -> Option<Difference> {
         let expected = refusal.map_or((0, 0), |r| (r.number, r.offset));
         if self.has.read {
             let found = self.bench.read(bytes);
@@ -89,7 +106,7 @@ impl<'a> Comparison<'a> {
                 return differ("pass: refusal 1", (1, 0), (number, lent.offset));
             }
             if lent != (Lent { offset: 0, ..short }) {
-                return Some(Difference { what: "pass: refusal 1 writes", detail: String::new() });
+                return plain("pass: refusal 1 writes", "a refusal changed a lent buffer");
             }
         }
         let mut lent = fresh.clone();
@@ -103,8 +120,7 @@ impl<'a> Comparison<'a> {
                     return differ("pass: offset", r.offset, lent.offset);
                 }
                 if lent != (Lent { offset: r.offset, ..fresh }) {
-                    let detail = "a refusal changed a lent buffer".to_string();
-                    return Some(Difference { what: "pass: refusal writes", detail });
+                    return plain("pass: refusal writes", "a refusal changed a lent buffer");
                 }
                 self.tally.refused += 1;
                 None
@@ -137,7 +153,7 @@ impl<'a> Comparison<'a> {
             let columns = pass.cars.max(pass.stops) as usize;
             let at = format!("row {} column {}: ", k / columns, k % columns);
             let detail = format!("{at}expected {}, the bench has {}", pass.cells[k], lent.matrix[k]);
-            return Some(Difference { what: "pass: cell", detail });
+            return plain("pass: cell", &detail);
         }
         if lent.total != pass.total {
             return differ("pass: total", pass.total, lent.total);
@@ -155,8 +171,7 @@ impl<'a> Comparison<'a> {
             || lent.sweeps[s..] != fresh.sweeps[s..]
             || lent.offset != fresh.offset
         {
-            let detail = "an entry beyond what a pass writes was changed".to_string();
-            return Some(Difference { what: "pass: further entries", detail });
+            return plain("pass: further entries", "an entry beyond what a pass writes was changed");
         }
         if lent.ranked > pass.rank_bound {
             return differ("pass: ranked pairs above the bound", pass.rank_bound, lent.ranked);
@@ -172,7 +187,7 @@ impl<'a> Comparison<'a> {
         match right {
             None if answer == 0 => differ("choose: none", "none", "a choice"),
             None if (&chosen, total) != (&fresh.0, fresh.1) => {
-                Some(Difference { what: "choose: none writes", detail: String::new() })
+                plain("choose: none writes", "an answer of none changed a lent buffer")
             }
             None => None,
             Some(_) if answer != 0 => differ("choose: choice", "a choice", "none"),
@@ -183,7 +198,7 @@ impl<'a> Comparison<'a> {
                 } else if total != sum {
                     differ("choose: total", sum, total)
                 } else if chosen[n..] != fresh.0[n..] {
-                    Some(Difference { what: "choose: further places", detail: String::new() })
+                    plain("choose: further places", "a place beyond the cars was changed")
                 } else {
                     None
                 }
@@ -207,9 +222,10 @@ pub fn sheets(c: &mut Comparison, profile: Profile, seed: u64, count: u64) -> Op
         let bytes = generate(profile, seed, index);
         c.tally.sheets += 1;
         if let Some(first) = c.sheet(&bytes) {
-            let what = first.what;
-            let small = shrink(&bytes, &mut |b| c.sheet(b).is_some_and(|d| d.what == what));
+            let tally = c.tally.clone();
+            let small = shrink(&bytes, &mut |b| c.sheet(b).is_some_and(|d| d.like(&first)));
             let difference = c.sheet(&small).unwrap();
+            c.tally = tally;
             return Some(Found { index, first, small: difference, bytes: small, matrix: None });
         }
     }
@@ -221,8 +237,7 @@ pub fn matrices(c: &mut Comparison, seed: u64, count: u64) -> Option<Found> {
     for index in 0..count {
         let matrix = choice::generate(seed, index);
         if let Some(first) = c.matrix(&matrix) {
-            let what = first.what;
-            let small = choice::shrink(&matrix, &mut |m| c.matrix(m).is_some_and(|d| d.what == what));
+            let small = choice::shrink(&matrix, &mut |m| c.matrix(m).is_some_and(|d| d.like(&first)));
             let difference = c.matrix(&small).unwrap();
             return Some(Found { index, first, small: difference, bytes: Vec::new(), matrix: Some(small) });
         }
@@ -312,10 +327,10 @@ pub fn run(bench: &mut dyn Bench, seed: u64, count: u64, only: Option<&str>) -> 
 
 /// Each broken bench must be found out, and the one without a fault must not.
 pub fn selftest(count: u64) -> bool {
-    use crate::broken::{Broken, FAULTS, Fault};
+    use crate::paper::{FAULTS, Fault, Paper};
     let mut good = true;
-    for fault in FAULTS {
-        let mut bench = Broken::new(fault);
+    for &fault in FAULTS {
+        let mut bench = Paper { fault };
         let mut c = Comparison::new(&mut bench);
         let mut caught = None;
         for (name, profile) in PROFILES {

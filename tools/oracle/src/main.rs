@@ -4,9 +4,9 @@ include!(concat!(env!("OUT_DIR"), "/published.rs"));
 
 mod answer;
 mod bench;
-mod broken;
 mod choice;
 mod compare;
+mod paper;
 mod rust_pass;
 
 use std::io::{Read, Write};
@@ -17,6 +17,8 @@ oracle passprint [FILE]        the lines of passprint, from the Rust's side
 oracle pass [--ranks] [FILE]   pending stops, sweeps, matrix, least total; single ranks as 64-bit patterns
 oracle compare LIBRARY SEED COUNT [PROFILE]
                                both sides on COUNT sheets of each profile; LIBRARY is a shared object
+oracle papers SEED COUNT [PROFILE]
+                               the papers' definitions against the Rust, with no library
 oracle selftest [COUNT]        benches that are wrong on purpose must be found out
 Sheets are read from FILE or standard input.";
 
@@ -36,7 +38,12 @@ fn number(word: &str) -> Result<u64, String> {
 }
 
 fn clean(same: bool) -> Result<(), String> {
-    if same { Ok(()) } else { Err("differences".into()) }
+    if !same {
+        println!("NOT EQUAL");
+        std::process::exit(1);
+    }
+    println!("no difference");
+    Ok(())
 }
 
 fn run(args: &[&str]) -> Result<(), String> {
@@ -44,6 +51,10 @@ fn run(args: &[&str]) -> Result<(), String> {
     match args {
         ["compare", library, seed, count, rest @ ..] if rest.len() < 2 => {
             let mut bench = bench::Linked::load(library)?;
+            return clean(compare::run(&mut bench, number(seed)?, number(count)?, rest.first().copied()));
+        }
+        ["papers", seed, count, rest @ ..] if rest.len() < 2 => {
+            let mut bench = paper::Paper { fault: paper::Fault::None };
             return clean(compare::run(&mut bench, number(seed)?, number(count)?, rest.first().copied()));
         }
         ["selftest"] => return clean(compare::selftest(3000)),
