@@ -326,10 +326,13 @@ pub fn run(bench: &mut dyn Bench, seed: u64, count: u64, only: Option<&str>) -> 
 }
 
 /// Each broken bench must be found out, and the one without a fault must not.
-pub fn selftest(count: u64) -> bool {
+pub fn selftest(count: u64, only: Option<&str>) -> bool {
     use crate::paper::{FAULTS, Fault, Paper};
     let mut good = true;
     for &fault in FAULTS {
+        if only.is_some_and(|name| name != format!("{fault:?}")) {
+            continue;
+        }
         let mut bench = Paper { fault };
         let mut c = Comparison::new(&mut bench);
         let mut caught = None;

@@ -19,7 +19,8 @@ oracle compare LIBRARY SEED COUNT [PROFILE]
                                both sides on COUNT sheets of each profile; LIBRARY is a shared object
 oracle papers SEED COUNT [PROFILE]
                                the papers' definitions against the Rust, with no library
-oracle selftest [COUNT]        benches that are wrong on purpose must be found out
+oracle selftest [COUNT [FAULT]]
+                               benches that are wrong on purpose must be found out
 Sheets are read from FILE or standard input.";
 
 fn input(file: Option<&str>) -> std::io::Result<Vec<u8>> {
@@ -57,8 +58,15 @@ fn run(args: &[&str]) -> Result<(), String> {
             let mut bench = paper::Paper { fault: paper::Fault::None };
             return clean(compare::run(&mut bench, number(seed)?, number(count)?, rest.first().copied()));
         }
-        ["selftest"] => return clean(compare::selftest(3000)),
-        ["selftest", count] => return clean(compare::selftest(number(count)?)),
+        ["selftest", rest @ ..] if rest.len() < 3 => {
+            let count = rest.first().map_or(Ok(3000), |word| number(word))?;
+            if !compare::selftest(count, rest.get(1).copied()) {
+                println!("a fault was not found out, or a difference was seen where there is none");
+                std::process::exit(1);
+            }
+            println!("every fault was found out");
+            return Ok(());
+        }
         _ => {}
     }
     let mut rust = rust_pass::Rust::new();

@@ -94,8 +94,6 @@ faults! {
     PathWithoutDestination
     /// A load exactly at the threshold doesn't bypass.
     BypassAbove
-    /// The load ratio is held to 1.
-    BypassHeldRatio
     /// Lamps aren't looked at.
     LampsIgnored
     /// Riders of exactly the remaining capacity can't board.
@@ -381,10 +379,7 @@ impl<'a> Pass<'a> {
         if c.capacity <= 0.0 {
             return false;
         }
-        let mut ratio = c.load / c.capacity;
-        if self.is(Fault::BypassHeldRatio) {
-            ratio = ratio.min(1.0);
-        }
+        let ratio = c.load / c.capacity;
         if ratio < threshold || ratio == threshold && self.is(Fault::BypassAbove) {
             return false;
         }

@@ -23,6 +23,10 @@ pub enum Profile {
     Extreme,
     /// Accepted, many viable stops and a small limit.
     Limits,
+    /// Accepted, costs so large or so nearly cancelled that their last bits reach the cell.
+    Fine,
+    /// Accepted, waiters whose weights sum to the serving cars' remaining capacity or nearly so.
+    Cover,
     /// Accepted sheets after one to three damages; some are still accepted.
     Damaged,
     /// Each refusal 2 to 16 on purpose, at each kind that can cause it, and values just inside.
@@ -31,13 +35,15 @@ pub enum Profile {
     Garbage,
 }
 
-pub const PROFILES: [(&str, Profile); 9] = [
+pub const PROFILES: [(&str, Profile); 11] = [
     ("valid", Profile::Valid),
     ("full", Profile::Full),
     ("ties", Profile::Ties),
     ("near", Profile::Near),
     ("extreme", Profile::Extreme),
     ("limits", Profile::Limits),
+    ("fine", Profile::Fine),
+    ("cover", Profile::Cover),
     ("damaged", Profile::Damaged),
     ("provoked", Profile::Provoked),
     ("garbage", Profile::Garbage),
@@ -67,7 +73,79 @@ pub fn generate(profile: Profile, seed: u64, index: u64) -> Vec<u8> {
 /// A sheet of one of the accepted profiles.
 pub fn accepted(profile: Profile, rng: &mut Rng) -> Sheet {
     let size = if profile == Profile::Full { Size::full(rng) } else { Size::any(rng, profile) };
-    Maker { rng, profile }.sheet(&size)
+    let mut sheet = Maker { rng, profile }.sheet(&size);
+    match profile {
+        Profile::Fine => cancel(rng, &mut sheet),
+        Profile::Cover => cover(rng, &mut sheet),
+        _ => {}
+    }
+    sheet
+}
+
+/// Sets the weights so that the wait terms take nearly all of some car's travel term away.
+fn cancel(rng: &mut Rng, sheet: &mut Sheet) {
+    let Some(w) = sheet.waiting.first() else { return };
+    let Some(car) = sheet.cars.iter().find(|c| c.idle && c.speed > 0.0) else { return };
+    let at = sheet.stops.iter().find(|s| s.id == w.stop).unwrap().position;
+    let travel = (car.position - at).abs() / car.speed;
+    let here = sheet.waiting.iter().filter(|v| v.stop == w.stop);
+    let (mut sum, mut squares) = (0.0, 0.0);
+    for v in here {
+        sum += v.wait as f64;
+        squares += v.wait as f64 * v.wait as f64;
+    }
+    if travel < 1.0 || sum < 1.0 {
+        return;
+    }
+    // The travel term's size, and what may be left of it.
+    let size = 10f64.powf(rng.between(2.0, 16.0));
+    let weights = &mut sheet.policy.weights;
+    weights[0] = (size / travel).min(1e9);
+    let travel_term = weights[0] * travel;
+    let left = (1e8 / travel_term).min(1.0) * rng.unit();
+    let share = match rng.below(3) {
+        _ if sheet.policy.strategy == RSR => 0.0,
+        0 => 0.0,
+        1 => 1.0,
+        _ => rng.unit(),
+    };
+    weights[4] = (travel_term * (1.0 - left) * (1.0 - share) / sum).min(1e9);
+    if sheet.policy.strategy == ETD {
+        weights[3] = (travel_term * (1.0 - left) * share / squares).min(1e9);
+    }
+}
+
+/// Several cars serve the first stop; its waiters weigh what is left in them, added in one order or another.
+fn cover(rng: &mut Rng, sheet: &mut Sheet) {
+    if sheet.stops.is_empty() {
+        return;
+    }
+    let first = sheet.stops[0].id;
+    let amounts = [0.1, 0.2, 0.3, 0.7, 1.1, 3.3, 1e-9, 1e9, 123.456];
+    for c in &mut sheet.cars {
+        if rng.one_in(5) {
+            continue;
+        }
+        c.target = Some(first);
+        c.phase = rng.pick(&[1, 3, 4, 5]);
+        c.stop = if c.phase == 1 { first } else { 0 };
+        c.capacity = rng.pick(&amounts);
+        c.load = if rng.flag() { 0.0 } else { rng.pick(&amounts).min(c.capacity) };
+    }
+    let left = |c: &&Car| c.target == Some(first) && matches!(c.phase, 1 | 3 | 4 | 5);
+    let by_line = sheet.lines.iter().flat_map(|l| sheet.cars.iter().filter(|c| c.line == l.id));
+    let group = by_line.filter(left).fold(0.0, |sum, c| sum + (c.capacity - c.load));
+    let record = sheet.cars.iter().filter(left).fold(0.0, |sum, c| sum + (c.capacity - c.load));
+    let back = sheet.cars.iter().rev().filter(left).fold(0.0, |sum, c| sum + (c.capacity - c.load));
+    let weight: f64 = rng.pick(&[group, record, back]);
+    if !(0.0..=1e9).contains(&weight) {
+        return;
+    }
+    sheet.waiting.retain(|w| w.stop != first);
+    let first_part = if rng.flag() { 0.0 } else { rng.pick(&amounts).min(weight) };
+    for weight in [first_part, weight - first_part] {
+        sheet.waiting.push(Waiting { stop: first, line: None, destination: None, weight, wait: 1 });
+    }
 }
 
 /// A small accepted sheet with at least one record of each kind.
@@ -95,6 +173,16 @@ struct Size {
 
 impl Size {
     fn any(rng: &mut Rng, profile: Profile) -> Self {
+        if profile == Profile::Cover || profile == Profile::Fine {
+            return Self {
+                stops: 1 + rng.below(8),
+                lines: 1 + rng.below(4),
+                cars: 1 + rng.below(8),
+                aboard: rng.below(8),
+                waiting: 1 + rng.below(6),
+                demands: rng.below(4),
+            };
+        }
         let stops = match rng.below(20) {
             _ if profile == Profile::Limits => 8 + rng.below(57),
             0..=4 => rng.below(4),
@@ -219,7 +307,10 @@ impl Maker<'_> {
     }
 
     fn policy(&mut self) -> Policy {
-        let strategy = self.rng.pick(&[ETD, RSR, SCAN]);
+        let strategy = match self.profile {
+            Profile::Fine => self.rng.pick(&[ETD, RSR]),
+            _ => self.rng.pick(&[ETD, RSR, SCAN]),
+        };
         let limit = match self.rng.below(10) {
             _ if self.profile == Profile::Limits => 1 + self.rng.below(12) as u16,
             0..=4 => NO_LIMIT,
@@ -260,6 +351,7 @@ impl Maker<'_> {
             (Profile::Extreme, 3) => self.rng.pick(&[0.0, -0.0]),
             (Profile::Extreme, 4) => 999_999_999.9999999,
             (Profile::Ties, 0..=2) => self.rng.pick(&[0.0, 1.0]),
+            (Profile::Fine, 0..=3) => 10f64.powf(self.rng.between(-3.0, 6.0)),
             (_, 0..=2) => usual,
             (_, 3) => 0.0,
             (_, 4) => self.rng.between(0.0, 20.0),
@@ -269,7 +361,9 @@ impl Maker<'_> {
 
     fn position(&mut self, stops: &[Stop]) -> f64 {
         match self.profile {
+            Profile::Ties if self.rng.flag() => self.rng.below(1024) as f64 / 128.0,
             Profile::Ties => self.rng.below(6) as f64 - 1.0,
+            Profile::Fine => self.rng.between(-1e6, 1e6),
             Profile::Near => {
                 let base = if !stops.is_empty() && self.rng.flag() {
                     stops[self.rng.below(stops.len())].position
@@ -356,7 +450,7 @@ impl Maker<'_> {
         match (self.profile, self.rng.below(4)) {
             (Profile::Extreme, 0) => (0, u32::MAX),
             (Profile::Extreme, 1) => (2_147_483_647, 1),
-            (Profile::Extreme, 2) => {
+            (Profile::Extreme | Profile::Fine, 2) => {
                 let transition = (self.rng.next() % (1 << 31)) as u32;
                 let most = u32::MAX - 2 * transition;
                 (transition, (self.rng.next() % (u64::from(most) + 1)) as u32)
@@ -388,6 +482,7 @@ impl Maker<'_> {
             (Profile::Extreme, 3) => 1000.0,
             (Profile::Extreme, 4) => ulps(1.0 / 1024.0, 1),
             (Profile::Ties, _) => self.rng.pick(&[1.0, 2.0]),
+            (Profile::Fine, 1..=3) => self.rng.between(1.0 / 1024.0, 1.0),
             (_, 1..=3) => self.rng.pick(&[2.0, 2.5, 4.0]),
             _ => self.rng.between(0.5, 10.0),
         };
@@ -453,7 +548,7 @@ impl Maker<'_> {
         let wait = match (self.profile, self.rng.below(5)) {
             (Profile::Extreme, 0) => 1 << 53,
             (Profile::Extreme, 1) => (1 << 53) - self.rng.next() % 5,
-            (Profile::Extreme, 2) => self.rng.next() >> (11 + self.rng.below(53)),
+            (Profile::Extreme | Profile::Fine, 2 | 3) => self.rng.next() >> (11 + self.rng.below(53)),
             (Profile::Ties, _) => self.rng.pick(&[0, 60]),
             (_, 0) => 0,
             _ => self.rng.next() % 10_000,

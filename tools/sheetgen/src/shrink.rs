@@ -132,7 +132,7 @@ impl Accepted<'_> {
 
     fn car(&mut self, i: usize) {
         let plain = Car::parked(self.best.cars[i].line);
-        self.change(|s| s.cars[i] = Car { id: s.cars[i].id, ..plain.clone() });
+        self.change(|s| s.cars[i] = Car { id: s.cars[i].id, idle: s.cars[i].idle, ..plain.clone() });
         self.change(|s| (s.cars[i].phase, s.cars[i].stop) = (0, 0));
         self.change(|s| s.cars[i].target = None);
         self.change(|s| s.cars[i].idle = false);
@@ -176,18 +176,12 @@ impl Accepted<'_> {
                 return;
             }
         }
-        if value == value.trunc() && value.abs() < 1000.0 {
-            return;
-        }
-        for digits in [1.0, 10.0, 1000.0] {
-            let rounded = (value * digits).round() / digits;
-            if rounded.is_finite() && rounded != value && self.change(|s| *field(s) = rounded) {
-                return;
-            }
-        }
-        for kept in [0, 4, 12, 26] {
-            let short = f64::from_bits(value.to_bits() >> (52 - kept) << (52 - kept));
-            if short.to_bits() != value.to_bits() && self.change(|s| *field(s) = short) {
+        // Fewer digits each time, so that this ends.
+        let digits = |v: f64| format!("{v:?}").len();
+        let rounded = [1.0, 10.0, 1000.0].map(|by| (value * by).round() / by);
+        let cut = [52, 48, 40, 26].map(|by| f64::from_bits(value.to_bits() >> by << by));
+        for short in rounded.into_iter().chain(cut) {
+            if digits(short) < digits(value) && self.change(|s| *field(s) = short) {
                 return;
             }
         }
