@@ -6,6 +6,7 @@ mod answer;
 mod bench;
 mod choice;
 mod compare;
+mod lists;
 mod paper;
 mod rust_pass;
 
@@ -21,6 +22,8 @@ oracle papers SEED COUNT [PROFILE]
                                the papers' definitions against the Rust, with no library
 oracle selftest [COUNT [FAULT]]
                                benches that are wrong on purpose must be found out
+oracle list refusals|passes|ranks SEED FILE
+                               writes a fixed list
 Sheets are read from FILE or standard input.";
 
 fn input(file: Option<&str>) -> std::io::Result<Vec<u8>> {
@@ -57,6 +60,16 @@ fn run(args: &[&str]) -> Result<(), String> {
         ["papers", seed, count, rest @ ..] if rest.len() < 2 => {
             let mut bench = paper::Paper { fault: paper::Fault::None };
             return clean(compare::run(&mut bench, number(seed)?, number(count)?, rest.first().copied()));
+        }
+        ["list", kind, seed, file] => {
+            let (list, cases) = match *kind {
+                "refusals" => lists::refusals(number(seed)?),
+                "passes" => lists::passes(number(seed)?),
+                "ranks" => lists::ranks(number(seed)?),
+                _ => return Err(USAGE.into()),
+            };
+            println!("{cases} cases, {} bytes", list.len());
+            return std::fs::write(file, list).map_err(fault);
         }
         ["selftest", rest @ ..] if rest.len() < 3 => {
             let count = rest.first().map_or(Ok(3000), |word| number(word))?;
