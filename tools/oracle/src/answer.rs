@@ -135,3 +135,80 @@ pub fn details(rust: &mut Rust, bytes: &[u8], with_ranks: bool) -> String {
     }
     out
 }
+
+#[cfg(test)]
+mod tests {
+    use super::*;
+    use sheetgen::sheet::{ETD, RSR, SCAN, mask_bit};
+    use sheetgen::{Car, Demand, Line, Stop, Waiting};
+
+    /// One car at 0 on a line with all stops, a rider-less call at the first.
+    fn one_car(strategy: u8, positions: &[f64]) -> Sheet {
+        let mut s = Sheet::new(strategy);
+        for (k, position) in positions.iter().enumerate() {
+            s.stops.push(Stop { id: k as u32 + 1, position: *position });
+        }
+        s.lines.push(Line { id: 1, mask: (0..positions.len()).fold(0, |m, j| m | mask_bit(j)) });
+        s.cars.push(Car { phase: 6, ..Car::parked(1) });
+        s.demands.push(Demand { stop: 1, riding: 0, call: true });
+        s
+    }
+
+    fn cells(sheet: &Sheet) -> Vec<u64> {
+        match answer(&mut Rust::new(), &sheet.write()) {
+            Answer::Passed(pass) => pass.cells,
+            Answer::Refused(r) => panic!("{r:?}"),
+        }
+    }
+
+    /// P4 to P10 of document 01.
+    #[test]
+    fn cases_of_document_01() {
+        assert_eq!(cells(&one_car(SCAN, &[0.0078125])), [7_813]);
+        assert_eq!(cells(&one_car(SCAN, &[0.00390625])), [3_906]);
+        for (weight, cell) in [(281_474_976.0, 281_474_976_000_000), (281_474_977.0, 281_474_976_710_655)] {
+            let mut s = one_car(ETD, &[2.0]);
+            s.policy.weights[0] = weight;
+            assert_eq!(cells(&s), [cell]);
+        }
+        let mut s = one_car(SCAN, &[1e-9]);
+        assert_eq!(cells(&s), [SENTINEL as u64]);
+        s.cars[0].sweep_down = true;
+        assert_eq!(cells(&s), [0]);
+        let mut s = one_car(ETD, &[10.0, 11.0]);
+        s.policy.weights[0] = 1.0;
+        s.cars[0].phase = 0;
+        assert_eq!(cells(&s), [3_500_000]);
+        (s.cars[0].phase, s.cars[0].stop) = (1, 2);
+        assert_eq!(cells(&s), [2_500_000]);
+        let mut s = one_car(RSR, &[10.0, -1.0]);
+        s.policy.weights = [1.0, 0.0, 8.0, 0.0, 0.0, 0.0];
+        s.cars[0].calls = mask_bit(0);
+        assert_eq!(cells(&s), [0]);
+        s.policy.weights = [1.0, 15.0, 0.0, 0.0, 0.0, 2.0];
+        s.policy.traffic = 1;
+        (s.cars[0].phase, s.cars[0].stop) = (1, 2);
+        assert_eq!(cells(&s), [35_000_000]);
+    }
+
+    /// 60 + 40 against 100 is covered, 60 + 41 isn't.
+    #[test]
+    fn coverage_of_document_01() {
+        for (second, stops) in [(40.0, 0), (41.0, 1)] {
+            let mut s = one_car(SCAN, &[5.0]);
+            s.demands.clear();
+            (s.cars[0].phase, s.cars[0].target) = (3, Some(1));
+            for weight in [60.0, second] {
+                s.waiting.push(Waiting { stop: 1, line: None, destination: None, weight, wait: 0 });
+            }
+            let Answer::Passed(pass) = answer(&mut Rust::new(), &s.write()) else { panic!() };
+            assert_eq!(pass.stops, stops);
+        }
+    }
+
+    #[test]
+    fn example_of_document_01() {
+        let lines = "cars 2 stops 2 total 10000000\ncar 7 stop 2\ncar 8 stop 3\nsweep 7 up strict\nsweep 8 down lenient\n";
+        assert_eq!(passprint(&mut Rust::new(), &Sheet::example().write()), lines);
+    }
+}

@@ -380,3 +380,72 @@ pub fn selftest(count: u64, only: Option<&str>) -> bool {
     }
     good
 }
+
+/// What the sheets of each profile are like, by the Rust.
+pub fn survey(seed: u64, count: u64) {
+    for (name, profile) in PROFILES {
+        let mut rust = Rust::new();
+        let count = if profile == Profile::Full { count.div_ceil(20) } else { count };
+        let (mut passes, mut cells, mut sent, mut idle, mut zero, mut held) = (0, 0u64, 0u64, 0u64, 0u64, 0u64);
+        let (mut ranks, mut ranked, mut minus_zero, mut covered, mut cut) = (0u64, 0u64, 0u64, 0u64, 0u64);
+        for index in 0..count {
+            let bytes = generate(profile, seed, index);
+            if read(&bytes).is_some() {
+                continue;
+            }
+            let sheet = Sheet::of_accepted(&bytes);
+            let pass = rust.pass(&sheet, true);
+            let demand = sheet.stops.iter().enumerate().filter(|(j, s)| {
+                let bit = sheetgen::sheet::mask_bit(*j);
+                sheet.lines.iter().any(|l| l.mask & bit != 0)
+                    && (sheet.waiting.iter().any(|w| w.stop == s.id)
+                        || sheet.demands.iter().any(|d| d.stop == s.id && (d.call || d.riding > 0)))
+            });
+            covered += u64::from(demand.count() > pass.pending.len());
+            let Some(found) = &pass.cells else { continue };
+            passes += 1;
+            cells += found.len() as u64;
+            sent += pass.decisions.iter().filter(|d| **d != 0).count() as u64;
+            idle += pass.decisions.iter().filter(|d| **d == 0).count() as u64;
+            zero += found.iter().filter(|c| **c == 0).count() as u64;
+            held += found.iter().filter(|c| **c == crate::answer::SENTINEL - 1).count() as u64;
+            ranks += pass.ranks.len() as u64;
+            ranked += pass.ranks.iter().filter(|r| r.2.is_some()).count() as u64;
+            minus_zero += pass.ranks.iter().filter(|r| r.2.is_some_and(|c| c.to_bits() == 1 << 63)).count() as u64;
+            cut += u64::from((pass.ranked as usize) < pass.idle.len() * pass.pending.len());
+        }
+        println!(
+            "{name}: {passes} matrices of {count} sheets, {cells} cells ({zero} zero, {held} at the ceiling), \
+             {ranked} of {ranks} pairs have a rank ({minus_zero} minus zero), {sent} cars sent, {idle} idle, \
+             {covered} sheets with covered stops, {cut} with unranked pairs"
+        );
+    }
+}
+
+/// Demand 3 by running: of two sheets that differ in the limit alone, the one with the higher limit has no
+/// higher total. True where that held.
+pub fn limits(seed: u64, count: u64) -> bool {
+    let mut rust = Rust::new();
+    let mut fell = 0u64;
+    for index in 0..count {
+        let bytes = generate(Profile::Limits, seed, index);
+        let mut sheet = Sheet::of_accepted(&bytes);
+        let mut total = |sheet: &Sheet| match answer(&mut rust, &sheet.write()) {
+            Answer::Passed(pass) => pass.total,
+            Answer::Refused(r) => unreachable!("{r:?}"),
+        };
+        let low = total(&sheet);
+        sheet.policy.limit = match index % 3 {
+            0 => sheetgen::sheet::NO_LIMIT,
+            k => sheet.policy.limit + k as u16,
+        };
+        let high = total(&sheet);
+        if high > low {
+            println!("limits, seed {seed}, number {index}: total {low} rose to {high}");
+            return false;
+        }
+        fell += u64::from(high < low);
+    }
+    println!("limits: {count} pairs of sheets, the total fell in {fell} and never rose");
+    true
+}

@@ -22,6 +22,8 @@ oracle papers SEED COUNT [PROFILE]
                                the papers' definitions against the Rust, with no library
 oracle selftest [COUNT [FAULT]]
                                benches that are wrong on purpose must be found out
+oracle limits SEED COUNT       a higher limit never raises the total, by the Rust
+oracle survey SEED COUNT       what the sheets of each profile are like
 oracle list refusals|passes|ranks SEED FILE
                                writes a fixed list
 Sheets are read from FILE or standard input.";
@@ -60,6 +62,11 @@ fn run(args: &[&str]) -> Result<(), String> {
         ["papers", seed, count, rest @ ..] if rest.len() < 2 => {
             let mut bench = paper::Paper { fault: paper::Fault::None };
             return clean(compare::run(&mut bench, number(seed)?, number(count)?, rest.first().copied()));
+        }
+        ["limits", seed, count] => return clean(compare::limits(number(seed)?, number(count)?)),
+        ["survey", seed, count] => {
+            compare::survey(number(seed)?, number(count)?);
+            return Ok(());
         }
         ["list", kind, seed, file] => {
             let (list, cases) = match *kind {
