@@ -74,14 +74,21 @@ fn main() {
         None => here.join("../../../shared/docs/src"),
     };
     let source = place.join("crates/elevator-core/src");
-    let missing: Vec<_> = PUBLISHED.iter().filter(|f| !source.join(f).is_file()).collect();
+    let missing: Vec<_> = PUBLISHED
+        .iter()
+        .filter(|f| !source.join(f).is_file())
+        .collect();
     if !missing.is_empty() {
         eprintln!(
             "The published files of elevator-core are not at {}:\n  missing: {}\n\
              Set ELEVATOR_CORE_SRC to the folder that holds crates/elevator-core/src \
              (default: ../shared/docs/src beside the repository).",
             place.display(),
-            missing.iter().map(|f| f.to_string()).collect::<Vec<_>>().join(", ")
+            missing
+                .iter()
+                .map(|f| f.to_string())
+                .collect::<Vec<_>>()
+                .join(", ")
         );
         std::process::exit(1);
     }
@@ -99,7 +106,11 @@ fn main() {
     let mut root = String::new();
     for m in ROOT {
         let single = tree.join(format!("{m}.rs"));
-        let file = if single.exists() { single } else { tree.join(m).join("mod.rs") };
+        let file = if single.exists() {
+            single
+        } else {
+            tree.join(m).join("mod.rs")
+        };
         root += &format!("#[allow(dead_code, unused_imports)]\n#[path = {file:?}]\npub mod {m};\n");
     }
     fs::write(out.join("published.rs"), root).unwrap();

@@ -45,7 +45,10 @@ pub fn of_rust(sheet: &Sheet, pass: &RustPass) -> Pass {
     let m = pass.pending.len();
     let columns = n.max(m);
     let from_the_rust = pass.cells.is_some();
-    let cells = pass.cells.clone().unwrap_or_else(|| vec![SENTINEL; n * columns]);
+    let cells = pass
+        .cells
+        .clone()
+        .unwrap_or_else(|| vec![SENTINEL; n * columns]);
     let chosen = least_choice(n, columns, &cells);
     let total: i64 = (0..n).map(|i| cells[i * columns + chosen[i]]).sum();
     let decisions: Vec<u32> = (0..n)
@@ -55,9 +58,15 @@ pub fn of_rust(sheet: &Sheet, pass: &RustPass) -> Pass {
         })
         .collect();
     // The Rust's decisions come from the same choice, by way of its own code.
-    assert_eq!(decisions, pass.decisions, "the Rust's decisions and the choice it was handed differ");
+    assert_eq!(
+        decisions, pass.decisions,
+        "the Rust's decisions and the choice it was handed differ"
+    );
     let bound = m.min(usize::from(sheet.policy.limit)) * n;
-    assert!(pass.ranked <= bound as u64, "the Rust ranked more pairs than document 01's bound");
+    assert!(
+        pass.ranked <= bound as u64,
+        "the Rust ranked more pairs than document 01's bound"
+    );
     Pass {
         cars: n as u64,
         stops: m as u64,
@@ -80,8 +89,13 @@ pub fn passprint(rust: &mut Rust, bytes: &[u8]) -> String {
         Answer::Refused(r) => format!("refused {} at {}\n", r.number, r.offset),
         Answer::Passed(pass) => {
             let sheet = Sheet::of_accepted(bytes);
-            let mut out = format!("cars {} stops {} total {}\n", pass.cars, pass.stops, pass.total);
-            let idle: Vec<usize> = (0..sheet.cars.len()).filter(|i| sheet.cars[*i].idle).collect();
+            let mut out = format!(
+                "cars {} stops {} total {}\n",
+                pass.cars, pass.stops, pass.total
+            );
+            let idle: Vec<usize> = (0..sheet.cars.len())
+                .filter(|i| sheet.cars[*i].idle)
+                .collect();
             for (i, stop) in idle.iter().zip(&pass.decisions) {
                 let _ = match stop {
                     0 => writeln!(out, "car {} idle", sheet.cars[*i].id),
@@ -109,7 +123,11 @@ pub fn details(rust: &mut Rust, bytes: &[u8], with_ranks: bool) -> String {
         "cars {} stops {} columns {columns} total {} ranked {}\n",
         pass.cars, pass.stops, pass.total, found.ranked
     );
-    out += if pass.from_the_rust { "matrix rust\n" } else { "matrix document\n" };
+    out += if pass.from_the_rust {
+        "matrix rust\n"
+    } else {
+        "matrix document\n"
+    };
     for stop in &found.pending {
         let _ = writeln!(out, "pending {stop}");
     }
@@ -117,8 +135,10 @@ pub fn details(rust: &mut Rust, bytes: &[u8], with_ranks: bool) -> String {
         let _ = writeln!(out, "sweep {} {}", car.id, state(*sweep));
     }
     for (i, car) in found.idle.iter().enumerate() {
-        let row: Vec<String> =
-            pass.cells[i * columns..(i + 1) * columns].iter().map(u64::to_string).collect();
+        let row: Vec<String> = pass.cells[i * columns..(i + 1) * columns]
+            .iter()
+            .map(u64::to_string)
+            .collect();
         let _ = writeln!(out, "row {car} {}", row.join(" "));
     }
     for (car, stop) in found.idle.iter().zip(&pass.decisions) {
@@ -146,11 +166,24 @@ mod tests {
     fn one_car(strategy: u8, positions: &[f64]) -> Sheet {
         let mut s = Sheet::new(strategy);
         for (k, position) in positions.iter().enumerate() {
-            s.stops.push(Stop { id: k as u32 + 1, position: *position });
+            s.stops.push(Stop {
+                id: k as u32 + 1,
+                position: *position,
+            });
         }
-        s.lines.push(Line { id: 1, mask: (0..positions.len()).fold(0, |m, j| m | mask_bit(j)) });
-        s.cars.push(Car { phase: 6, ..Car::parked(1) });
-        s.demands.push(Demand { stop: 1, riding: 0, call: true });
+        s.lines.push(Line {
+            id: 1,
+            mask: (0..positions.len()).fold(0, |m, j| m | mask_bit(j)),
+        });
+        s.cars.push(Car {
+            phase: 6,
+            ..Car::parked(1)
+        });
+        s.demands.push(Demand {
+            stop: 1,
+            riding: 0,
+            call: true,
+        });
         s
     }
 
@@ -166,7 +199,10 @@ mod tests {
     fn cases_of_document_01() {
         assert_eq!(cells(&one_car(SCAN, &[0.0078125])), [7_813]);
         assert_eq!(cells(&one_car(SCAN, &[0.00390625])), [3_906]);
-        for (weight, cell) in [(281_474_976.0, 281_474_976_000_000), (281_474_977.0, 281_474_976_710_655)] {
+        for (weight, cell) in [
+            (281_474_976.0, 281_474_976_000_000),
+            (281_474_977.0, 281_474_976_710_655),
+        ] {
             let mut s = one_car(ETD, &[2.0]);
             s.policy.weights[0] = weight;
             assert_eq!(cells(&s), [cell]);
@@ -199,9 +235,17 @@ mod tests {
             s.demands.clear();
             (s.cars[0].phase, s.cars[0].target) = (3, Some(1));
             for weight in [60.0, second] {
-                s.waiting.push(Waiting { stop: 1, line: None, destination: None, weight, wait: 0 });
+                s.waiting.push(Waiting {
+                    stop: 1,
+                    line: None,
+                    destination: None,
+                    weight,
+                    wait: 0,
+                });
             }
-            let Answer::Passed(pass) = answer(&mut Rust::new(), &s.write()) else { panic!() };
+            let Answer::Passed(pass) = answer(&mut Rust::new(), &s.write()) else {
+                panic!()
+            };
             assert_eq!(pass.stops, stops);
         }
     }
@@ -209,6 +253,9 @@ mod tests {
     #[test]
     fn example_of_document_01() {
         let lines = "cars 2 stops 2 total 10000000\ncar 7 stop 2\ncar 8 stop 3\nsweep 7 up strict\nsweep 8 down lenient\n";
-        assert_eq!(passprint(&mut Rust::new(), &Sheet::example().write()), lines);
+        assert_eq!(
+            passprint(&mut Rust::new(), &Sheet::example().write()),
+            lines
+        );
     }
 }

@@ -103,9 +103,15 @@ impl Linked {
         let find = |name: &std::ffi::CStr| unsafe { dlsym(library, name.as_ptr()) };
         unsafe {
             Ok(Self {
-                read: std::mem::transmute::<*mut c_void, Option<Read>>(find(c"dispatch_bench_read")),
-                pass: std::mem::transmute::<*mut c_void, Option<Pass>>(find(c"dispatch_bench_pass")),
-                choose: std::mem::transmute::<*mut c_void, Option<Choose>>(find(c"dispatch_bench_choose")),
+                read: std::mem::transmute::<*mut c_void, Option<Read>>(find(
+                    c"dispatch_bench_read",
+                )),
+                pass: std::mem::transmute::<*mut c_void, Option<Pass>>(find(
+                    c"dispatch_bench_pass",
+                )),
+                choose: std::mem::transmute::<*mut c_void, Option<Choose>>(find(
+                    c"dispatch_bench_choose",
+                )),
             })
         }
     }

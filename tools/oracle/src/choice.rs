@@ -23,7 +23,9 @@ pub fn expected(
     }
     let cells: Vec<i64> = cells.iter().map(|c| *c as i64).collect();
     let chosen = least_choice(cars, columns, &cells);
-    let total = (0..cars).map(|i| cells[i * columns + chosen[i]]).sum::<i64>();
+    let total = (0..cars)
+        .map(|i| cells[i * columns + chosen[i]])
+        .sum::<i64>();
     Some((chosen.iter().map(|j| *j as u32).collect(), total as u64))
 }
 
@@ -38,7 +40,13 @@ pub struct Matrix {
 /// Matrix `index` under a seed: mostly well formed, of every size, with ties, sentinels and ceilings.
 pub fn generate(seed: u64, index: u64) -> Matrix {
     let rng = &mut Rng::new(seed, 100, index);
-    let size = |rng: &mut Rng, most: usize| if rng.one_in(4) { most } else { rng.below(most + 1) };
+    let size = |rng: &mut Rng, most: usize| {
+        if rng.one_in(4) {
+            most
+        } else {
+            rng.below(most + 1)
+        }
+    };
     let small = !rng.one_in(8);
     let columns = if small { rng.below(9) } else { size(rng, 64) };
     let cars = size(rng, columns.min(32));
@@ -71,7 +79,12 @@ pub fn generate(seed: u64, index: u64) -> Matrix {
         9 => (cars, columns) = (rng.pick(&[usize::MAX, 1 << 63]), rng.pick(&[2, usize::MAX])),
         _ => {}
     }
-    Matrix { cars, columns, cells, places }
+    Matrix {
+        cars,
+        columns,
+        cells,
+        places,
+    }
 }
 
 /// Drops rows and columns, then lowers cells, as long as the test holds.
@@ -93,7 +106,10 @@ pub fn shrink(matrix: &Matrix, holds: &mut dyn FnMut(&Matrix) -> bool) -> Matrix
             }
             for j in (0..best.columns).rev() {
                 let mut m = best.clone();
-                m.cells = (0..m.cells.len()).filter(|k| k % m.columns != j).map(|k| m.cells[k]).collect();
+                m.cells = (0..m.cells.len())
+                    .filter(|k| k % m.columns != j)
+                    .map(|k| m.cells[k])
+                    .collect();
                 m.columns -= 1;
                 if holds(&m) {
                     best = m;

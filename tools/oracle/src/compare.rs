@@ -27,11 +27,18 @@ impl Difference {
 }
 
 fn plain(what: &'static str, detail: &str) -> Option<Difference> {
-    Some(Difference { what, detail: detail.into(), refusal: 0 })
+    Some(Difference {
+        what,
+        detail: detail.into(),
+        refusal: 0,
+    })
 }
 
 fn differ<T: std::fmt::Debug>(what: &'static str, expected: T, found: T) -> Option<Difference> {
-    plain(what, &format!("expected {expected:?}, the bench has {found:?}"))
+    plain(
+        what,
+        &format!("expected {expected:?}, the bench has {found:?}"),
+    )
 }
 
 /// What was looked at.
@@ -57,14 +64,22 @@ pub struct Comparison<'a> {
 impl<'a> Comparison<'a> {
     pub fn new(bench: &'a mut dyn Bench) -> Self {
         let has = bench.has();
-        Self { rust: Rust::new(), bench, has, tally: Tally::default() }
+        Self {
+            rust: Rust::new(),
+            bench,
+            has,
+            tally: Tally::default(),
+        }
     }
 
     /// The first difference on one sheet.
     pub fn sheet(&mut self, bytes: &[u8]) -> Option<Difference> {
         let refusal = read(bytes);
         let found = self.against(bytes, refusal);
-        found.map(|d| Difference { refusal: refusal.map_or(0, |r| r.number), ..d })
+        found.map(|d| Difference {
+            refusal: refusal.map_or(0, |r| r.number),
+            ..d
+        })
     }
 
     fn against(&mut self, bytes: &[u8], refusal: Option<Refusal>) -> Option<Difference> {
@@ -86,12 +101,18 @@ impl<'a> Comparison<'a> {
             None if self.has.pass => answer(&mut self.rust, bytes),
             None => return None,
         };
-        if self.has.pass { self.pass(bytes, &right) } else { None }
+        if self.has.pass {
+            self.pass(bytes, &right)
+        } else {
+            None
+        }
     }
 
     fn pass(&mut self, bytes: &[u8], right: &Answer) -> Option<Difference> {
         // Lengths at and above the least, by the bytes.
-        let mix = bytes.iter().fold(7usize, |h, b| h.wrapping_mul(31).wrapping_add(usize::from(*b)));
+        let mix = bytes.iter().fold(7usize, |h, b| {
+            h.wrapping_mul(31).wrapping_add(usize::from(*b))
+        });
         let fresh = Lent::new(32 + mix % 3, 2048 + mix / 3 % 3, 32 + mix / 9 % 3);
         if mix % 16 == 0 {
             let short = match mix / 16 % 4 {
@@ -119,7 +140,12 @@ impl<'a> Comparison<'a> {
                 if lent.offset != r.offset {
                     return differ("pass: offset", r.offset, lent.offset);
                 }
-                if lent != (Lent { offset: r.offset, ..fresh }) {
+                if lent
+                    != (Lent {
+                        offset: r.offset,
+                        ..fresh
+                    })
+                {
                     return plain("pass: refusal writes", "a refusal changed a lent buffer");
                 }
                 self.tally.refused += 1;
@@ -152,7 +178,10 @@ impl<'a> Comparison<'a> {
         if let Some(k) = (0..n).find(|k| lent.matrix[*k] != pass.cells[*k]) {
             let columns = pass.cars.max(pass.stops) as usize;
             let at = format!("row {} column {}: ", k / columns, k % columns);
-            let detail = format!("{at}expected {}, the bench has {}", pass.cells[k], lent.matrix[k]);
+            let detail = format!(
+                "{at}expected {}, the bench has {}",
+                pass.cells[k], lent.matrix[k]
+            );
             return plain("pass: cell", &detail);
         }
         if lent.total != pass.total {
@@ -171,10 +200,17 @@ impl<'a> Comparison<'a> {
             || lent.sweeps[s..] != fresh.sweeps[s..]
             || lent.offset != fresh.offset
         {
-            return plain("pass: further entries", "an entry beyond what a pass writes was changed");
+            return plain(
+                "pass: further entries",
+                "an entry beyond what a pass writes was changed",
+            );
         }
         if lent.ranked > pass.rank_bound {
-            return differ("pass: ranked pairs above the bound", pass.rank_bound, lent.ranked);
+            return differ(
+                "pass: ranked pairs above the bound",
+                pass.rank_bound,
+                lent.ranked,
+            );
         }
         None
     }
@@ -183,12 +219,15 @@ impl<'a> Comparison<'a> {
         let right = choice::expected(m.cars, m.columns, &m.cells, m.places);
         let fresh = (vec![0xdead_beefu32; m.places], 0xa3a3_a3a3_a3a3u64);
         let (mut chosen, mut total) = fresh.clone();
-        let answer = self.bench.choose(m.cars, m.columns, &m.cells, &mut chosen, &mut total);
+        let answer = self
+            .bench
+            .choose(m.cars, m.columns, &m.cells, &mut chosen, &mut total);
         match right {
             None if answer == 0 => differ("choose: none", "none", "a choice"),
-            None if (&chosen, total) != (&fresh.0, fresh.1) => {
-                plain("choose: none writes", "an answer of none changed a lent buffer")
-            }
+            None if (&chosen, total) != (&fresh.0, fresh.1) => plain(
+                "choose: none writes",
+                "an answer of none changed a lent buffer",
+            ),
             None => None,
             Some(_) if answer != 0 => differ("choose: choice", "a choice", "none"),
             Some((columns, sum)) => {
@@ -198,7 +237,10 @@ impl<'a> Comparison<'a> {
                 } else if total != sum {
                     differ("choose: total", sum, total)
                 } else if chosen[n..] != fresh.0[n..] {
-                    plain("choose: further places", "a place beyond the cars was changed")
+                    plain(
+                        "choose: further places",
+                        "a place beyond the cars was changed",
+                    )
                 } else {
                     None
                 }
@@ -226,7 +268,13 @@ pub fn sheets(c: &mut Comparison, profile: Profile, seed: u64, count: u64) -> Op
             let small = shrink(&bytes, &mut |b| c.sheet(b).is_some_and(|d| d.like(&first)));
             let difference = c.sheet(&small).unwrap();
             c.tally = tally;
-            return Some(Found { index, first, small: difference, bytes: small, matrix: None });
+            return Some(Found {
+                index,
+                first,
+                small: difference,
+                bytes: small,
+                matrix: None,
+            });
         }
     }
     None
@@ -237,9 +285,17 @@ pub fn matrices(c: &mut Comparison, seed: u64, count: u64) -> Option<Found> {
     for index in 0..count {
         let matrix = choice::generate(seed, index);
         if let Some(first) = c.matrix(&matrix) {
-            let small = choice::shrink(&matrix, &mut |m| c.matrix(m).is_some_and(|d| d.like(&first)));
+            let small = choice::shrink(&matrix, &mut |m| {
+                c.matrix(m).is_some_and(|d| d.like(&first))
+            });
             let difference = c.matrix(&small).unwrap();
-            return Some(Found { index, first, small: difference, bytes: Vec::new(), matrix: Some(small) });
+            return Some(Found {
+                index,
+                first,
+                small: difference,
+                bytes: Vec::new(),
+                matrix: Some(small),
+            });
         }
     }
     None
@@ -247,11 +303,17 @@ pub fn matrices(c: &mut Comparison, seed: u64, count: u64) -> Option<Found> {
 
 /// Prints a difference with everything needed to see it again.
 pub fn report(rust: &mut Rust, profile: &str, seed: u64, found: &Found) {
-    println!("DIFFERENCE in {profile}, seed {seed}, number {}", found.index);
+    println!(
+        "DIFFERENCE in {profile}, seed {seed}, number {}",
+        found.index
+    );
     println!("  first seen: {}: {}", found.first.what, found.first.detail);
     println!("  smallest:   {}: {}", found.small.what, found.small.detail);
     if let Some(m) = &found.matrix {
-        println!("  cars {} columns {} places {} cells {:?}", m.cars, m.columns, m.places, m.cells);
+        println!(
+            "  cars {} columns {} places {} cells {:?}",
+            m.cars, m.columns, m.places, m.cells
+        );
         return;
     }
     println!("  {} bytes:", found.bytes.len());
@@ -274,7 +336,14 @@ pub fn run(bench: &mut dyn Bench, seed: u64, count: u64, only: Option<&str>) -> 
     let has = bench.has();
     let mut clean = true;
     let said = |name: &str, there: bool| {
-        println!("{name}: {}", if there { "compared" } else { "NOT COMPARED, the library has no such function" });
+        println!(
+            "{name}: {}",
+            if there {
+                "compared"
+            } else {
+                "NOT COMPARED, the library has no such function"
+            }
+        );
     };
     said("dispatch_bench_read", has.read);
     said("dispatch_bench_pass", has.pass);
@@ -290,7 +359,11 @@ pub fn run(bench: &mut dyn Bench, seed: u64, count: u64, only: Option<&str>) -> 
             let start = Instant::now();
             let mut c = Comparison::new(bench);
             // A full sheet is some thirty times the size of an ordinary one.
-            let count = if profile == Profile::Full { count.div_ceil(20) } else { count };
+            let count = if profile == Profile::Full {
+                count.div_ceil(20)
+            } else {
+                count
+            };
             let found = sheets(&mut c, profile, seed, count);
             let t = &c.tally;
             let seconds = start.elapsed().as_secs_f64();
@@ -304,7 +377,11 @@ pub fn run(bench: &mut dyn Bench, seed: u64, count: u64, only: Option<&str>) -> 
                 t.rust_passes,
                 t.cells,
                 t.document_passes,
-                if numbers.is_empty() { "none".into() } else { numbers.join(" ") },
+                if numbers.is_empty() {
+                    "none".into()
+                } else {
+                    numbers.join(" ")
+                },
             );
             if let Some(found) = found {
                 clean = false;
@@ -316,7 +393,10 @@ pub fn run(bench: &mut dyn Bench, seed: u64, count: u64, only: Option<&str>) -> 
         let start = Instant::now();
         let mut c = Comparison::new(bench);
         let found = matrices(&mut c, seed, count);
-        println!("matrices: {count} in {:.1} s", start.elapsed().as_secs_f64());
+        println!(
+            "matrices: {count} in {:.1} s",
+            start.elapsed().as_secs_f64()
+        );
         if let Some(found) = found {
             clean = false;
             report(&mut Rust::new(), "matrices", seed, &found);
@@ -337,7 +417,11 @@ pub fn selftest(count: u64, only: Option<&str>) -> bool {
         let mut c = Comparison::new(&mut bench);
         let mut caught = None;
         for (name, profile) in PROFILES {
-            let count = if profile == Profile::Full { count.div_ceil(100) } else { count };
+            let count = if profile == Profile::Full {
+                count.div_ceil(100)
+            } else {
+                count
+            };
             if let Some(found) = sheets(&mut c, profile, 1, count) {
                 caught = Some((name, found));
                 break;
@@ -349,7 +433,10 @@ pub fn selftest(count: u64, only: Option<&str>) -> bool {
         let right = caught.is_some() == (fault != Fault::None);
         good &= right;
         match caught {
-            None => println!("{fault:?}: no difference{}", if right { "" } else { ", WRONG" }),
+            None => println!(
+                "{fault:?}: no difference{}",
+                if right { "" } else { ", WRONG" }
+            ),
             Some((name, found)) => {
                 let size = match &found.matrix {
                     Some(m) => format!("{} x {} matrix {:?}", m.cars, m.columns, m.cells),
@@ -385,9 +472,15 @@ pub fn selftest(count: u64, only: Option<&str>) -> bool {
 pub fn survey(seed: u64, count: u64) {
     for (name, profile) in PROFILES {
         let mut rust = Rust::new();
-        let count = if profile == Profile::Full { count.div_ceil(20) } else { count };
-        let (mut passes, mut cells, mut sent, mut idle, mut zero, mut held) = (0, 0u64, 0u64, 0u64, 0u64, 0u64);
-        let (mut ranks, mut ranked, mut minus_zero, mut covered, mut cut) = (0u64, 0u64, 0u64, 0u64, 0u64);
+        let count = if profile == Profile::Full {
+            count.div_ceil(20)
+        } else {
+            count
+        };
+        let (mut passes, mut cells, mut sent, mut idle, mut zero, mut held) =
+            (0, 0u64, 0u64, 0u64, 0u64, 0u64);
+        let (mut ranks, mut ranked, mut minus_zero, mut covered, mut cut) =
+            (0u64, 0u64, 0u64, 0u64, 0u64);
         for index in 0..count {
             let bytes = generate(profile, seed, index);
             if read(&bytes).is_some() {
@@ -399,7 +492,10 @@ pub fn survey(seed: u64, count: u64) {
                 let bit = sheetgen::sheet::mask_bit(*j);
                 sheet.lines.iter().any(|l| l.mask & bit != 0)
                     && (sheet.waiting.iter().any(|w| w.stop == s.id)
-                        || sheet.demands.iter().any(|d| d.stop == s.id && (d.call || d.riding > 0)))
+                        || sheet
+                            .demands
+                            .iter()
+                            .any(|d| d.stop == s.id && (d.call || d.riding > 0)))
             });
             covered += u64::from(demand.count() > pass.pending.len());
             let Some(found) = &pass.cells else { continue };
@@ -408,10 +504,17 @@ pub fn survey(seed: u64, count: u64) {
             sent += pass.decisions.iter().filter(|d| **d != 0).count() as u64;
             idle += pass.decisions.iter().filter(|d| **d == 0).count() as u64;
             zero += found.iter().filter(|c| **c == 0).count() as u64;
-            held += found.iter().filter(|c| **c == crate::answer::SENTINEL - 1).count() as u64;
+            held += found
+                .iter()
+                .filter(|c| **c == crate::answer::SENTINEL - 1)
+                .count() as u64;
             ranks += pass.ranks.len() as u64;
             ranked += pass.ranks.iter().filter(|r| r.2.is_some()).count() as u64;
-            minus_zero += pass.ranks.iter().filter(|r| r.2.is_some_and(|c| c.to_bits() == 1 << 63)).count() as u64;
+            minus_zero += pass
+                .ranks
+                .iter()
+                .filter(|r| r.2.is_some_and(|c| c.to_bits() == 1 << 63))
+                .count() as u64;
             cut += u64::from((pass.ranked as usize) < pass.idle.len() * pass.pending.len());
         }
         println!(

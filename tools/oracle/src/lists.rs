@@ -14,7 +14,11 @@ use crate::paper::{FAULTS, Fault, Paper};
 use crate::rust_pass::Rust;
 
 fn put(list: &mut Vec<u8>, sheet: &[u8]) {
-    list.extend(u16::try_from(sheet.len()).expect("a sheet of the lists fits 16 bits").to_be_bytes());
+    list.extend(
+        u16::try_from(sheet.len())
+            .expect("a sheet of the lists fits 16 bits")
+            .to_be_bytes(),
+    );
     list.extend(sheet);
 }
 
@@ -34,26 +38,50 @@ impl Cases {
 fn tables(cases: &mut Cases) {
     let base = || {
         let mut s = Sheet::new(sheetgen::sheet::SCAN);
-        s.stops.push(Stop { id: 1, position: 0.0 });
+        s.stops.push(Stop {
+            id: 1,
+            position: 0.0,
+        });
         s.lines.push(Line { id: 1, mask: 0 });
         s.cars.push(Car::parked(1));
         s
     };
     for more in [0, 1] {
         let mut s = Sheet::new(sheetgen::sheet::SCAN);
-        s.stops = (1..=64 + more).map(|id| Stop { id, position: f64::from(id) }).collect();
+        s.stops = (1..=64 + more)
+            .map(|id| Stop {
+                id,
+                position: f64::from(id),
+            })
+            .collect();
         cases.add(s.write());
         let mut s = Sheet::new(sheetgen::sheet::SCAN);
         s.lines = (1..=8 + more).map(|id| Line { id, mask: 0 }).collect();
         cases.add(s.write());
         let mut s = base();
-        s.cars = (1..=32 + more).map(|id| Car { id, ..Car::parked(1) }).collect();
+        s.cars = (1..=32 + more)
+            .map(|id| Car {
+                id,
+                ..Car::parked(1)
+            })
+            .collect();
         cases.add(s.write());
         let mut s = base();
-        s.aboard = (0..512 + more).map(|_| Aboard { car: 1, destination: None }).collect();
+        s.aboard = (0..512 + more)
+            .map(|_| Aboard {
+                car: 1,
+                destination: None,
+            })
+            .collect();
         cases.add(s.write());
         let mut s = base();
-        let rider = Waiting { stop: 1, line: None, destination: None, weight: 0.0, wait: 0 };
+        let rider = Waiting {
+            stop: 1,
+            line: None,
+            destination: None,
+            weight: 0.0,
+            wait: 0,
+        };
         s.waiting = (0..512 + more).map(|_| rider.clone()).collect();
         cases.add(s.write());
     }
@@ -64,7 +92,14 @@ fn key(sheet: &[u8]) -> (u32, usize) {
     read(sheet).map_or((0, 0), |r| {
         let at = r.offset as usize;
         let stated = at >= 24 && at + 6 <= sheet.len() * 8;
-        (r.number, if stated { bits::get(sheet, at, 6).min(8) as usize } else { 0 })
+        (
+            r.number,
+            if stated {
+                bits::get(sheet, at, 6).min(8) as usize
+            } else {
+                0
+            },
+        )
     })
 }
 
@@ -76,7 +111,11 @@ fn smallest(cases: &mut Cases, from: impl Iterator<Item = Vec<u8>>, each: usize)
     }
     for mut found in by_key.into_values() {
         found.sort_by_key(|sheet| sheet.len());
-        found.into_iter().filter(|s| s.len() <= 700).take(each).for_each(|s| cases.add(s));
+        found
+            .into_iter()
+            .filter(|s| s.len() <= 700)
+            .take(each)
+            .for_each(|s| cases.add(s));
     }
 }
 
@@ -92,8 +131,16 @@ pub fn refusals(seed: u64) -> (Vec<u8>, usize) {
         let make = |k| provoke::provoke(&mut Rng::new(seed, 200, k * ways + way), way).bytes;
         smallest(&mut cases, (0..400).map(make), 3);
     }
-    smallest(&mut cases, (0..4000).map(|k| generate(Profile::Damaged, seed, k)), 1);
-    smallest(&mut cases, (0..4000).map(|k| generate(Profile::Garbage, seed, k)), 1);
+    smallest(
+        &mut cases,
+        (0..4000).map(|k| generate(Profile::Damaged, seed, k)),
+        1,
+    );
+    smallest(
+        &mut cases,
+        (0..4000).map(|k| generate(Profile::Garbage, seed, k)),
+        1,
+    );
     let mut list = Vec::new();
     for case in &cases.0 {
         let (number, offset) = read(case).map_or((0, 0), |r| (r.number, r.offset));
@@ -114,7 +161,10 @@ fn telling(seed: u64, count: u64, each: usize) -> Cases {
         let mut c = Comparison::new(&mut bench);
         c.has.read = false;
         for (_, profile) in PROFILES {
-            if matches!(profile, Profile::Full | Profile::Damaged | Profile::Provoked | Profile::Garbage) {
+            if matches!(
+                profile,
+                Profile::Full | Profile::Damaged | Profile::Provoked | Profile::Garbage
+            ) {
                 continue;
             }
             let tells = |c: &mut Comparison, b: &[u8]| {
@@ -132,7 +182,12 @@ fn telling(seed: u64, count: u64, each: usize) -> Cases {
     for (_, profile) in PROFILES {
         let mut left = each;
         for index in 0.. {
-            if left == 0 || matches!(profile, Profile::Full | Profile::Provoked | Profile::Garbage) {
+            if left == 0
+                || matches!(
+                    profile,
+                    Profile::Full | Profile::Provoked | Profile::Garbage
+                )
+            {
                 break;
             }
             let bytes = generate(profile, seed + 1, index);
@@ -166,7 +221,9 @@ pub fn passes(seed: u64) -> (Vec<u8>, usize) {
     let mut list = Vec::new();
     let cases = telling(seed, 600, 10).0;
     for case in &cases {
-        let Answer::Passed(pass) = answer(&mut rust, case) else { unreachable!() };
+        let Answer::Passed(pass) = answer(&mut rust, case) else {
+            unreachable!()
+        };
         put(&mut list, case);
         put_pass(&mut list, &pass);
     }

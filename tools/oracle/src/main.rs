@@ -57,11 +57,23 @@ fn run(args: &[&str]) -> Result<(), String> {
     match args {
         ["compare", library, seed, count, rest @ ..] if rest.len() < 2 => {
             let mut bench = bench::Linked::load(library)?;
-            return clean(compare::run(&mut bench, number(seed)?, number(count)?, rest.first().copied()));
+            return clean(compare::run(
+                &mut bench,
+                number(seed)?,
+                number(count)?,
+                rest.first().copied(),
+            ));
         }
         ["papers", seed, count, rest @ ..] if rest.len() < 2 => {
-            let mut bench = paper::Paper { fault: paper::Fault::None };
-            return clean(compare::run(&mut bench, number(seed)?, number(count)?, rest.first().copied()));
+            let mut bench = paper::Paper {
+                fault: paper::Fault::None,
+            };
+            return clean(compare::run(
+                &mut bench,
+                number(seed)?,
+                number(count)?,
+                rest.first().copied(),
+            ));
         }
         ["limits", seed, count] => return clean(compare::limits(number(seed)?, number(count)?)),
         ["survey", seed, count] => {
@@ -94,12 +106,16 @@ fn run(args: &[&str]) -> Result<(), String> {
         ["passprint", rest @ ..] if rest.len() < 2 => {
             answer::passprint(&mut rust, &input(rest.first().copied()).map_err(fault)?)
         }
-        ["pass", "--ranks", rest @ ..] if rest.len() < 2 => {
-            answer::details(&mut rust, &input(rest.first().copied()).map_err(fault)?, true)
-        }
-        ["pass", rest @ ..] if rest.len() < 2 => {
-            answer::details(&mut rust, &input(rest.first().copied()).map_err(fault)?, false)
-        }
+        ["pass", "--ranks", rest @ ..] if rest.len() < 2 => answer::details(
+            &mut rust,
+            &input(rest.first().copied()).map_err(fault)?,
+            true,
+        ),
+        ["pass", rest @ ..] if rest.len() < 2 => answer::details(
+            &mut rust,
+            &input(rest.first().copied()).map_err(fault)?,
+            false,
+        ),
         _ => return Err(USAGE.into()),
     };
     std::io::stdout().write_all(text.as_bytes()).map_err(fault)

@@ -149,17 +149,25 @@ impl Paper {
             (Fault::EmptyCount, Some((6, 24))) if bits::get(sheet, 8, 16) == 0 => Some((2, 24)),
             (Fault::SecondPolicy, Some((7, at))) if kind(at) == 1 => Some((6, at)),
             (Fault::UnknownKindFirst, Some((2, at)))
-                if at as usize + 22 <= sheet.len() * 8 && at > 0 && !(1..=7).contains(&kind(at)) =>
+                if at as usize + 22 <= sheet.len() * 8
+                    && at > 0
+                    && !(1..=7).contains(&kind(at)) =>
             {
                 Some((4, at))
             }
             (Fault::MinusZero, None) => {
                 let s = Sheet::of_accepted(sheet);
-                s.cars.iter().any(|c| c.load.to_bits() == 1 << 63).then_some((11, 24))
+                s.cars
+                    .iter()
+                    .any(|c| c.load.to_bits() == 1 << 63)
+                    .then_some((11, 24))
             }
             (Fault::ThresholdEnd, None) => {
                 let s = Sheet::of_accepted(sheet);
-                s.cars.iter().any(|c| c.up_threshold == Some(1000.0)).then_some((11, 24))
+                s.cars
+                    .iter()
+                    .any(|c| c.up_threshold == Some(1000.0))
+                    .then_some((11, 24))
             }
             (_, right) => right,
         }
@@ -167,7 +175,9 @@ impl Paper {
 
     fn chosen(&self, cars: usize, columns: usize, cells: &[u64]) -> Vec<usize> {
         let signed = |f: &dyn Fn(usize, usize) -> i64| -> Vec<i64> {
-            (0..cars * columns).map(|k| f(k / columns, k % columns)).collect()
+            (0..cars * columns)
+                .map(|k| f(k / columns, k % columns))
+                .collect()
         };
         let cell = |i: usize, j: usize| cells[i * columns + j] as i64;
         match self.fault {
@@ -180,14 +190,23 @@ impl Paper {
                 let mut free = vec![true; columns];
                 (0..cars)
                     .map(|i| {
-                        let j = (0..columns).filter(|j| free[*j]).min_by_key(|j| cell(i, *j)).unwrap();
+                        let j = (0..columns)
+                            .filter(|j| free[*j])
+                            .min_by_key(|j| cell(i, *j))
+                            .unwrap();
                         free[j] = false;
                         j
                     })
                     .collect()
             }
             Fault::MostSent => {
-                let heavy = signed(&|i, j| if cell(i, j) == SENTINEL { 1 << 55 } else { cell(i, j) });
+                let heavy = signed(&|i, j| {
+                    if cell(i, j) == SENTINEL {
+                        1 << 55
+                    } else {
+                        cell(i, j)
+                    }
+                });
                 pathfinding::least_choice(cars, columns, &heavy)
             }
             _ => pathfinding::least_choice(cars, columns, &signed(&cell)),
@@ -214,7 +233,14 @@ fn nth(mask: u64, j: usize) -> bool {
 impl<'a> Pass<'a> {
     fn new(fault: Fault, sheet: &'a Sheet) -> Self {
         let group = sheet.lines.iter().fold(0, |mask, l| mask | l.mask);
-        let mut pass = Self { fault, sheet, group, demand: 0, pending: 0, sweeps: Vec::new() };
+        let mut pass = Self {
+            fault,
+            sheet,
+            group,
+            demand: 0,
+            pending: 0,
+            sweeps: Vec::new(),
+        };
         for j in 0..sheet.stops.len() {
             if pass.has_demand(j) {
                 pass.demand |= mask_bit(j);
@@ -223,7 +249,10 @@ impl<'a> Pass<'a> {
         let bound = |j: usize| {
             let id = sheet.stops[j].id;
             sheet.cars.iter().filter(|c| c.idle).any(|c| {
-                sheet.aboard.iter().any(|a| a.car == c.id && a.destination == Some(id))
+                sheet
+                    .aboard
+                    .iter()
+                    .any(|a| a.car == c.id && a.destination == Some(id))
             })
         };
         for j in 0..sheet.stops.len() {
@@ -254,7 +283,11 @@ impl<'a> Pass<'a> {
 
     fn has_demand(&self, j: usize) -> bool {
         let id = self.sheet.stops[j].id;
-        let riding = self.sheet.demands.iter().any(|d| d.stop == id && d.riding > 0);
+        let riding = self
+            .sheet
+            .demands
+            .iter()
+            .any(|d| d.stop == id && d.riding > 0);
         self.waiters(j).next().is_some() || riding && !self.is(Fault::RidingIgnored) || self.call(j)
     }
 
@@ -270,13 +303,20 @@ impl<'a> Pass<'a> {
     fn covered(&self, j: usize) -> bool {
         let id = self.sheet.stops[j].id;
         let serves = |c: &Car| {
-            let target =
-                if self.is(Fault::CoverByPhaseStop) { (c.stop != 0).then_some(c.stop) } else { c.target };
+            let target = if self.is(Fault::CoverByPhaseStop) {
+                (c.stop != 0).then_some(c.stop)
+            } else {
+                c.target
+            };
             target == Some(id)
                 && (matches!(c.phase, 1 | 3 | 4 | 5)
                     || c.phase == 2 && self.is(Fault::RepositioningServes))
         };
-        let serving: Vec<&Car> = self.group_cars().into_iter().filter(|c| serves(c)).collect();
+        let serving: Vec<&Car> = self
+            .group_cars()
+            .into_iter()
+            .filter(|c| serves(c))
+            .collect();
         if serving.is_empty() {
             return false;
         }
@@ -295,7 +335,11 @@ impl<'a> Pass<'a> {
             }
             weight += w.weight;
         }
-        if self.is(Fault::CoverBelow) { weight < capacity } else { weight <= capacity }
+        if self.is(Fault::CoverBelow) {
+            weight < capacity
+        } else {
+            weight <= capacity
+        }
     }
 
     fn sweep(&self, c: &Car) -> u8 {
@@ -324,11 +368,20 @@ impl<'a> Pass<'a> {
             };
             nth(among, j) && past
         });
-        if ahead { 2 * u8::from(c.sweep_down) } else { 2 * u8::from(!c.sweep_down) + 1 }
+        if ahead {
+            2 * u8::from(c.sweep_down)
+        } else {
+            2 * u8::from(!c.sweep_down) + 1
+        }
     }
 
     fn line_mask(&self, c: &Car) -> u64 {
-        self.sheet.lines.iter().find(|l| l.id == c.line).unwrap().mask
+        self.sheet
+            .lines
+            .iter()
+            .find(|l| l.id == c.line)
+            .unwrap()
+            .mask
     }
 
     fn distance(&self, from: f64, j: usize) -> f64 {
@@ -340,7 +393,11 @@ impl<'a> Pass<'a> {
         let limit = self.sheet.policy.limit;
         let none = limit == NO_LIMIT
             || self.sheet.policy.strategy == SCAN && self.is(Fault::NoCutUnderScan);
-        let among = if self.is(Fault::LimitBeforeLine) { self.pending } else { viable };
+        let among = if self.is(Fault::LimitBeforeLine) {
+            self.pending
+        } else {
+            viable
+        };
         let here = (self.distance(c.position, j), j);
         let before = (0..self.sheet.stops.len())
             .filter(|k| nth(among, *k))
@@ -357,25 +414,42 @@ impl<'a> Pass<'a> {
 
     /// The position of a stop by id.
     fn position(&self, id: u32) -> Option<f64> {
-        self.sheet.stops.iter().find(|s| s.id == id).map(|s| s.position)
+        self.sheet
+            .stops
+            .iter()
+            .find(|s| s.id == id)
+            .map(|s| s.position)
     }
 
     fn aboard(&self, c: &Car) -> Vec<Option<u32>> {
-        self.sheet.aboard.iter().filter(|a| a.car == c.id).map(|a| a.destination).collect()
+        self.sheet
+            .aboard
+            .iter()
+            .filter(|a| a.car == c.id)
+            .map(|a| a.destination)
+            .collect()
     }
 
     /// Where a moving or repositioning car is bound.
     fn heading(&self, c: &Car) -> Option<f64> {
-        if c.phase == 1 || c.phase == 2 { self.position(c.stop) } else { None }
+        if c.phase == 1 || c.phase == 2 {
+            self.position(c.stop)
+        } else {
+            None
+        }
     }
 
     fn bypass(&self, c: &Car, p: f64) -> bool {
-        let Some(target) = self.heading(c) else { return false };
+        let Some(target) = self.heading(c) else {
+            return false;
+        };
         let (up, down) = (target > c.position, target < c.position);
         if !up && !down {
             return false;
         }
-        let Some(threshold) = (if up { c.up_threshold } else { c.down_threshold }) else { return false };
+        let Some(threshold) = (if up { c.up_threshold } else { c.down_threshold }) else {
+            return false;
+        };
         if c.capacity <= 0.0 {
             return false;
         }
@@ -390,7 +464,9 @@ impl<'a> Pass<'a> {
         if w.weight > remaining || w.weight == remaining && self.is(Fault::BoardBelow) {
             return false;
         }
-        let Some(to) = w.destination.and_then(|id| self.position(id)) else { return true };
+        let Some(to) = w.destination.and_then(|id| self.position(id)) else {
+            return true;
+        };
         if self.is(Fault::LampsIgnored) {
             return true;
         }
@@ -425,7 +501,9 @@ impl<'a> Pass<'a> {
         }
         let to_stop = p - c.position;
         aboard.iter().any(|a| {
-            let Some(at) = a.and_then(|id| self.position(id)) else { return false };
+            let Some(at) = a.and_then(|id| self.position(id)) else {
+                return false;
+            };
             let to_there = at - c.position;
             let onward = if self.is(Fault::PathBySigns) {
                 !(to_there > 0.0 && to_stop < 0.0 || to_there < 0.0 && to_stop > 0.0)
@@ -437,7 +515,11 @@ impl<'a> Pass<'a> {
     }
 
     fn fma(&self, a: f64, b: f64, c: f64) -> f64 {
-        if self.is(Fault::Fused) { a.mul_add(b, c) } else { a * b + c }
+        if self.is(Fault::Fused) {
+            a.mul_add(b, c)
+        } else {
+            a * b + c
+        }
     }
 
     fn waits(&self, j: usize) -> f64 {
@@ -448,11 +530,16 @@ impl<'a> Pass<'a> {
         if self.is(Fault::SquareOfSum) {
             return self.waits(j) * self.waits(j);
         }
-        self.waiters(j).fold(0.0, |sum, w| sum + w.wait as f64 * w.wait as f64)
+        self.waiters(j)
+            .fold(0.0, |sum, w| sum + w.wait as f64 * w.wait as f64)
     }
 
     fn eased(&self, cost: f64, weight: f64, term: f64) -> f64 {
-        if weight > 0.0 { self.fma(weight, -term, cost).max(0.0) } else { cost }
+        if weight > 0.0 {
+            self.fma(weight, -term, cost).max(0.0)
+        } else {
+            cost
+        }
     }
 
     fn etd(&self, c: &Car, j: usize) -> Option<f64> {
@@ -464,11 +551,28 @@ impl<'a> Pass<'a> {
         if c.speed <= 0.0 && !self.is(Fault::SpeedZeroRanked) {
             return None;
         }
-        let travel = if c.speed > 0.0 { self.distance(c.position, j) / c.speed } else { 0.0 };
-        let transitions = if self.is(Fault::OneTransition) { 1.0 } else { 2.0 };
-        let door = (transitions * f64::from(c.transition) + f64::from(c.open)) / self.sheet.policy.tick_rate;
-        let (low, high) = if c.position < p { (c.position, p) } else { (p, c.position) };
-        let among = if self.is(Fault::CoveredNotCounted) { self.pending } else { self.demand & self.group };
+        let travel = if c.speed > 0.0 {
+            self.distance(c.position, j) / c.speed
+        } else {
+            0.0
+        };
+        let transitions = if self.is(Fault::OneTransition) {
+            1.0
+        } else {
+            2.0
+        };
+        let door = (transitions * f64::from(c.transition) + f64::from(c.open))
+            / self.sheet.policy.tick_rate;
+        let (low, high) = if c.position < p {
+            (c.position, p)
+        } else {
+            (p, c.position)
+        };
+        let among = if self.is(Fault::CoveredNotCounted) {
+            self.pending
+        } else {
+            self.demand & self.group
+        };
         let between = (0..self.sheet.stops.len())
             .filter(|k| nth(among, *k))
             .filter(|k| {
@@ -481,7 +585,12 @@ impl<'a> Pass<'a> {
             })
             .count() as f64;
         let mut delay = 0.0;
-        for to in self.aboard(c).into_iter().flatten().filter_map(|id| self.position(id)) {
+        for to in self
+            .aboard(c)
+            .into_iter()
+            .flatten()
+            .filter_map(|id| self.position(id))
+        {
             let direct = (c.position - to).abs();
             let detour = (c.position - p).abs() + (p - to).abs();
             if c.speed > 0.0 {
@@ -506,9 +615,17 @@ impl<'a> Pass<'a> {
             bonus *= w[0];
         }
         let raw = if self.is(Fault::OtherOrder) {
-            self.fma(w[2], between * door, self.fma(w[1], delay, self.fma(w[0], travel, bonus)))
+            self.fma(
+                w[2],
+                between * door,
+                self.fma(w[1], delay, self.fma(w[0], travel, bonus)),
+            )
         } else {
-            self.fma(w[0], travel, self.fma(w[1], delay, self.fma(w[2], between * door, bonus)))
+            self.fma(
+                w[0],
+                travel,
+                self.fma(w[1], delay, self.fma(w[2], between * door, bonus)),
+            )
         };
         let cost = raw.max(0.0);
         let cost = if self.is(Fault::AgeBeforeSquares) {
@@ -532,7 +649,12 @@ impl<'a> Pass<'a> {
         {
             let traffic = self.sheet.policy.traffic;
             let peak = traffic == 1 || traffic == 3 && !self.is(Fault::NoDownPeak);
-            cost += w[1] * if peak || self.is(Fault::AlwaysPeak) { w[5] } else { 1.0 };
+            cost += w[1]
+                * if peak || self.is(Fault::AlwaysPeak) {
+                    w[5]
+                } else {
+                    1.0
+                };
         }
         if w[2] > 0.0 && (nth(c.calls, j) || self.is(Fault::BonusWithoutCall)) {
             cost -= w[2];
@@ -567,7 +689,11 @@ impl<'a> Pass<'a> {
             Fault::CutOff => scaled.trunc(),
             _ => scaled.round(),
         };
-        let most = if self.is(Fault::CeilingIsSentinel) { SENTINEL } else { SENTINEL - 1 };
+        let most = if self.is(Fault::CeilingIsSentinel) {
+            SENTINEL
+        } else {
+            SENTINEL - 1
+        };
         whole.min(most as f64) as u64
     }
 
@@ -587,7 +713,11 @@ impl<'a> Pass<'a> {
 
 impl Bench for Paper {
     fn has(&self) -> Has {
-        Has { read: true, pass: true, choose: true }
+        Has {
+            read: true,
+            pass: true,
+            choose: true,
+        }
     }
 
     fn read(&mut self, sheet: &[u8]) -> (u32, u64) {
@@ -596,7 +726,11 @@ impl Bench for Paper {
 
     fn pass(&mut self, bytes: &[u8], lent: &mut Lent) -> u32 {
         let small = lent.decisions.len() < 32 || lent.matrix.len() < 2048 || lent.sweeps.len() < 32;
-        let refusal = if small { Some((1, 0)) } else { self.refusal(bytes) };
+        let refusal = if small {
+            Some((1, 0))
+        } else {
+            self.refusal(bytes)
+        };
         if let Some((number, offset)) = refusal {
             lent.offset = offset;
             if self.fault == Fault::RefusalWrites {
@@ -609,8 +743,12 @@ impl Bench for Paper {
         }
         let sheet = Sheet::of_accepted(bytes);
         let pass = Pass::new(self.fault, &sheet);
-        let idle: Vec<usize> = (0..sheet.cars.len()).filter(|i| sheet.cars[*i].idle).collect();
-        let pending: Vec<usize> = (0..sheet.stops.len()).filter(|j| nth(pass.pending, *j)).collect();
+        let idle: Vec<usize> = (0..sheet.cars.len())
+            .filter(|i| sheet.cars[*i].idle)
+            .collect();
+        let pending: Vec<usize> = (0..sheet.stops.len())
+            .filter(|j| nth(pass.pending, *j))
+            .collect();
         let (n, m) = (idle.len(), pending.len());
         let columns = n.max(m);
         let mut cells = vec![SENTINEL as u64; n * columns];
@@ -624,7 +762,11 @@ impl Bench for Paper {
         for row in 0..n {
             let cell = cells[row * columns + chosen[row]];
             let sent = chosen[row] < m && cell < SENTINEL as u64;
-            lent.decisions[row] = if sent { sheet.stops[pending[chosen[row]]].id } else { 0 };
+            lent.decisions[row] = if sent {
+                sheet.stops[pending[chosen[row]]].id
+            } else {
+                0
+            };
             if sent || self.fault != Fault::TotalOfSent {
                 lent.total += cell;
             }

@@ -13,8 +13,8 @@ use crate::components::{
     TransportMode,
 };
 use crate::dispatch::{
-    DispatchDecision, DispatchManifest, DispatchScratch, DispatchStrategy, ElevatorGroup, EtdDispatch,
-    LineInfo, RankContext, RiderInfo, RsrDispatch, ScanDispatch, assign_with_scratch,
+    DispatchDecision, DispatchManifest, DispatchScratch, DispatchStrategy, ElevatorGroup,
+    EtdDispatch, LineInfo, RankContext, RiderInfo, RsrDispatch, ScanDispatch, assign_with_scratch,
 };
 use crate::door::DoorState;
 use crate::entity::EntityId;
@@ -48,7 +48,12 @@ struct Limited {
 }
 
 impl DispatchStrategy for Limited {
-    fn pre_dispatch(&mut self, group: &ElevatorGroup, manifest: &DispatchManifest, world: &mut World) {
+    fn pre_dispatch(
+        &mut self,
+        group: &ElevatorGroup,
+        manifest: &DispatchManifest,
+        world: &mut World,
+    ) {
         self.inner.pre_dispatch(group, manifest, world);
     }
 
@@ -60,7 +65,8 @@ impl DispatchStrategy for Limited {
         manifest: &DispatchManifest,
         world: &World,
     ) {
-        self.inner.prepare_car(car, car_position, group, manifest, world);
+        self.inner
+            .prepare_car(car, car_position, group, manifest, world);
     }
 
     fn rank(&self, ctx: &RankContext<'_>) -> Option<f64> {
@@ -76,7 +82,8 @@ impl DispatchStrategy for Limited {
         manifest: &DispatchManifest,
         world: &World,
     ) -> DispatchDecision {
-        self.inner.fallback(car, car_position, group, manifest, world)
+        self.inner
+            .fallback(car, car_position, group, manifest, world)
     }
 
     fn candidate_limit(&self) -> Option<usize> {
@@ -155,12 +162,20 @@ fn build(sheet: &Sheet, traffic: &[TrafficDetector; 4]) -> Built {
     let mut stops = Vec::new();
     for s in &sheet.stops {
         let entity = stop_ids.get(&mut world, s.id);
-        world.set_stop(entity, Stop { name: String::new(), position: s.position });
+        world.set_stop(
+            entity,
+            Stop {
+                name: String::new(),
+                position: s.position,
+            },
+        );
         stops.push(entity);
     }
     let masked = |mask: u64| {
         let stops = &stops;
-        (0..stops.len()).filter(move |i| mask & mask_bit(*i) != 0).map(move |i| stops[i])
+        (0..stops.len())
+            .filter(move |i| mask & mask_bit(*i) != 0)
+            .map(move |i| stops[i])
     };
     let mut line_ids = Ids { of: HashMap::new() };
     for l in &sheet.lines {
@@ -177,7 +192,11 @@ fn build(sheet: &Sheet, traffic: &[TrafficDetector; 4]) -> Built {
     let mut idle = Vec::new();
     for (c, entity) in sheet.cars.iter().zip(&cars) {
         let bound = c.phase == 1 || c.phase == 2;
-        let at = if bound { stop_ids.get(&mut world, c.stop) } else { EntityId::default() };
+        let at = if bound {
+            stop_ids.get(&mut world, c.stop)
+        } else {
+            EntityId::default()
+        };
         let target_stop = c.target.map(|id| stop_ids.get(&mut world, id));
         world.set_elevator(
             *entity,
@@ -199,7 +218,9 @@ fn build(sheet: &Sheet, traffic: &[TrafficDetector; 4]) -> Built {
             },
         );
         world.set_position(*entity, Position::from(c.position));
-        let calls: Vec<CarCall> = masked(c.calls).map(|floor| CarCall::new(*entity, floor, 0)).collect();
+        let calls: Vec<CarCall> = masked(c.calls)
+            .map(|floor| CarCall::new(*entity, floor, 0))
+            .collect();
         if !calls.is_empty() {
             manifest.car_calls_by_car.insert(*entity, calls);
         }
@@ -213,7 +234,11 @@ fn build(sheet: &Sheet, traffic: &[TrafficDetector; 4]) -> Built {
             let to = stop_ids.get(&mut world, id);
             world.set_route(rider, Route::direct(to, to, group_id));
         }
-        world.elevator_mut(car_ids[&a.car]).unwrap().riders.push(rider);
+        world
+            .elevator_mut(car_ids[&a.car])
+            .unwrap()
+            .riders
+            .push(rider);
     }
     for w in &sheet.waiting {
         let rider = world.spawn();
@@ -225,10 +250,25 @@ fn build(sheet: &Sheet, traffic: &[TrafficDetector; 4]) -> Built {
         };
         if let Some(via) = via {
             // Of a waiting rider's route only `via` is read.
-            let leg = RouteLeg { from: stop, to: destination.unwrap_or(stop), via };
-            world.set_route(rider, Route { legs: vec![leg], current_leg: 0 });
+            let leg = RouteLeg {
+                from: stop,
+                to: destination.unwrap_or(stop),
+                via,
+            };
+            world.set_route(
+                rider,
+                Route {
+                    legs: vec![leg],
+                    current_leg: 0,
+                },
+            );
         }
-        let info = RiderInfo { id: rider, destination, weight: Weight::from(w.weight), wait_ticks: w.wait };
+        let info = RiderInfo {
+            id: rider,
+            destination,
+            weight: Weight::from(w.weight),
+            wait_ticks: w.wait,
+        };
         manifest.waiting_at_stop.entry(stop).or_default().push(info);
     }
     for d in &sheet.demands {
@@ -253,14 +293,23 @@ fn build(sheet: &Sheet, traffic: &[TrafficDetector; 4]) -> Built {
         .iter()
         .map(|l| {
             let entity = line_ids.of[&l.id];
-            let on_line = (0..cars.len()).filter(|i| sheet.cars[*i].line == l.id).map(|i| cars[i]);
+            let on_line = (0..cars.len())
+                .filter(|i| sheet.cars[*i].line == l.id)
+                .map(|i| cars[i]);
             LineInfo::new(entity, on_line.collect(), masked(l.mask).collect())
         })
         .collect();
     world.insert_resource(TickRate(sheet.policy.tick_rate));
     world.insert_resource(traffic[usize::from(sheet.policy.traffic)].clone());
     let group = ElevatorGroup::new(group_id, String::new(), lines);
-    Built { world, group, manifest, stops, cars, idle }
+    Built {
+        world,
+        group,
+        manifest,
+        stops,
+        cars,
+        idle,
+    }
 }
 
 /// Sets and reads a ScanDispatch's private sweep and mode through its published functions: a world with
@@ -286,7 +335,13 @@ impl Probe {
         }
         let [below, at, above] = [-1.0, 0.0, 1.0].map(|position| {
             let entity = world.spawn();
-            world.set_stop(entity, Stop { name: String::new(), position });
+            world.set_stop(
+                entity,
+                Stop {
+                    name: String::new(),
+                    position,
+                },
+            );
             entity
         });
         let called = |stops: &[EntityId]| {
@@ -300,14 +355,21 @@ impl Probe {
         let line = LineInfo::new(entities[0], entities.clone(), vec![below, at, above]);
         let group = ElevatorGroup::new(GroupId(0), String::new(), vec![line]);
         let (none, only_below, all) = (called(&[]), called(&[below]), called(&[below, at, above]));
-        Self { world, group, at, above, none, only_below, all }
+        Self {
+            world,
+            group,
+            at,
+            above,
+            none,
+            only_below,
+            all,
+        }
     }
 
     /// From up and strict, the state of a car never seen: with no demand the sweep turns and is lenient;
     /// with demand ahead it keeps its direction and is strict.
     fn set(&self, scan: &mut dyn DispatchStrategy, car: EntityId, down: bool, lenient: bool) {
-        let mut prepare =
-            |manifest| scan.prepare_car(car, 0.0, &self.group, manifest, &self.world);
+        let mut prepare = |manifest| scan.prepare_car(car, 0.0, &self.group, manifest, &self.world);
         match (down, lenient) {
             (false, false) => {}
             (true, true) => prepare(&self.none),
@@ -325,8 +387,13 @@ impl Probe {
     /// A lenient car accepts a stop where it stands, one going up a stop above.
     fn read(&self, scan: &dyn DispatchStrategy, car: EntityId) -> u8 {
         let accepts = |stop| {
-            let ctx =
-                RankContext { car, stop, group: &self.group, manifest: &self.all, world: &self.world };
+            let ctx = RankContext {
+                car,
+                stop,
+                group: &self.group,
+                manifest: &self.all,
+                world: &self.world,
+            };
             scan.rank(&ctx).is_some()
         };
         2 * u8::from(!accepts(self.above)) + u8::from(accepts(self.at))
@@ -344,12 +411,18 @@ impl Rust {
     pub fn new() -> Self {
         // The detector's mode is private; its own serialised form sets it.
         let traffic = ["Idle", "UpPeak", "InterFloor", "DownPeak"].map(|mode| {
-            let text = ron::to_string(&TrafficDetector::new()).unwrap().replace("current:Idle", &format!("current:{mode}"));
+            let text = ron::to_string(&TrafficDetector::new())
+                .unwrap()
+                .replace("current:Idle", &format!("current:{mode}"));
             let detector: TrafficDetector = ron::from_str(&text).unwrap();
             assert_eq!(format!("{:?}", detector.current_mode()), mode);
             detector
         });
-        Self { traffic, probe: Probe::new(), scratch: DispatchScratch::default() }
+        Self {
+            traffic,
+            probe: Probe::new(),
+            scratch: DispatchScratch::default(),
+        }
     }
 
     /// The pass over an accepted sheet.
@@ -385,7 +458,11 @@ impl Rust {
             }
         };
         let limit = (p.limit != NO_LIMIT).then_some(usize::from(p.limit));
-        let mut strategy = Limited { inner, limit, ranked: AtomicU64::new(0) };
+        let mut strategy = Limited {
+            inner,
+            limit,
+            ranked: AtomicU64::new(0),
+        };
         strategy.pre_dispatch(&built.group, &built.manifest, &mut built.world);
         self.scratch.clear_all();
         let result = assign_with_scratch(
@@ -397,8 +474,12 @@ impl Rust {
             &mut self.scratch,
         );
         let ranked = strategy.ranked.load(Ordering::Relaxed);
-        let id_of: HashMap<EntityId, u32> =
-            built.stops.iter().zip(&sheet.stops).map(|(e, s)| (*e, s.id)).collect();
+        let id_of: HashMap<EntityId, u32> = built
+            .stops
+            .iter()
+            .zip(&sheet.stops)
+            .map(|(e, s)| (*e, s.id))
+            .collect();
         let idle: Vec<u32> = sheet.cars.iter().filter(|c| c.idle).map(|c| c.id).collect();
         let pending_stops = &self.scratch.pending_stops;
         let pending: Vec<u32> = pending_stops.iter().map(|(e, _)| id_of[e]).collect();
@@ -410,8 +491,14 @@ impl Rust {
                 _ => 0,
             })
             .collect();
-        let cells = (!idle.is_empty() && !pending.is_empty())
-            .then(|| self.scratch.cost_matrix_mx.as_ref().unwrap().cells().to_vec());
+        let cells = (!idle.is_empty() && !pending.is_empty()).then(|| {
+            self.scratch
+                .cost_matrix_mx
+                .as_ref()
+                .unwrap()
+                .cells()
+                .to_vec()
+        });
         let sweeps = sheet
             .cars
             .iter()
@@ -440,6 +527,14 @@ impl Rust {
                 }
             }
         }
-        RustPass { idle, pending, cells, decisions, sweeps, ranked, ranks }
+        RustPass {
+            idle,
+            pending,
+            cells,
+            decisions,
+            sweeps,
+            ranked,
+            ranks,
+        }
     }
 }

@@ -13,7 +13,9 @@ fn opt<T: std::fmt::Debug>(value: &Option<T>) -> String {
 }
 
 fn mask(mask: u64, stops: usize) -> String {
-    (0..stops).map(|i| if mask >> (63 - i) & 1 == 1 { '1' } else { '0' }).collect()
+    (0..stops)
+        .map(|i| if mask >> (63 - i) & 1 == 1 { '1' } else { '0' })
+        .collect()
 }
 
 pub fn describe(sheet: &Sheet) -> String {
@@ -78,7 +80,13 @@ pub fn describe(sheet: &Sheet) -> String {
         );
     }
     for d in &sheet.demands {
-        let _ = writeln!(out, "demand {} riding {} call {}", d.stop, d.riding, u8::from(d.call));
+        let _ = writeln!(
+            out,
+            "demand {} riding {} call {}",
+            d.stop,
+            d.riding,
+            u8::from(d.call)
+        );
     }
     out
 }

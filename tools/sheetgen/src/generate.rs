@@ -72,7 +72,11 @@ pub fn generate(profile: Profile, seed: u64, index: u64) -> Vec<u8> {
 
 /// A sheet of one of the accepted profiles.
 pub fn accepted(profile: Profile, rng: &mut Rng) -> Sheet {
-    let size = if profile == Profile::Full { Size::full(rng) } else { Size::any(rng, profile) };
+    let size = if profile == Profile::Full {
+        Size::full(rng)
+    } else {
+        Size::any(rng, profile)
+    };
     let mut sheet = Maker { rng, profile }.sheet(&size);
     match profile {
         Profile::Fine => cancel(rng, &mut sheet),
@@ -84,9 +88,18 @@ pub fn accepted(profile: Profile, rng: &mut Rng) -> Sheet {
 
 /// Sets the weights so that the wait terms take nearly all of some car's travel term away.
 fn cancel(rng: &mut Rng, sheet: &mut Sheet) {
-    let Some(w) = sheet.waiting.first() else { return };
-    let Some(car) = sheet.cars.iter().find(|c| c.idle && c.speed > 0.0) else { return };
-    let at = sheet.stops.iter().find(|s| s.id == w.stop).unwrap().position;
+    let Some(w) = sheet.waiting.first() else {
+        return;
+    };
+    let Some(car) = sheet.cars.iter().find(|c| c.idle && c.speed > 0.0) else {
+        return;
+    };
+    let at = sheet
+        .stops
+        .iter()
+        .find(|s| s.id == w.stop)
+        .unwrap()
+        .position;
     let travel = (car.position - at).abs() / car.speed;
     let here = sheet.waiting.iter().filter(|v| v.stop == w.stop);
     let (mut sum, mut squares) = (0.0, 0.0);
@@ -130,27 +143,60 @@ fn cover(rng: &mut Rng, sheet: &mut Sheet) {
         c.phase = rng.pick(&[1, 3, 4, 5]);
         c.stop = if c.phase == 1 { first } else { 0 };
         c.capacity = rng.pick(&amounts);
-        c.load = if rng.flag() { 0.0 } else { rng.pick(&amounts).min(c.capacity) };
+        c.load = if rng.flag() {
+            0.0
+        } else {
+            rng.pick(&amounts).min(c.capacity)
+        };
     }
     let left = |c: &&Car| c.target == Some(first) && matches!(c.phase, 1 | 3 | 4 | 5);
-    let by_line = sheet.lines.iter().flat_map(|l| sheet.cars.iter().filter(|c| c.line == l.id));
-    let group = by_line.filter(left).fold(0.0, |sum, c| sum + (c.capacity - c.load));
-    let record = sheet.cars.iter().filter(left).fold(0.0, |sum, c| sum + (c.capacity - c.load));
-    let back = sheet.cars.iter().rev().filter(left).fold(0.0, |sum, c| sum + (c.capacity - c.load));
+    let by_line = sheet
+        .lines
+        .iter()
+        .flat_map(|l| sheet.cars.iter().filter(|c| c.line == l.id));
+    let group = by_line
+        .filter(left)
+        .fold(0.0, |sum, c| sum + (c.capacity - c.load));
+    let record = sheet
+        .cars
+        .iter()
+        .filter(left)
+        .fold(0.0, |sum, c| sum + (c.capacity - c.load));
+    let back = sheet
+        .cars
+        .iter()
+        .rev()
+        .filter(left)
+        .fold(0.0, |sum, c| sum + (c.capacity - c.load));
     let weight: f64 = rng.pick(&[group, record, back]);
     if !(0.0..=1e9).contains(&weight) {
         return;
     }
     sheet.waiting.retain(|w| w.stop != first);
-    let first_part = if rng.flag() { 0.0 } else { rng.pick(&amounts).min(weight) };
+    let first_part = if rng.flag() {
+        0.0
+    } else {
+        rng.pick(&amounts).min(weight)
+    };
     for weight in [first_part, weight - first_part] {
-        sheet.waiting.push(Waiting { stop: first, line: None, destination: None, weight, wait: 1 });
+        sheet.waiting.push(Waiting {
+            stop: first,
+            line: None,
+            destination: None,
+            weight,
+            wait: 1,
+        });
     }
 }
 
 /// A small accepted sheet with at least one record of each kind.
 pub fn any_small(rng: &mut Rng) -> Sheet {
-    let profile = rng.pick(&[Profile::Valid, Profile::Ties, Profile::Near, Profile::Extreme]);
+    let profile = rng.pick(&[
+        Profile::Valid,
+        Profile::Ties,
+        Profile::Near,
+        Profile::Extreme,
+    ]);
     let size = Size {
         stops: 1 + rng.below(6),
         lines: 1 + rng.below(3),
@@ -200,14 +246,39 @@ impl Size {
             1..=5 => 1,
             _ => 1 + rng.below(4),
         };
-        let aboard = if rng.one_in(3) { 0 } else { rng.below(3 * cars + 1) };
-        let waiting = if rng.one_in(5) { 0 } else { rng.below(2 * stops + 2) };
-        let demands = if rng.one_in(4) { 0 } else { rng.below(stops + 1) };
-        Self { stops, lines, cars, aboard, waiting, demands }
+        let aboard = if rng.one_in(3) {
+            0
+        } else {
+            rng.below(3 * cars + 1)
+        };
+        let waiting = if rng.one_in(5) {
+            0
+        } else {
+            rng.below(2 * stops + 2)
+        };
+        let demands = if rng.one_in(4) {
+            0
+        } else {
+            rng.below(stops + 1)
+        };
+        Self {
+            stops,
+            lines,
+            cars,
+            aboard,
+            waiting,
+            demands,
+        }
     }
 
     fn full(rng: &mut Rng) -> Self {
-        let mut near = |most: usize| if rng.one_in(3) { most - rng.below(most / 4 + 1) } else { most };
+        let mut near = |most: usize| {
+            if rng.one_in(3) {
+                most - rng.below(most / 4 + 1)
+            } else {
+                most
+            }
+        };
         Self {
             stops: near(64),
             lines: near(8),
@@ -237,7 +308,11 @@ impl Maker<'_> {
         sheet.policy = self.policy();
         let mut id = if self.rng.one_in(10) { 0x7fff_ff00 } else { 0 };
         for _ in 0..size.stops {
-            id += 1 + if self.rng.one_in(4) { self.rng.below(50) as u32 } else { 0 };
+            id += 1 + if self.rng.one_in(4) {
+                self.rng.below(50) as u32
+            } else {
+                0
+            };
             let position = self.position(&sheet.stops);
             sheet.stops.push(Stop { id, position });
         }
@@ -303,7 +378,11 @@ impl Maker<'_> {
     }
 
     fn opt_stop(&mut self, sheet: &Sheet) -> Option<u32> {
-        if self.rng.one_in(6) { None } else { Some(self.stop_id(sheet)) }
+        if self.rng.one_in(6) {
+            None
+        } else {
+            Some(self.stop_id(sheet))
+        }
     }
 
     fn policy(&mut self) -> Policy {
@@ -320,7 +399,8 @@ impl Maker<'_> {
         };
         let tick_rate = match self.profile {
             Profile::Extreme => {
-                self.rng.pick(&[1.0, 1.0000000000000002, 60.0, 999_999.999, 1_000_000.0, 3.7])
+                self.rng
+                    .pick(&[1.0, 1.0000000000000002, 60.0, 999_999.999, 1_000_000.0, 3.7])
             }
             _ => self.rng.pick(&[60.0, 60.0, 30.0, 20.0, 1.0]),
         };
@@ -335,7 +415,13 @@ impl Maker<'_> {
                 weights[3] = if self.rng.one_in(4) { -0.0 } else { 0.0 };
             }
         }
-        Policy { strategy, limit, tick_rate, traffic: self.rng.below(4) as u8, weights }
+        Policy {
+            strategy,
+            limit,
+            tick_rate,
+            traffic: self.rng.below(4) as u8,
+            weights,
+        }
     }
 
     fn weight(&mut self, strategy: u8, k: usize) -> f64 {
@@ -368,7 +454,8 @@ impl Maker<'_> {
                 let base = if !stops.is_empty() && self.rng.flag() {
                     stops[self.rng.below(stops.len())].position
                 } else {
-                    self.rng.pick(&[0.0, -0.0, 1.0, -1.0, 1.0, 1000.0, 0.1, 999_999.0])
+                    self.rng
+                        .pick(&[0.0, -0.0, 1.0, -1.0, 1.0, 1000.0, 0.1, 999_999.0])
                 };
                 let step = self.rng.below(7) as f64 - 3.0;
                 let by = match self.rng.below(6) {
@@ -462,13 +549,23 @@ impl Maker<'_> {
 
     fn car(&mut self, id: u32, sheet: &Sheet) -> Car {
         let line = sheet.lines[self.rng.below(sheet.lines.len())].id;
-        let phase = if self.rng.one_in(3) { 0 } else { self.rng.below(7) as u8 };
-        let stop = if phase == 1 || phase == 2 { self.stop_id(sheet) } else { 0 };
+        let phase = if self.rng.one_in(3) {
+            0
+        } else {
+            self.rng.below(7) as u8
+        };
+        let stop = if phase == 1 || phase == 2 {
+            self.stop_id(sheet)
+        } else {
+            0
+        };
         let target = match self.rng.below(5) {
             0 => None,
             1 if stop != 0 => Some(stop),
             // A few stops that several cars serve.
-            2 | 3 if !sheet.stops.is_empty() => Some(sheet.stops[self.rng.below(sheet.stops.len().min(4))].id),
+            2 | 3 if !sheet.stops.is_empty() => {
+                Some(sheet.stops[self.rng.below(sheet.stops.len().min(4))].id)
+            }
             _ => Some(self.stop_id(sheet)),
         };
         let position = if !sheet.stops.is_empty() && self.rng.one_in(3) {
@@ -526,7 +623,12 @@ impl Maker<'_> {
 
     fn waiting(&mut self, sheet: &Sheet) -> Waiting {
         let n = sheet.stops.len();
-        let stop = sheet.stops[if self.rng.flag() { self.rng.below(n.min(4)) } else { self.rng.below(n) }].id;
+        let stop = sheet.stops[if self.rng.flag() {
+            self.rng.below(n.min(4))
+        } else {
+            self.rng.below(n)
+        }]
+        .id;
         let line = match self.rng.below(8) {
             0 | 1 if !sheet.lines.is_empty() => {
                 Some(sheet.lines[self.rng.below(sheet.lines.len())].id)
@@ -548,12 +650,20 @@ impl Maker<'_> {
         let wait = match (self.profile, self.rng.below(5)) {
             (Profile::Extreme, 0) => 1 << 53,
             (Profile::Extreme, 1) => (1 << 53) - self.rng.next() % 5,
-            (Profile::Extreme | Profile::Fine, 2 | 3) => self.rng.next() >> (11 + self.rng.below(53)),
+            (Profile::Extreme | Profile::Fine, 2 | 3) => {
+                self.rng.next() >> (11 + self.rng.below(53))
+            }
             (Profile::Ties, _) => self.rng.pick(&[0, 60]),
             (_, 0) => 0,
             _ => self.rng.next() % 10_000,
         };
-        Waiting { stop, line, destination, weight, wait }
+        Waiting {
+            stop,
+            line,
+            destination,
+            weight,
+            wait,
+        }
     }
 }
 
@@ -561,7 +671,11 @@ impl Maker<'_> {
 fn ulps(value: f64, by: i64) -> f64 {
     // Doubles in rising order are consecutive whole numbers, minus zero left out.
     let size = (value.to_bits() << 1 >> 1) as i64;
-    let place = if value.is_sign_negative() { -size } else { size } + by;
+    let place = if value.is_sign_negative() {
+        -size
+    } else {
+        size
+    } + by;
     let moved = f64::from_bits(place.unsigned_abs());
     (if place < 0 { -moved } else { moved }).clamp(-1e6, 1e6)
 }
@@ -591,16 +705,55 @@ pub fn records(bytes: &[u8]) -> Vec<(usize, usize)> {
 /// Starts and widths of the fields of a body, optional ones with their present bit apart.
 pub const FIELDS: [&[(usize, usize)]; 8] = [
     &[],
-    &[(0, 2), (2, 16), (18, 64), (82, 2), (84, 64), (148, 64), (212, 64), (276, 64), (340, 64), (404, 64)],
+    &[
+        (0, 2),
+        (2, 16),
+        (18, 64),
+        (82, 2),
+        (84, 64),
+        (148, 64),
+        (212, 64),
+        (276, 64),
+        (340, 64),
+        (404, 64),
+    ],
     &[(0, 32), (32, 64)],
     &[(0, 32), (32, 64)],
     &[
-        (0, 32), (32, 32), (64, 3), (67, 32), (99, 1), (100, 32), (132, 1), (133, 1), (134, 1), (135, 1),
-        (136, 1), (137, 64), (201, 64), (265, 64), (329, 64), (393, 1), (394, 64), (458, 1), (459, 64),
-        (523, 32), (555, 32), (587, 64), (651, 64),
+        (0, 32),
+        (32, 32),
+        (64, 3),
+        (67, 32),
+        (99, 1),
+        (100, 32),
+        (132, 1),
+        (133, 1),
+        (134, 1),
+        (135, 1),
+        (136, 1),
+        (137, 64),
+        (201, 64),
+        (265, 64),
+        (329, 64),
+        (393, 1),
+        (394, 64),
+        (458, 1),
+        (459, 64),
+        (523, 32),
+        (555, 32),
+        (587, 64),
+        (651, 64),
     ],
     &[(0, 32), (32, 1), (33, 32)],
-    &[(0, 32), (32, 1), (33, 32), (65, 1), (66, 32), (98, 64), (162, 64)],
+    &[
+        (0, 32),
+        (32, 1),
+        (33, 32),
+        (65, 1),
+        (66, 32),
+        (98, 64),
+        (162, 64),
+    ],
     &[(0, 32), (32, 16), (48, 1)],
 ];
 
@@ -645,15 +798,18 @@ fn damage(rng: &mut Rng, bytes: &mut Vec<u8>) {
                     bits::set(bytes, at, 6, rng.next() % 10);
                 } else {
                     let near = BODY_BITS[kind.min(7)] as u64;
-                    let length = rng.pick(&[near + 1, near.wrapping_sub(1) & 0xffff, 0, 65_535, 96, 65]);
+                    let length =
+                        rng.pick(&[near + 1, near.wrapping_sub(1) & 0xffff, 0, 65_535, 96, 65]);
                     bits::set(bytes, at + 6, 16, length);
                 }
             }
         }
         _ => {
             // A field of a record gets a value that some rule may refuse.
-            let found: Vec<_> =
-                records(bytes).into_iter().filter(|(_, kind)| (1..=7).contains(kind)).collect();
+            let found: Vec<_> = records(bytes)
+                .into_iter()
+                .filter(|(_, kind)| (1..=7).contains(kind))
+                .collect();
             if !found.is_empty() {
                 let (at, kind) = found[rng.below(found.len())];
                 let (from, width) = FIELDS[kind][rng.below(FIELDS[kind].len())];
@@ -667,7 +823,11 @@ fn damage(rng: &mut Rng, bytes: &mut Vec<u8>) {
 }
 
 fn odd_value(rng: &mut Rng, width: usize) -> u64 {
-    let all = if width == 64 { u64::MAX } else { (1 << width) - 1 };
+    let all = if width == 64 {
+        u64::MAX
+    } else {
+        (1 << width) - 1
+    };
     let value = match rng.below(6) {
         0 => 0,
         1 => all,
@@ -723,10 +883,17 @@ mod tests {
     #[test]
     fn accepted_profiles_are_accepted_and_written_as_read() {
         for (name, profile) in PROFILES {
-            if matches!(profile, Profile::Damaged | Profile::Provoked | Profile::Garbage) {
+            if matches!(
+                profile,
+                Profile::Damaged | Profile::Provoked | Profile::Garbage
+            ) {
                 continue;
             }
-            for index in 0..if profile == Profile::Full { 500 } else { 20_000 } {
+            for index in 0..if profile == Profile::Full {
+                500
+            } else {
+                20_000
+            } {
                 let bytes = generate(profile, 3, index);
                 assert_eq!(read(&bytes), None, "{name} {index}");
                 assert_eq!(Sheet::of_accepted(&bytes).write(), bytes, "{name} {index}");

@@ -28,7 +28,9 @@ fn run(args: &[String]) -> Result<(), String> {
     let words: Vec<&str> = args.iter().map(String::as_str).collect();
     let fault = |e: std::io::Error| e.to_string();
     match words.as_slice() {
-        ["example"] => std::io::stdout().write_all(&Sheet::example().write()).map_err(fault),
+        ["example"] => std::io::stdout()
+            .write_all(&Sheet::example().write())
+            .map_err(fault),
         ["generate", name, seed, index] => {
             let names: Vec<_> = PROFILES.iter().map(|p| p.0).collect();
             let profile = profile(name).ok_or(format!("profiles: {}", names.join(" ")))?;

@@ -8,8 +8,8 @@ use crate::generate::{any_small, records};
 use crate::reader::Refusal;
 use crate::rng::Rng;
 use crate::sheet::{
-    Aboard, BODY_BITS, Car, ETD, HEAD_BITS, Line, MOST, NO_LIMIT, RECORD_HEAD_BITS, RSR, SCAN, Sheet, Stop,
-    Waiting,
+    Aboard, BODY_BITS, Car, ETD, HEAD_BITS, Line, MOST, NO_LIMIT, RECORD_HEAD_BITS, RSR, SCAN,
+    Sheet, Stop, Waiting,
 };
 
 pub struct Provoked {
@@ -74,16 +74,32 @@ const WAYS: &[Way] = &[
 ];
 
 fn refused(name: &'static str, bytes: Vec<u8>, number: u32, offset: usize) -> Provoked {
-    Provoked { bytes, expected: Some(Refusal { number, offset: offset as u64 }), name }
+    Provoked {
+        bytes,
+        expected: Some(Refusal {
+            number,
+            offset: offset as u64,
+        }),
+        name,
+    }
 }
 
 fn accepted(name: &'static str, bytes: Vec<u8>) -> Provoked {
-    Provoked { bytes, expected: None, name }
+    Provoked {
+        bytes,
+        expected: None,
+        name,
+    }
 }
 
 /// Where record `nth` of a kind starts in a written sheet.
 fn start(bytes: &[u8], kind: usize, nth: usize) -> usize {
-    records(bytes).iter().filter(|r| r.1 == kind).nth(nth).unwrap().0
+    records(bytes)
+        .iter()
+        .filter(|r| r.1 == kind)
+        .nth(nth)
+        .unwrap()
+        .0
 }
 
 fn body(at: usize) -> usize {
@@ -95,7 +111,9 @@ fn rows(bytes: &[u8]) -> Vec<Vec<u64>> {
     records(bytes)
         .iter()
         .map(|(at, kind)| {
-            (*at..body(*at) + BODY_BITS[*kind]).map(|k| bits::get(bytes, k, 1)).collect()
+            (*at..body(*at) + BODY_BITS[*kind])
+                .map(|k| bits::get(bytes, k, 1))
+                .collect()
         })
         .collect()
 }
@@ -207,7 +225,11 @@ fn wrong_length(rng: &mut Rng) -> Provoked {
         3 => BODY_BITS[1 + rng.below(7)],
         _ => rng.below(room + 1),
     };
-    let length = if length > room || length == right { right - 1 } else { length };
+    let length = if length > room || length == right {
+        right - 1
+    } else {
+        length
+    };
     bits::set(&mut bytes, at + 6, 16, length as u64);
     // A wrong length is 5 whatever the order.
     let other = 1 + rng.below(7);
@@ -243,8 +265,10 @@ fn kinds_fall(rng: &mut Rng) -> Provoked {
     let mut rows = rows(&any_small(rng).write());
     let from = rng.below(rows.len() - 1);
     let kind = kind_of(&rows[from]);
-    let later: Vec<usize> =
-        (0..rows.len()).filter(|k| kind_of(&rows[*k]) > kind).map(|k| k + 1).collect();
+    let later: Vec<usize> = (0..rows.len())
+        .filter(|k| kind_of(&rows[*k]) > kind)
+        .map(|k| k + 1)
+        .collect();
     if later.is_empty() {
         return strategy_three(rng);
     }
@@ -282,25 +306,43 @@ fn full(rng: &mut Rng) -> Sheet {
         if sheet.stops.len() == MOST[2] {
             break;
         }
-        sheet.stops.push(Stop { id: last + k, position: f64::from(k) });
+        sheet.stops.push(Stop {
+            id: last + k,
+            position: f64::from(k),
+        });
     }
     let unused = |taken: &dyn Fn(u32) -> bool| (1..).find(|id| !taken(*id)).unwrap();
     while sheet.lines.len() < MOST[3] {
         let id = unused(&|id| sheet.lines.iter().any(|l| l.id == id));
-        sheet.lines.push(Line { id, mask: rng.next() });
+        sheet.lines.push(Line {
+            id,
+            mask: rng.next(),
+        });
     }
     while sheet.cars.len() < MOST[4] {
         let id = unused(&|id| sheet.cars.iter().any(|c| c.id == id));
         let line = sheet.lines[rng.below(8)].id;
-        sheet.cars.push(Car { id, ..Car::parked(line) });
+        sheet.cars.push(Car {
+            id,
+            ..Car::parked(line)
+        });
     }
     while sheet.aboard.len() < MOST[5] {
         let car = sheet.cars[rng.below(32)].id;
-        sheet.aboard.push(Aboard { car, destination: None });
+        sheet.aboard.push(Aboard {
+            car,
+            destination: None,
+        });
     }
     while sheet.waiting.len() < MOST[6] {
         let stop = sheet.stops[rng.below(64)].id;
-        sheet.waiting.push(Waiting { stop, line: None, destination: None, weight: 1.0, wait: 0 });
+        sheet.waiting.push(Waiting {
+            stop,
+            line: None,
+            destination: None,
+            weight: 1.0,
+            wait: 0,
+        });
     }
     sheet
 }
@@ -312,7 +354,10 @@ fn one_too_many(rng: &mut Rng) -> Provoked {
     if rng.flag() {
         rows.retain(|row| kind_of(row) <= kind as u64);
     }
-    let last = rows.iter().rposition(|row| kind_of(row) == kind as u64).unwrap();
+    let last = rows
+        .iter()
+        .rposition(|row| kind_of(row) == kind as u64)
+        .unwrap();
     let mut copy = rows[last].clone();
     scramble(rng, &mut copy);
     rows.insert(last + 1, copy);
@@ -367,23 +412,40 @@ fn unused_phase_stop(rng: &mut Rng) -> Provoked {
 }
 
 /// Kind, start of the optional field, its width.
-const OPTIONAL: [(usize, usize, usize); 6] =
-    [(4, 99, 32), (4, 393, 64), (4, 458, 64), (5, 32, 32), (6, 32, 32), (6, 65, 32)];
+const OPTIONAL: [(usize, usize, usize); 6] = [
+    (4, 99, 32),
+    (4, 393, 64),
+    (4, 458, 64),
+    (5, 32, 32),
+    (6, 32, 32),
+    (6, 65, 32),
+];
 
 fn absent_with_bits(rng: &mut Rng) -> Provoked {
     let mut bytes = any_small(rng).write();
     let (kind, from, width) = rng.pick(&OPTIONAL);
-    let found: Vec<_> = records(&bytes).into_iter().filter(|r| r.1 == kind).collect();
+    let found: Vec<_> = records(&bytes)
+        .into_iter()
+        .filter(|r| r.1 == kind)
+        .collect();
     let at = found[rng.below(found.len())].0;
     bits::set(&mut bytes, body(at) + from, 1, 0);
-    bits::set(&mut bytes, body(at) + from + 1, width, 1 << rng.below(width));
+    bits::set(
+        &mut bytes,
+        body(at) + from + 1,
+        width,
+        1 << rng.below(width),
+    );
     refused("absent field with a one bit", bytes, 8, at)
 }
 
 fn zero_id(rng: &mut Rng) -> Provoked {
     let mut bytes = any_small(rng).write();
     let (kind, from) = rng.pick(&[(2, 0), (3, 0), (4, 0), (4, 32), (5, 0), (6, 0), (7, 0)]);
-    let found: Vec<_> = records(&bytes).into_iter().filter(|r| r.1 == kind).collect();
+    let found: Vec<_> = records(&bytes)
+        .into_iter()
+        .filter(|r| r.1 == kind)
+        .collect();
     let at = found[rng.below(found.len())].0;
     bits::set(&mut bytes, body(at) + from, 32, 0);
     refused("id 0", bytes, 9, at)
@@ -402,7 +464,10 @@ fn zero_phase_stop(rng: &mut Rng) -> Provoked {
 fn zero_present_id(rng: &mut Rng) -> Provoked {
     let mut bytes = any_small(rng).write();
     let (kind, from) = rng.pick(&[(4, 99), (5, 32), (6, 32), (6, 65)]);
-    let found: Vec<_> = records(&bytes).into_iter().filter(|r| r.1 == kind).collect();
+    let found: Vec<_> = records(&bytes)
+        .into_iter()
+        .filter(|r| r.1 == kind)
+        .collect();
     let at = found[rng.below(found.len())].0;
     bits::set(&mut bytes, body(at) + from, 33, 1 << 32);
     refused("present id 0", bytes, 9, at)
@@ -412,7 +477,11 @@ fn stop_not_above(rng: &mut Rng) -> Provoked {
     let mut sheet = any_small(rng);
     let last = sheet.stops.last().unwrap().id;
     let k = sheet.stops.len();
-    let id = if rng.flag() || last == 1 { last } else { 1 + rng.below(last as usize - 1) as u32 };
+    let id = if rng.flag() || last == 1 {
+        last
+    } else {
+        1 + rng.below(last as usize - 1) as u32
+    };
     sheet.stops.push(Stop { id, position: 0.0 });
     let bytes = sheet.write();
     let at = start(&bytes, 2, k);
@@ -423,7 +492,10 @@ fn repeated_line(rng: &mut Rng) -> Provoked {
     let mut sheet = any_small(rng);
     let id = sheet.lines[rng.below(sheet.lines.len())].id;
     // Its mask may be wrong as well: 9 comes first.
-    sheet.lines.push(Line { id, mask: rng.next() });
+    sheet.lines.push(Line {
+        id,
+        mask: rng.next(),
+    });
     let bytes = sheet.write();
     let at = start(&bytes, 3, sheet.lines.len() - 1);
     refused("repeated line id", bytes, 9, at)
@@ -490,7 +562,12 @@ fn no_such_record(rng: &mut Rng) -> Provoked {
 fn mask_past_the_stops(rng: &mut Rng) -> Provoked {
     let mut sheet = any_small(rng);
     let n = sheet.stops.len();
-    let past = 1u64 << if rng.flag() { 63 - n } else { rng.below(64 - n) };
+    let past = 1u64
+        << if rng.flag() {
+            63 - n
+        } else {
+            rng.below(64 - n)
+        };
     let (kind, k) = match rng.below(3) {
         0 => {
             let k = rng.below(sheet.lines.len());
@@ -522,7 +599,10 @@ fn below(value: f64) -> f64 {
 }
 
 /// A double of a sheet that is present and used, and the ends of its range.
-fn a_double<'a>(rng: &mut Rng, sheet: &'a mut Sheet) -> (usize, usize, &'a mut f64, f64, f64, bool) {
+fn a_double<'a>(
+    rng: &mut Rng,
+    sheet: &'a mut Sheet,
+) -> (usize, usize, &'a mut f64, f64, f64, bool) {
     const AMOUNT: f64 = 1_000_000_000.0;
     const PLACE: f64 = 1_000_000.0;
     match rng.below(13) {
@@ -536,7 +616,14 @@ fn a_double<'a>(rng: &mut Rng, sheet: &'a mut Sheet) -> (usize, usize, &'a mut f
         3 => {
             sheet.policy.strategy = ETD;
             sheet.policy.weights[5] = 0.0;
-            (1, 0, &mut sheet.policy.weights[rng.below(5)], 0.0, AMOUNT, false)
+            (
+                1,
+                0,
+                &mut sheet.policy.weights[rng.below(5)],
+                0.0,
+                AMOUNT,
+                false,
+            )
         }
         4 => {
             let k = rng.below(sheet.stops.len());
@@ -618,8 +705,12 @@ fn limit_inside(rng: &mut Rng) -> Provoked {
 fn ticks_outside(rng: &mut Rng) -> Provoked {
     let mut sheet = any_small(rng);
     let k = a_car(rng, &sheet);
-    (sheet.cars[k].transition, sheet.cars[k].open) =
-        rng.pick(&[(1 << 31, 0), (2_147_483_647, 2), (1, u32::MAX - 1), (u32::MAX, u32::MAX)]);
+    (sheet.cars[k].transition, sheet.cars[k].open) = rng.pick(&[
+        (1 << 31, 0),
+        (2_147_483_647, 2),
+        (1, u32::MAX - 1),
+        (u32::MAX, u32::MAX),
+    ]);
     let bytes = sheet.write();
     let at = start(&bytes, 4, k);
     refused("door ticks above 32 bits", bytes, 13, at)
@@ -700,7 +791,12 @@ fn fewer_stated_than_there(rng: &mut Rng) -> Provoked {
     let rows = rows(&sheet.write());
     let count = 1 + rng.below(rows.len() - 1);
     let (bytes, starts) = assemble(&rows, count);
-    refused("fewer records stated than there are", bytes, 16, starts[count])
+    refused(
+        "fewer records stated than there are",
+        bytes,
+        16,
+        starts[count],
+    )
 }
 
 #[cfg(test)]

@@ -25,25 +25,40 @@ struct Seen {
 pub fn read(bytes: &[u8]) -> Option<Refusal> {
     let end = bytes.len() * 8;
     if end < HEAD_BITS {
-        return Some(Refusal { number: 2, offset: 0 });
+        return Some(Refusal {
+            number: 2,
+            offset: 0,
+        });
     }
     if get(bytes, 0, 8) != EDITION {
-        return Some(Refusal { number: 3, offset: 0 });
+        return Some(Refusal {
+            number: 3,
+            offset: 0,
+        });
     }
     let count = get(bytes, 8, 16);
     if count == 0 {
-        return Some(Refusal { number: 6, offset: 24 });
+        return Some(Refusal {
+            number: 6,
+            offset: 24,
+        });
     }
     let mut seen = Seen::default();
     let mut at = HEAD_BITS;
     for _ in 0..count {
         if let Some(number) = record(bytes, end, at, &mut seen) {
-            return Some(Refusal { number, offset: at as u64 });
+            return Some(Refusal {
+                number,
+                offset: at as u64,
+            });
         }
         at += RECORD_HEAD_BITS + BODY_BITS[seen.kind];
     }
     if end - at > 7 || get(bytes, at, end - at) != 0 {
-        return Some(Refusal { number: 16, offset: at as u64 });
+        return Some(Refusal {
+            number: 16,
+            offset: at as u64,
+        });
     }
     None
 }
@@ -215,8 +230,7 @@ fn car(f: Field, seen: &Seen) -> Option<u32> {
     }
     let at = |k: usize| double(f(POSITION + 64 * k, 64));
     let speed = at(1);
-    let threshold =
-        |from: usize| f(from, 1) == 0 || within(double(f(from + 1, 64)), 0.0, 1_000.0);
+    let threshold = |from: usize| f(from, 1) == 0 || within(double(f(from + 1, 64)), 0.0, 1_000.0);
     if !position(at(0))
         || !(speed == 0.0 || within(speed, 1.0 / 1_024.0, 1_000.0))
         || !amount(at(2))

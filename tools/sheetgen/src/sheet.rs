@@ -104,8 +104,13 @@ pub fn mask_bit(index: usize) -> u64 {
 
 impl Sheet {
     pub fn new(strategy: u8) -> Self {
-        let policy =
-            Policy { strategy, limit: NO_LIMIT, tick_rate: 60.0, traffic: 0, weights: [0.0; 6] };
+        let policy = Policy {
+            strategy,
+            limit: NO_LIMIT,
+            tick_rate: 60.0,
+            traffic: 0,
+            weights: [0.0; 6],
+        };
         Self {
             policy,
             stops: Vec::new(),
@@ -183,7 +188,10 @@ impl Sheet {
         let mut sheet = Self::new(ETD);
         for _ in 0..count {
             let kind = bits::get(bytes, at, 6) as usize;
-            let mut f = Fields { bytes, at: at + RECORD_HEAD_BITS };
+            let mut f = Fields {
+                bytes,
+                at: at + RECORD_HEAD_BITS,
+            };
             match kind {
                 1 => {
                     sheet.policy = Policy {
@@ -194,10 +202,19 @@ impl Sheet {
                         weights: [0; 6].map(|_: u8| f.double()),
                     }
                 }
-                2 => sheet.stops.push(Stop { id: f.id(), position: f.double() }),
-                3 => sheet.lines.push(Line { id: f.id(), mask: f.next(64) }),
+                2 => sheet.stops.push(Stop {
+                    id: f.id(),
+                    position: f.double(),
+                }),
+                3 => sheet.lines.push(Line {
+                    id: f.id(),
+                    mask: f.next(64),
+                }),
                 4 => sheet.cars.push(f.car()),
-                5 => sheet.aboard.push(Aboard { car: f.id(), destination: f.opt_id() }),
+                5 => sheet.aboard.push(Aboard {
+                    car: f.id(),
+                    destination: f.opt_id(),
+                }),
                 6 => sheet.waiting.push(Waiting {
                     stop: f.id(),
                     line: f.opt_id(),
@@ -222,12 +239,23 @@ impl Sheet {
         for (id, position) in [(1, 0.0), (2, 10.0), (3, 20.0)] {
             sheet.stops.push(Stop { id, position });
         }
-        sheet.lines.push(Line { id: 1, mask: 0b111 << 61 });
+        sheet.lines.push(Line {
+            id: 1,
+            mask: 0b111 << 61,
+        });
         for (id, position) in [(7, 0.0), (8, 20.0)] {
-            sheet.cars.push(Car { id, position, ..Car::parked(1) });
+            sheet.cars.push(Car {
+                id,
+                position,
+                ..Car::parked(1)
+            });
         }
         for stop in [2, 3] {
-            sheet.demands.push(Demand { stop, riding: 0, call: true });
+            sheet.demands.push(Demand {
+                stop,
+                riding: 0,
+                call: true,
+            });
         }
         sheet
     }

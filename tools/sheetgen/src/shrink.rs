@@ -14,7 +14,11 @@ pub fn shrink(bytes: &[u8], holds: &mut dyn FnMut(&[u8]) -> bool) -> Vec<u8> {
     loop {
         let before = best.clone();
         if read(&best).is_none() {
-            best = Accepted { best: Sheet::of_accepted(&best), holds }.shrink();
+            best = Accepted {
+                best: Sheet::of_accepted(&best),
+                holds,
+            }
+            .shrink();
         }
         if read(&best).is_some() {
             best = raw(best, holds);
@@ -70,9 +74,18 @@ impl Accepted<'_> {
             (|s| s.lines.len(), drop_lines),
             (|s| s.stops.len(), drop_stops),
             (|s| s.cars.len(), drop_cars),
-            (|s| s.waiting.len(), |s, from, to| drop(s.waiting.drain(from..to))),
-            (|s| s.aboard.len(), |s, from, to| drop(s.aboard.drain(from..to))),
-            (|s| s.demands.len(), |s, from, to| drop(s.demands.drain(from..to))),
+            (
+                |s| s.waiting.len(),
+                |s, from, to| drop(s.waiting.drain(from..to)),
+            ),
+            (
+                |s| s.aboard.len(),
+                |s, from, to| drop(s.aboard.drain(from..to)),
+            ),
+            (
+                |s| s.demands.len(),
+                |s, from, to| drop(s.demands.drain(from..to)),
+            ),
         ];
         for (count, remove) in kinds {
             let mut chunk = count(&self.best);
@@ -132,7 +145,13 @@ impl Accepted<'_> {
 
     fn car(&mut self, i: usize) {
         let plain = Car::parked(self.best.cars[i].line);
-        self.change(|s| s.cars[i] = Car { id: s.cars[i].id, idle: s.cars[i].idle, ..plain.clone() });
+        self.change(|s| {
+            s.cars[i] = Car {
+                id: s.cars[i].id,
+                idle: s.cars[i].idle,
+                ..plain.clone()
+            }
+        });
         self.change(|s| (s.cars[i].phase, s.cars[i].stop) = (0, 0));
         self.change(|s| s.cars[i].target = None);
         self.change(|s| s.cars[i].idle = false);
@@ -212,7 +231,9 @@ impl Accepted<'_> {
             w.line = w.line.map(|id| to(&lines, id));
             w.destination = w.destination.map(|id| to(&stops, id));
         }
-        s.demands.iter_mut().for_each(|d| d.stop = to(&stops, d.stop));
+        s.demands
+            .iter_mut()
+            .for_each(|d| d.stop = to(&stops, d.stop));
         self.attempt(s);
     }
 }

@@ -15,7 +15,11 @@ pub mod matrix {
 
     impl<C: Clone> Matrix<C> {
         pub fn new(rows: usize, columns: usize, value: C) -> Self {
-            Self { rows, columns, cells: vec![value; rows * columns] }
+            Self {
+                rows,
+                columns,
+                cells: vec![value; rows * columns],
+            }
         }
 
         pub fn fill(&mut self, value: C) {
@@ -174,7 +178,13 @@ mod tests {
     use super::least_choice;
 
     /// The definition: the first row is given each free column in turn, the rest is passed on.
-    fn plain(i: usize, rows: usize, columns: usize, cells: &[i64], taken: u64) -> (i64, Vec<usize>) {
+    fn plain(
+        i: usize,
+        rows: usize,
+        columns: usize,
+        cells: &[i64],
+        taken: u64,
+    ) -> (i64, Vec<usize>) {
         if i == rows {
             return (0, Vec::new());
         }
@@ -217,9 +227,18 @@ mod tests {
             let rows = (next() % (columns as u64 + 1)) as usize;
             let top = [1, 2, 3, 10, 1 << 48][(next() % 5) as usize];
             let cells: Vec<i64> = (0..rows * columns)
-                .map(|_| if next() % 4 == 0 { 1 << 48 } else { (next() % (top + 1)) as i64 })
+                .map(|_| {
+                    if next() % 4 == 0 {
+                        1 << 48
+                    } else {
+                        (next() % (top + 1)) as i64
+                    }
+                })
                 .collect();
-            assert_eq!(least_choice(rows, columns, &cells), plain(0, rows, columns, &cells, 0).1);
+            assert_eq!(
+                least_choice(rows, columns, &cells),
+                plain(0, rows, columns, &cells, 0).1
+            );
         }
     }
 }
