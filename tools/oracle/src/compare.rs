@@ -335,23 +335,25 @@ pub fn report(rust: &mut Rust, profile: &str, seed: u64, found: &Found) {
 pub fn run(bench: &mut dyn Bench, seed: u64, count: u64, only: Option<&str>) -> bool {
     let has = bench.has();
     let mut clean = true;
-    let said = |name: &str, there: bool| {
-        println!(
-            "{name}: {}",
-            if there {
-                "compared"
-            } else {
-                "NOT COMPARED, the library has no such function"
-            }
-        );
+    let said = |name: &str, there: bool, wanted: bool| {
+        let what = match (there, wanted) {
+            (true, true) => "compared",
+            (true, false) => "not compared, another profile was asked for",
+            (false, _) => "NOT COMPARED, the library has no such function",
+        };
+        println!("{name}: {what}");
     };
-    said("dispatch_bench_read", has.read);
-    said("dispatch_bench_pass", has.pass);
-    said("dispatch_bench_choose", has.choose);
+    let (on_sheets, on_matrices) = (
+        only != Some("matrices"),
+        only.is_none_or(|o| o == "matrices"),
+    );
+    said("dispatch_bench_read", has.read, on_sheets);
+    said("dispatch_bench_pass", has.pass, on_sheets);
+    said("dispatch_bench_choose", has.choose, on_matrices);
     if !has.read && !has.pass && !has.choose {
         return false;
     }
-    if has.read || has.pass {
+    if (has.read || has.pass) && on_sheets {
         for (name, profile) in PROFILES {
             if only.is_some_and(|o| o != name) {
                 continue;
@@ -389,7 +391,7 @@ pub fn run(bench: &mut dyn Bench, seed: u64, count: u64, only: Option<&str>) -> 
             }
         }
     }
-    if has.choose && only.is_none_or(|o| o == "matrices") {
+    if has.choose && on_matrices {
         let start = Instant::now();
         let mut c = Comparison::new(bench);
         let found = matrices(&mut c, seed, count);
@@ -462,6 +464,9 @@ pub fn selftest(count: u64, only: Option<&str>) -> bool {
                     found.small.detail,
                     if right { "" } else { ", WRONG" }
                 );
+                if only.is_some() {
+                    report(&mut Rust::new(), name, 1, &found);
+                }
             }
         }
     }

@@ -254,7 +254,9 @@ pub fn ranks(seed: u64) -> (Vec<u8>, usize) {
         }
         for (_, _, rank) in &pass.ranks {
             list.push(u8::from(rank.is_some()));
-            list.extend(rank.map_or(0, f64::to_bits).to_be_bytes());
+            // The Rust leaves the sign of a zero rank open (`max` of zeros of unlike sign).
+            let bits = rank.filter(|cost| *cost != 0.0).map_or(0, f64::to_bits);
+            list.extend(bits.to_be_bytes());
         }
     }
     (list, held)

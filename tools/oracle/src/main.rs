@@ -55,6 +55,14 @@ fn clean(same: bool) -> Result<(), String> {
 fn run(args: &[&str]) -> Result<(), String> {
     let fault = |e: std::io::Error| e.to_string();
     match args {
+        ["compare" | "papers", .., name]
+            if args.len() == 3 + usize::from(args[0] == "compare") + 1
+                && *name != "matrices"
+                && sheetgen::generate::profile(name).is_none() =>
+        {
+            let names: Vec<_> = sheetgen::generate::PROFILES.iter().map(|p| p.0).collect();
+            return Err(format!("profiles: {} matrices", names.join(" ")));
+        }
         ["compare", library, seed, count, rest @ ..] if rest.len() < 2 => {
             let mut bench = bench::Linked::load(library)?;
             return clean(compare::run(
