@@ -71,6 +71,9 @@ const WAYS: &[Way] = &[
     tail_with_a_one,
     fewer_stated_than_there,
     full_tables,
+    several_in_a_record,
+    several_records,
+    fault_before_the_cut,
 ];
 
 fn refused(name: &'static str, bytes: Vec<u8>, number: u32, offset: usize) -> Provoked {
@@ -797,6 +800,169 @@ fn fewer_stated_than_there(rng: &mut Rng) -> Provoked {
         16,
         starts[count],
     )
+}
+
+/// The numbers from 8 on that a record of a kind can cause.
+const NUMBERS: [&[u32]; 8] = [
+    &[],
+    &[8, 11, 12, 15],
+    &[9, 11],
+    &[9, 10],
+    &[8, 9, 10, 11, 13],
+    &[8, 9, 10],
+    &[8, 9, 10, 11, 14],
+    &[9, 10],
+];
+
+/// How many records of a kind a sheet has.
+fn count(sheet: &Sheet, kind: usize) -> usize {
+    let s = sheet;
+    let counts = [
+        0,
+        1,
+        s.stops.len(),
+        s.lines.len(),
+        s.cars.len(),
+        s.aboard.len(),
+        s.waiting.len(),
+        s.demands.len(),
+    ];
+    counts[kind]
+}
+
+/// Optional fields to be given bits while absent: kind, record, start, width.
+type Pokes = Vec<(usize, usize, usize, usize)>;
+
+/// Spoils record `k` of a kind so that the number's condition holds.
+fn spoil(rng: &mut Rng, sheet: &mut Sheet, kind: usize, k: usize, number: u32, pokes: &mut Pokes) {
+    let unknown = |taken: &mut dyn Iterator<Item = u32>| {
+        let taken: Vec<u32> = taken.collect();
+        (1..).find(|id| !taken.contains(id)).unwrap()
+    };
+    let no_line = unknown(&mut sheet.lines.iter().map(|l| l.id));
+    let no_car = unknown(&mut sheet.cars.iter().map(|c| c.id));
+    let no_stop = unknown(&mut sheet.stops.iter().map(|s| s.id));
+    let past = 1u64 << rng.below(64 - sheet.stops.len());
+    match (kind, number) {
+        (1, 8) => sheet.policy.strategy = 3,
+        (1, 11) => sheet.policy.tick_rate = rng.pick(&[0.5, f64::NAN, 1e7]),
+        (1, 12) => sheet.policy.limit = 0,
+        (1, _) => {
+            sheet.policy.strategy = RSR;
+            sheet.policy.weights = [1.0, 0.0, 0.0, 1.0, 0.0, 0.0];
+        }
+        (2, 9) => {
+            sheet.stops[k].id = if k == 0 || rng.flag() {
+                0
+            } else {
+                sheet.stops[k - 1].id
+            }
+        }
+        (2, _) => sheet.stops[k].position = rng.pick(&[f64::NAN, 1e7]),
+        (3, 9) => {
+            sheet.lines[k].id = if k == 0 || rng.flag() {
+                0
+            } else {
+                sheet.lines[0].id
+            }
+        }
+        (3, _) => sheet.lines[k].mask |= past,
+        (4, 8) if rng.flag() => sheet.cars[k].phase = 7,
+        (4, 8) => pokes.push((4, k, rng.pick(&[393, 458]), 64)),
+        (4, 9) if rng.flag() => sheet.cars[k].id = 0,
+        (4, 9) => sheet.cars[k].target = Some(0),
+        (4, 10) if rng.flag() => sheet.cars[k].line = no_line,
+        (4, 10) => sheet.cars[k].calls |= past,
+        (4, 11) if rng.flag() => sheet.cars[k].load = -1.0,
+        (4, 11) => sheet.cars[k].speed = f64::INFINITY,
+        (4, _) => sheet.cars[k].transition = u32::MAX,
+        (5, 8) => pokes.push((5, k, 32, 32)),
+        (5, 9) if rng.flag() => sheet.aboard[k].car = 0,
+        (5, 9) => sheet.aboard[k].destination = Some(0),
+        (5, _) => sheet.aboard[k].car = no_car,
+        (6, 8) => pokes.push((6, k, rng.pick(&[32, 65]), 32)),
+        (6, 9) if rng.flag() => sheet.waiting[k].stop = 0,
+        // Both, since one may be poked.
+        (6, 9) => (sheet.waiting[k].line, sheet.waiting[k].destination) = (Some(0), Some(0)),
+        (6, 10) => sheet.waiting[k].stop = no_stop,
+        (6, 11) => sheet.waiting[k].weight = f64::NEG_INFINITY,
+        (6, _) => sheet.waiting[k].wait = u64::MAX,
+        (_, 9) => sheet.demands[k].stop = 0,
+        _ => sheet.demands[k].stop = no_stop,
+    }
+}
+
+/// Spoils a record in two ways or more; the lowest number is given. Higher ones come first here, so that
+/// the lowest stays where two touch one field.
+fn spoil_often(rng: &mut Rng, sheet: &mut Sheet, kind: usize, k: usize, pokes: &mut Pokes) -> u32 {
+    let numbers = NUMBERS[kind];
+    let first = rng.below(numbers.len() - 1);
+    for at in (first..numbers.len()).rev() {
+        if at <= first + 1 || rng.flag() {
+            spoil(rng, sheet, kind, k, numbers[at], pokes);
+        }
+    }
+    numbers[first]
+}
+
+fn poked(sheet: &Sheet, pokes: &Pokes) -> Vec<u8> {
+    let mut bytes = sheet.write();
+    for (kind, k, from, width) in pokes {
+        let at = body(start(&bytes, *kind, *k)) + from;
+        bits::set(&mut bytes, at, 1, 0);
+        bits::set(&mut bytes, at + 1, *width, 1 << (width - 1));
+    }
+    bytes
+}
+
+fn several_in_a_record(rng: &mut Rng) -> Provoked {
+    let mut sheet = any_small(rng);
+    let mut pokes = Pokes::new();
+    let kind = 1 + rng.below(7);
+    let k = rng.below(count(&sheet, kind));
+    let number = spoil_often(rng, &mut sheet, kind, k, &mut pokes);
+    let bytes = poked(&sheet, &pokes);
+    let at = start(&bytes, kind, k);
+    refused("several faults in a record", bytes, number, at)
+}
+
+/// The first record is given, whatever the numbers.
+fn several_records(rng: &mut Rng) -> Provoked {
+    let mut sheet = any_small(rng);
+    let mut pokes = Pokes::new();
+    let kind = 1 + rng.below(6);
+    let k = rng.below(count(&sheet, kind));
+    let later = kind + 1 + rng.below(7 - kind);
+    let j = rng.below(count(&sheet, later));
+    spoil_often(rng, &mut sheet, later, j, &mut pokes);
+    let number = NUMBERS[kind][rng.below(NUMBERS[kind].len())];
+    spoil(rng, &mut sheet, kind, k, number, &mut pokes);
+    let mut bytes = poked(&sheet, &pokes);
+    if rng.flag() {
+        bytes.push(1);
+    }
+    let at = start(&bytes, kind, k);
+    refused("faults in two records", bytes, number, at)
+}
+
+/// Bytes that end too early, or a wrong kind later on, come after a faulty record.
+fn fault_before_the_cut(rng: &mut Rng) -> Provoked {
+    let mut sheet = any_small(rng);
+    let mut pokes = Pokes::new();
+    let kind = 1 + rng.below(6);
+    let k = rng.below(count(&sheet, kind));
+    let number = NUMBERS[kind][rng.below(NUMBERS[kind].len())];
+    spoil(rng, &mut sheet, kind, k, number, &mut pokes);
+    let mut bytes = poked(&sheet, &pokes);
+    let at = start(&bytes, kind, k);
+    let end = (body(at) + BODY_BITS[kind]).div_ceil(8);
+    let last = records(&bytes).last().unwrap().0;
+    if rng.flag() {
+        bytes.truncate(end + rng.below(bytes.len() - end));
+    } else {
+        bits::set(&mut bytes, last, 6, rng.pick(&[0, 1, 9, 63]));
+    }
+    refused("fault before a cut", bytes, number, at)
 }
 
 #[cfg(test)]
