@@ -557,3 +557,56 @@ pub fn limits(seed: u64, count: u64) -> bool {
     println!("limits: {count} pairs of sheets, the total fell in {fell} and never rose");
     true
 }
+
+/// What a program prints for a sheet on its standard input; its failure is part of the text.
+fn printed(path: &str, bytes: &[u8]) -> String {
+    use std::io::Write;
+    use std::process::{Command, Stdio};
+    let child = Command::new(path)
+        .stdin(Stdio::piped())
+        .stdout(Stdio::piped())
+        .spawn();
+    let mut child = match child {
+        Ok(child) => child,
+        Err(e) => return format!("{path} doesn't run: {e}\n"),
+    };
+    // A program that refuses early may close its input.
+    let _ = child.stdin.take().unwrap().write_all(bytes);
+    match child.wait_with_output() {
+        Ok(out) if out.status.success() => String::from_utf8_lossy(&out.stdout).into_owned(),
+        Ok(out) => format!("{}{}\n", String::from_utf8_lossy(&out.stdout), out.status),
+        Err(e) => format!("{e}\n"),
+    }
+}
+
+/// The program passprint on `count` sheets of each profile; true where it prints the expected lines.
+pub fn program(path: &str, seed: u64, count: u64) -> bool {
+    let mut rust = Rust::new();
+    let mut checked = 0;
+    for (name, profile) in PROFILES {
+        for index in 0..count {
+            let bytes = generate(profile, seed, index);
+            let mut differs = |b: &[u8]| crate::answer::passprint(&mut rust, b) != printed(path, b);
+            checked += 1;
+            if differs(&bytes) {
+                let small = shrink(&bytes, &mut differs);
+                println!(
+                    "DIFFERENCE of {path} in {name}, seed {seed}, number {index}; smallest sheet, {} bytes:",
+                    small.len()
+                );
+                print!("{}", describe::hex(&small));
+                if read(&small).is_none() {
+                    print!("{}", describe::describe(&Sheet::of_accepted(&small)));
+                }
+                println!(
+                    "expected:\n{}printed:\n{}",
+                    crate::answer::passprint(&mut rust, &small),
+                    printed(path, &small)
+                );
+                return false;
+            }
+        }
+    }
+    println!("{path}: {checked} sheets");
+    true
+}

@@ -125,11 +125,11 @@ pub fn refusals(seed: u64) -> (Vec<u8>, usize) {
     cases.add(Vec::new());
     cases.add(Sheet::example().write());
     tables(&mut cases);
-    // The smallest of many, three for each way of spoiling and each kind that it spoils.
+    // The smallest of many, two for each way of spoiling and each kind that it spoils.
     let ways = provoke::ways() as u64;
     for way in 0..ways {
         let make = |k| provoke::provoke(&mut Rng::new(seed, 200, k * ways + way), way).bytes;
-        smallest(&mut cases, (0..400).map(make), 3);
+        smallest(&mut cases, (0..400).map(make), 2);
     }
     smallest(
         &mut cases,

@@ -18,6 +18,8 @@ oracle passprint [FILE]        the lines of passprint, from the Rust's side
 oracle pass [--ranks] [FILE]   pending stops, sweeps, matrix, least total; single ranks as 64-bit patterns
 oracle compare LIBRARY SEED COUNT [PROFILE]
                                both sides on COUNT sheets of each profile; LIBRARY is a shared object
+oracle program PROGRAM SEED COUNT
+                               the program passprint, built, against `oracle passprint`
 oracle papers SEED COUNT [PROFILE]
                                the papers' definitions against the Rust, with no library
 oracle selftest [COUNT [FAULT]]
@@ -82,6 +84,9 @@ fn run(args: &[&str]) -> Result<(), String> {
                 number(count)?,
                 rest.first().copied(),
             ));
+        }
+        ["program", path, seed, count] => {
+            return clean(compare::program(path, number(seed)?, number(count)?));
         }
         ["limits", seed, count] => return clean(compare::limits(number(seed)?, number(count)?)),
         ["survey", seed, count] => {
