@@ -331,10 +331,9 @@ pub fn report(rust: &mut Rust, profile: &str, seed: u64, found: &Found) {
     }
 }
 
-/// The whole comparison; true where nothing differs.
-pub fn run(bench: &mut dyn Bench, seed: u64, count: u64, only: Option<&str>) -> bool {
+/// The library's functions, each said to be compared or not; then the whole comparison.
+pub fn library(bench: &mut dyn Bench, seed: u64, count: u64, only: Option<&str>) -> bool {
     let has = bench.has();
-    let mut clean = true;
     let said = |name: &str, there: bool, wanted: bool| {
         let what = match (there, wanted) {
             (true, true) => "compared",
@@ -350,9 +349,33 @@ pub fn run(bench: &mut dyn Bench, seed: u64, count: u64, only: Option<&str>) -> 
     said("dispatch_bench_read", has.read, on_sheets);
     said("dispatch_bench_pass", has.pass, on_sheets);
     said("dispatch_bench_choose", has.choose, on_matrices);
-    if !has.read && !has.pass && !has.choose {
-        return false;
-    }
+    (has.read || has.pass || has.choose) && run(bench, seed, count, only)
+}
+
+/// The papers' definitions against the Rust: pending stops, cells and sweeps of accepted sheets. Refusals
+/// and choices come from one source here, so they aren't compared.
+pub fn papers(seed: u64, count: u64, only: Option<&str>) -> bool {
+    use crate::paper::{Fault, Paper};
+    println!("accepted sheets only: refusals and the choice have one source on both sides here");
+    run(
+        &mut Paper {
+            fault: Fault::None,
+            whole: false,
+        },
+        seed,
+        count,
+        only,
+    )
+}
+
+/// Both sides on each profile; true where nothing differs.
+fn run(bench: &mut dyn Bench, seed: u64, count: u64, only: Option<&str>) -> bool {
+    let has = bench.has();
+    let mut clean = true;
+    let (on_sheets, on_matrices) = (
+        only != Some("matrices"),
+        only.is_none_or(|o| o == "matrices"),
+    );
     if (has.read || has.pass) && on_sheets {
         for (name, profile) in PROFILES {
             if only.is_some_and(|o| o != name) {
@@ -415,7 +438,7 @@ pub fn selftest(count: u64, only: Option<&str>) -> bool {
         if only.is_some_and(|name| name != format!("{fault:?}")) {
             continue;
         }
-        let mut bench = Paper { fault };
+        let mut bench = Paper { fault, whole: true };
         let mut c = Comparison::new(&mut bench);
         let mut caught = None;
         for (name, profile) in PROFILES {

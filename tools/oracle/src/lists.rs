@@ -157,7 +157,7 @@ fn telling(seed: u64, count: u64, each: usize) -> Cases {
     let mut cases = Cases::default();
     cases.add(Sheet::example().write());
     for &fault in FAULTS.iter().filter(|f| **f != Fault::None) {
-        let mut bench = Paper { fault };
+        let mut bench = Paper { fault, whole: true };
         let mut c = Comparison::new(&mut bench);
         c.has.read = false;
         for (_, profile) in PROFILES {

@@ -67,7 +67,7 @@ fn run(args: &[&str]) -> Result<(), String> {
         }
         ["compare", library, seed, count, rest @ ..] if rest.len() < 2 => {
             let mut bench = bench::Linked::load(library)?;
-            return clean(compare::run(
+            return clean(compare::library(
                 &mut bench,
                 number(seed)?,
                 number(count)?,
@@ -75,15 +75,8 @@ fn run(args: &[&str]) -> Result<(), String> {
             ));
         }
         ["papers", seed, count, rest @ ..] if rest.len() < 2 => {
-            let mut bench = paper::Paper {
-                fault: paper::Fault::None,
-            };
-            return clean(compare::run(
-                &mut bench,
-                number(seed)?,
-                number(count)?,
-                rest.first().copied(),
-            ));
+            let only = rest.first().copied();
+            return clean(compare::papers(number(seed)?, number(count)?, only));
         }
         ["program", path, seed, count] => {
             return clean(compare::program(path, number(seed)?, number(count)?));

@@ -136,6 +136,8 @@ faults! {
 
 pub struct Paper {
     pub fault: Fault,
+    /// Whether refusals and choices are to be compared as well: with a fault they may differ.
+    pub whole: bool,
 }
 
 impl Paper {
@@ -714,9 +716,9 @@ impl<'a> Pass<'a> {
 impl Bench for Paper {
     fn has(&self) -> Has {
         Has {
-            read: true,
+            read: self.whole,
             pass: true,
-            choose: true,
+            choose: self.whole,
         }
     }
 
