@@ -808,6 +808,3 @@ impl Bench for Paper {
         0
     }
 }
-
-/// What `RSR` and the others stand for here, so that a missing strategy is seen by the compiler.
-const _: () = assert!(ETD == 0 && RSR == 1 && SCAN == 2);

@@ -386,6 +386,10 @@ impl Probe {
 
     /// A lenient car accepts a stop where it stands, one going up a stop above.
     fn read(&self, scan: &dyn DispatchStrategy, car: EntityId) -> u8 {
+        assert!(
+            self.world.elevator(car).is_some(),
+            "a car beyond the probe's entities"
+        );
         let accepts = |stop| {
             let ctx = RankContext {
                 car,
