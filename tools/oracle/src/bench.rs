@@ -1,0 +1,175 @@
+//! The bench under comparison: the functions of the static library `dispatch_bench`, loaded from a shared
+//! object made of it, or a stand-in inside this process.
+
+use std::ffi::{CString, c_char, c_int, c_void};
+
+/// Which functions a bench has.
+#[derive(Clone, Copy, Debug, Default, PartialEq)]
+pub struct Has {
+    pub read: bool,
+    pub pass: bool,
+    pub choose: bool,
+}
+
+/// What a pass is lent, and what it leaves there.
+#[derive(Clone, Debug, PartialEq)]
+pub struct Lent {
+    pub decisions: Vec<u32>,
+    pub matrix: Vec<u64>,
+    pub sweeps: Vec<u8>,
+    pub cars: u64,
+    pub stops: u64,
+    pub total: u64,
+    pub ranked: u64,
+    pub offset: u64,
+}
+
+impl Lent {
+    /// Buffers of the given lengths with contents that no pass would write.
+    pub fn new(decisions: usize, matrix: usize, sweeps: usize) -> Self {
+        Self {
+            decisions: vec![0xdead_beef; decisions],
+            matrix: vec![0xdead_beef_dead_beef; matrix],
+            sweeps: vec![0xee; sweeps],
+            cars: 0xa1a1_a1a1_a1a1,
+            stops: 0xa2a2_a2a2_a2a2,
+            total: 0xa3a3_a3a3_a3a3,
+            ranked: 0xa4a4_a4a4_a4a4,
+            offset: 0xa5a5_a5a5_a5a5,
+        }
+    }
+}
+
+pub trait Bench {
+    fn has(&self) -> Has;
+    /// 0 where the sheet is accepted, else the refusal's number with its offset.
+    fn read(&mut self, sheet: &[u8]) -> (u32, u64);
+    /// 0 for a pass, else the refusal's number.
+    fn pass(&mut self, sheet: &[u8], lent: &mut Lent) -> u32;
+    /// 0 for a choice, with its columns and total; anything else for none.
+    fn choose(
+        &mut self,
+        cars: usize,
+        columns: usize,
+        cells: &[u64],
+        chosen: &mut [u32],
+        total: &mut u64,
+    ) -> u32;
+}
+
+type Read = unsafe extern "C" fn(*const u8, usize, *mut u64) -> u32;
+type Pass = unsafe extern "C" fn(
+    *const u8,
+    usize,
+    *mut u32,
+    usize,
+    *mut u64,
+    usize,
+    *mut u8,
+    usize,
+    *mut u64,
+    *mut u64,
+    *mut u64,
+    *mut u64,
+    *mut u64,
+) -> u32;
+type Choose =
+    unsafe extern "C" fn(usize, usize, *const u64, usize, *mut u32, usize, *mut u64) -> u32;
+
+unsafe extern "C" {
+    fn dlopen(path: *const c_char, flags: c_int) -> *mut c_void;
+    fn dlsym(library: *mut c_void, name: *const c_char) -> *mut c_void;
+    fn dlerror() -> *const c_char;
+}
+
+const RTLD_NOW: c_int = 2;
+
+/// The proved functions.
+pub struct Linked {
+    read: Option<Read>,
+    pass: Option<Pass>,
+    choose: Option<Choose>,
+}
+
+impl Linked {
+    /// Loads the shared object at `path`; a slice is passed as its address and length.
+    pub fn load(path: &str) -> Result<Self, String> {
+        let name = CString::new(path).map_err(|e| e.to_string())?;
+        let library = unsafe { dlopen(name.as_ptr(), RTLD_NOW) };
+        if library.is_null() {
+            let message = unsafe { std::ffi::CStr::from_ptr(dlerror()) };
+            return Err(message.to_string_lossy().into_owned());
+        }
+        let find = |name: &std::ffi::CStr| unsafe { dlsym(library, name.as_ptr()) };
+        unsafe {
+            Ok(Self {
+                read: std::mem::transmute::<*mut c_void, Option<Read>>(find(
+                    c"dispatch_bench_read",
+                )),
+                pass: std::mem::transmute::<*mut c_void, Option<Pass>>(find(
+                    c"dispatch_bench_pass",
+                )),
+                choose: std::mem::transmute::<*mut c_void, Option<Choose>>(find(
+                    c"dispatch_bench_choose",
+                )),
+            })
+        }
+    }
+}
+
+impl Bench for Linked {
+    fn has(&self) -> Has {
+        Has {
+            read: self.read.is_some(),
+            pass: self.pass.is_some(),
+            choose: self.choose.is_some(),
+        }
+    }
+
+    fn read(&mut self, sheet: &[u8]) -> (u32, u64) {
+        let mut offset = 0;
+        let number = unsafe { self.read.unwrap()(sheet.as_ptr(), sheet.len(), &mut offset) };
+        (number, offset)
+    }
+
+    fn pass(&mut self, sheet: &[u8], lent: &mut Lent) -> u32 {
+        unsafe {
+            self.pass.unwrap()(
+                sheet.as_ptr(),
+                sheet.len(),
+                lent.decisions.as_mut_ptr(),
+                lent.decisions.len(),
+                lent.matrix.as_mut_ptr(),
+                lent.matrix.len(),
+                lent.sweeps.as_mut_ptr(),
+                lent.sweeps.len(),
+                &mut lent.cars,
+                &mut lent.stops,
+                &mut lent.total,
+                &mut lent.ranked,
+                &mut lent.offset,
+            )
+        }
+    }
+
+    fn choose(
+        &mut self,
+        cars: usize,
+        columns: usize,
+        cells: &[u64],
+        chosen: &mut [u32],
+        total: &mut u64,
+    ) -> u32 {
+        unsafe {
+            self.choose.unwrap()(
+                cars,
+                columns,
+                cells.as_ptr(),
+                cells.len(),
+                chosen.as_mut_ptr(),
+                chosen.len(),
+                total,
+            )
+        }
+    }
+}

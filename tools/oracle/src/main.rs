@@ -1,0 +1,140 @@
+//! The comparison harness of the dispatch bench (README.md).
+
+include!(concat!(env!("OUT_DIR"), "/published.rs"));
+
+mod answer;
+mod bench;
+mod choice;
+mod compare;
+mod lists;
+mod paper;
+mod rust_pass;
+
+use std::io::{Read, Write};
+use std::process::ExitCode;
+
+const USAGE: &str = "\
+oracle passprint [FILE]        the lines of passprint, from the Rust's side
+oracle pass [--ranks] [FILE]   pending stops, sweeps, matrix, least total; single ranks as 64-bit patterns
+oracle compare LIBRARY SEED COUNT [PROFILE]
+                               both sides on COUNT sheets of each profile; LIBRARY is a shared object
+oracle program PROGRAM SEED COUNT
+                               the program passprint, built, against `oracle passprint`
+oracle papers SEED COUNT [PROFILE]
+                               the papers' definitions against the Rust, with no library
+oracle selftest [COUNT [FAULT]]
+                               benches that are wrong on purpose must be found out
+oracle limits SEED COUNT       a higher limit never raises the total, by the Rust
+oracle survey SEED COUNT       what the sheets of each profile are like
+oracle list refusals|passes|ranks SEED FILE
+                               writes a fixed list
+Sheets are read from FILE or standard input.";
+
+fn input(file: Option<&str>) -> std::io::Result<Vec<u8>> {
+    match file {
+        Some(path) => std::fs::read(path),
+        None => {
+            let mut bytes = Vec::new();
+            std::io::stdin().read_to_end(&mut bytes)?;
+            Ok(bytes)
+        }
+    }
+}
+
+fn number(word: &str) -> Result<u64, String> {
+    word.parse().map_err(|e| format!("{word}: {e}"))
+}
+
+fn clean(same: bool) -> Result<(), String> {
+    if !same {
+        println!("NOT EQUAL");
+        std::process::exit(1);
+    }
+    println!("no difference");
+    Ok(())
+}
+
+fn run(args: &[&str]) -> Result<(), String> {
+    let fault = |e: std::io::Error| e.to_string();
+    match args {
+        ["compare" | "papers", .., name]
+            if args.len() == 3 + usize::from(args[0] == "compare") + 1
+                && *name != "matrices"
+                && sheetgen::generate::profile(name).is_none() =>
+        {
+            let names: Vec<_> = sheetgen::generate::PROFILES.iter().map(|p| p.0).collect();
+            return Err(format!("profiles: {} matrices", names.join(" ")));
+        }
+        ["compare", library, seed, count, rest @ ..] if rest.len() < 2 => {
+            let mut bench = bench::Linked::load(library)?;
+            return clean(compare::library(
+                &mut bench,
+                number(seed)?,
+                number(count)?,
+                rest.first().copied(),
+            ));
+        }
+        ["papers", seed, count, rest @ ..] if rest.len() < 2 => {
+            let only = rest.first().copied();
+            return clean(compare::papers(number(seed)?, number(count)?, only));
+        }
+        ["program", path, seed, count] => {
+            return clean(compare::program(path, number(seed)?, number(count)?));
+        }
+        ["limits", seed, count] => return clean(compare::limits(number(seed)?, number(count)?)),
+        ["survey", seed, count] => {
+            compare::survey(number(seed)?, number(count)?);
+            return Ok(());
+        }
+        ["list", kind, seed, file] => {
+            let (list, cases) = match *kind {
+                "refusals" => lists::refusals(number(seed)?),
+                "passes" => lists::passes(number(seed)?),
+                "ranks" => lists::ranks(number(seed)?),
+                _ => return Err(USAGE.into()),
+            };
+            println!("{cases} cases, {} bytes", list.len());
+            return std::fs::write(file, list).map_err(fault);
+        }
+        ["selftest", rest @ ..] if rest.len() < 3 => {
+            let count = rest.first().map_or(Ok(3000), |word| number(word))?;
+            if !compare::selftest(count, rest.get(1).copied()) {
+                println!("a fault was not found out, or a difference was seen where there is none");
+                std::process::exit(1);
+            }
+            println!("every fault was found out");
+            return Ok(());
+        }
+        _ => {}
+    }
+    let mut rust = rust_pass::Rust::new();
+    let text = match args {
+        ["passprint", rest @ ..] if rest.len() < 2 => {
+            answer::passprint(&mut rust, &input(rest.first().copied()).map_err(fault)?)
+        }
+        ["pass", "--ranks", rest @ ..] if rest.len() < 2 => answer::details(
+            &mut rust,
+            &input(rest.first().copied()).map_err(fault)?,
+            true,
+        ),
+        ["pass", rest @ ..] if rest.len() < 2 => answer::details(
+            &mut rust,
+            &input(rest.first().copied()).map_err(fault)?,
+            false,
+        ),
+        _ => return Err(USAGE.into()),
+    };
+    std::io::stdout().write_all(text.as_bytes()).map_err(fault)
+}
+
+fn main() -> ExitCode {
+    let args: Vec<String> = std::env::args().skip(1).collect();
+    let words: Vec<&str> = args.iter().map(String::as_str).collect();
+    match run(&words) {
+        Ok(()) => ExitCode::SUCCESS,
+        Err(message) => {
+            eprintln!("{message}");
+            ExitCode::from(2)
+        }
+    }
+}

@@ -1,0 +1,810 @@
+//! The pass as the papers define it, apart from the published Rust: group, demand, coverage, the candidate
+//! cut by counting, ranks, cells. Compared with the Rust it shows that the papers say what the Rust does.
+//! Each fault below changes one place of it; the comparison must find every one of them out.
+
+use sheetgen::sheet::{ETD, NO_LIMIT, RSR, SCAN, mask_bit};
+use sheetgen::{Car, Sheet, Waiting, bits, read};
+
+use crate::answer::SENTINEL;
+use crate::bench::{Bench, Has, Lent};
+use crate::choice;
+
+macro_rules! faults {
+    ($($(#[$about:meta])* $name:ident)*) => {
+        #[derive(Clone, Copy, Debug, PartialEq, Eq)]
+        pub enum Fault { $($(#[$about])* $name),* }
+        pub const FAULTS: &[Fault] = &[$(Fault::$name),*];
+    };
+}
+
+faults! {
+    /// As the papers have it.
+    None
+    /// 16 is given where the last record starts.
+    TailOffset
+    /// A second demand for a stop passes.
+    SecondDemand
+    /// A minus zero load is outside its range.
+    MinusZero
+    /// A threshold of exactly 1,000 is outside.
+    ThresholdEnd
+    /// An empty count is 2.
+    EmptyCount
+    /// A second policy is 6.
+    SecondPolicy
+    /// A stated body past the end of an unknown kind is 4.
+    UnknownKindFirst
+    /// A refusal clears the decisions.
+    RefusalWrites
+    /// One matrix entry too many is written.
+    OneEntryMore
+    /// The total leaves idle cars out.
+    TotalOfSent
+    /// Ties go to the highest column.
+    HighestColumn
+    /// Each car takes its nearest free column.
+    Greedy
+    /// Most cars sent first.
+    MostSent
+    /// A cell above the sentinel is taken by the matcher.
+    CellAboveSentinel
+    /// The nearest stops are kept before the line filter.
+    LimitBeforeLine
+    /// The limit doesn't cut under SCAN.
+    NoCutUnderScan
+    /// Of equal distances the higher id comes first.
+    CutByHigherId
+    /// Covered stops don't intervene.
+    CoveredNotCounted
+    /// A stop 1e-9 ahead intervenes.
+    CountAtTolerance
+    /// The waiters' sum must be below the capacity.
+    CoverBelow
+    /// Remaining capacities are added in record order.
+    CapacityInRecordOrder
+    /// A car serves the stop of its phase.
+    CoverByPhaseStop
+    /// Repositioning cars serve their target.
+    RepositioningServes
+    /// A required line without a record is ignored.
+    UnrecordedLineIgnored
+    /// A stop wanted by an idle car's rider is dropped when covered.
+    BoundForDropped
+    /// A riding count doesn't make demand.
+    RidingIgnored
+    /// The sweep stays as the sheet has it.
+    SweepKept
+    /// SCAN looks ahead among pending stops only.
+    AheadPendingOnly
+    /// SCAN looks ahead on the car's line only.
+    AheadOnLineOnly
+    /// SCAN prepares every car.
+    PrepareAll
+    /// SCAN prepares with no pending stop too.
+    PrepareAlways
+    /// A stop exactly 1e-9 ahead is ahead.
+    AheadAtTolerance
+    /// Strict and lenient accept alike.
+    AlwaysStrict
+    /// The aboard-path test under ETD too.
+    PathUnderEtd
+    /// The aboard-path test compares signs.
+    PathBySigns
+    /// A rider without a destination keeps a pickup off the path.
+    PathWithoutDestination
+    /// A load exactly at the threshold doesn't bypass.
+    BypassAbove
+    /// Lamps aren't looked at.
+    LampsIgnored
+    /// Riders of exactly the remaining capacity can't board.
+    BoardBelow
+    /// ETD's bonus is weighted.
+    BonusWeighted
+    /// A repositioning car earns no bonus.
+    NoBonusRepositioning
+    /// A stopped car earns the idle bonus.
+    BonusStopped
+    /// A stop beyond the target is ahead too.
+    AheadBeyondTarget
+    /// The three ETD terms are added in another order.
+    OtherOrder
+    /// One rounding instead of two.
+    Fused
+    /// The wait terms are applied in the other order.
+    AgeBeforeSquares
+    /// The squared waits are those of the sum.
+    SquareOfSum
+    /// The door ticks count the transition once.
+    OneTransition
+    /// The peak multiplier holds off peak.
+    AlwaysPeak
+    /// Down peak isn't a peak.
+    NoDownPeak
+    /// The call bonus is subtracted without a call.
+    BonusWithoutCall
+    /// A rider-less call isn't servable.
+    CallIgnored
+    /// Speed 0 gives ETD a rank.
+    SpeedZeroRanked
+    /// Halves to even.
+    HalfToEven
+    /// The fraction is cut off.
+    CutOff
+    /// Held to the sentinel.
+    CeilingIsSentinel
+}
+
+pub struct Paper {
+    pub fault: Fault,
+    /// Whether refusals and choices are to be compared as well: with a fault they may differ.
+    pub whole: bool,
+}
+
+impl Paper {
+    /// The refusal with this bench's fault.
+    fn refusal(&self, sheet: &[u8]) -> Option<(u32, u64)> {
+        let right = read(sheet).map(|r| (r.number, r.offset));
+        let kind = |at: u64| bits::get(sheet, at as usize, 6);
+        match (self.fault, right) {
+            (Fault::TailOffset, Some((16, at))) => Some((16, at - at.min(49))),
+            (Fault::SecondDemand, Some((9, at))) if kind(at) == 7 => None,
+            (Fault::EmptyCount, Some((6, 24))) if bits::get(sheet, 8, 16) == 0 => Some((2, 24)),
+            (Fault::SecondPolicy, Some((7, at))) if kind(at) == 1 => Some((6, at)),
+            (Fault::UnknownKindFirst, Some((2, at)))
+                if at as usize + 22 <= sheet.len() * 8
+                    && at > 0
+                    && !(1..=7).contains(&kind(at)) =>
+            {
+                Some((4, at))
+            }
+            (Fault::MinusZero, None) => {
+                let s = Sheet::of_accepted(sheet);
+                s.cars
+                    .iter()
+                    .any(|c| c.load.to_bits() == 1 << 63)
+                    .then_some((11, 24))
+            }
+            (Fault::ThresholdEnd, None) => {
+                let s = Sheet::of_accepted(sheet);
+                s.cars
+                    .iter()
+                    .any(|c| c.up_threshold == Some(1000.0))
+                    .then_some((11, 24))
+            }
+            (_, right) => right,
+        }
+    }
+
+    fn chosen(&self, cars: usize, columns: usize, cells: &[u64]) -> Vec<usize> {
+        let signed = |f: &dyn Fn(usize, usize) -> i64| -> Vec<i64> {
+            (0..cars * columns)
+                .map(|k| f(k / columns, k % columns))
+                .collect()
+        };
+        let cell = |i: usize, j: usize| cells[i * columns + j] as i64;
+        match self.fault {
+            Fault::HighestColumn => {
+                let mirrored = signed(&|i, j| cell(i, columns - 1 - j));
+                let found = pathfinding::least_choice(cars, columns, &mirrored);
+                found.iter().map(|j| columns - 1 - j).collect()
+            }
+            Fault::Greedy => {
+                let mut free = vec![true; columns];
+                (0..cars)
+                    .map(|i| {
+                        let j = (0..columns)
+                            .filter(|j| free[*j])
+                            .min_by_key(|j| cell(i, *j))
+                            .unwrap();
+                        free[j] = false;
+                        j
+                    })
+                    .collect()
+            }
+            Fault::MostSent => {
+                let heavy = signed(&|i, j| {
+                    if cell(i, j) == SENTINEL {
+                        1 << 55
+                    } else {
+                        cell(i, j)
+                    }
+                });
+                pathfinding::least_choice(cars, columns, &heavy)
+            }
+            _ => pathfinding::least_choice(cars, columns, &signed(&cell)),
+        }
+    }
+}
+
+/// One sheet under the definitions.
+struct Pass<'a> {
+    fault: Fault,
+    sheet: &'a Sheet,
+    /// Stops of any line, with demand, covered, pending: masks by stop index.
+    group: u64,
+    demand: u64,
+    pending: u64,
+    /// 2 × sweep + mode of each car, after preparing.
+    sweeps: Vec<u8>,
+}
+
+fn nth(mask: u64, j: usize) -> bool {
+    mask & mask_bit(j) != 0
+}
+
+impl<'a> Pass<'a> {
+    fn new(fault: Fault, sheet: &'a Sheet) -> Self {
+        let group = sheet.lines.iter().fold(0, |mask, l| mask | l.mask);
+        let mut pass = Self {
+            fault,
+            sheet,
+            group,
+            demand: 0,
+            pending: 0,
+            sweeps: Vec::new(),
+        };
+        for j in 0..sheet.stops.len() {
+            if pass.has_demand(j) {
+                pass.demand |= mask_bit(j);
+            }
+        }
+        let bound = |j: usize| {
+            let id = sheet.stops[j].id;
+            sheet.cars.iter().filter(|c| c.idle).any(|c| {
+                sheet
+                    .aboard
+                    .iter()
+                    .any(|a| a.car == c.id && a.destination == Some(id))
+            })
+        };
+        for j in 0..sheet.stops.len() {
+            if nth(group, j)
+                && nth(pass.demand, j)
+                && (bound(j) && !pass.is(Fault::BoundForDropped) || !pass.covered(j))
+            {
+                pass.pending |= mask_bit(j);
+            }
+        }
+        pass.sweeps = sheet.cars.iter().map(|c| pass.sweep(c)).collect();
+        pass
+    }
+
+    fn is(&self, fault: Fault) -> bool {
+        self.fault == fault
+    }
+
+    fn waiters(&self, j: usize) -> impl Iterator<Item = &'a Waiting> + use<'a> {
+        let id = self.sheet.stops[j].id;
+        self.sheet.waiting.iter().filter(move |w| w.stop == id)
+    }
+
+    fn call(&self, j: usize) -> bool {
+        let id = self.sheet.stops[j].id;
+        self.sheet.demands.iter().any(|d| d.stop == id && d.call)
+    }
+
+    fn has_demand(&self, j: usize) -> bool {
+        let id = self.sheet.stops[j].id;
+        let riding = self
+            .sheet
+            .demands
+            .iter()
+            .any(|d| d.stop == id && d.riding > 0);
+        self.waiters(j).next().is_some() || riding && !self.is(Fault::RidingIgnored) || self.call(j)
+    }
+
+    /// Line by line, records in order.
+    fn group_cars(&self) -> Vec<&'a Car> {
+        if self.is(Fault::CapacityInRecordOrder) {
+            return self.sheet.cars.iter().collect();
+        }
+        let on = |line: u32| self.sheet.cars.iter().filter(move |c| c.line == line);
+        self.sheet.lines.iter().flat_map(|l| on(l.id)).collect()
+    }
+
+    fn covered(&self, j: usize) -> bool {
+        let id = self.sheet.stops[j].id;
+        let serves = |c: &Car| {
+            let target = if self.is(Fault::CoverByPhaseStop) {
+                (c.stop != 0).then_some(c.stop)
+            } else {
+                c.target
+            };
+            target == Some(id)
+                && (matches!(c.phase, 1 | 3 | 4 | 5)
+                    || c.phase == 2 && self.is(Fault::RepositioningServes))
+        };
+        let serving: Vec<&Car> = self
+            .group_cars()
+            .into_iter()
+            .filter(|c| serves(c))
+            .collect();
+        if serving.is_empty() {
+            return false;
+        }
+        let mut capacity = 0.0;
+        for c in &serving {
+            capacity += c.capacity - c.load;
+        }
+        let mut weight = 0.0;
+        for w in self.waiters(j) {
+            if let Some(line) = w.line {
+                let recorded = self.sheet.lines.iter().any(|l| l.id == line);
+                let ignored = !recorded && self.is(Fault::UnrecordedLineIgnored);
+                if !ignored && !serving.iter().any(|c| c.line == line) {
+                    return false;
+                }
+            }
+            weight += w.weight;
+        }
+        if self.is(Fault::CoverBelow) {
+            weight < capacity
+        } else {
+            weight <= capacity
+        }
+    }
+
+    fn sweep(&self, c: &Car) -> u8 {
+        let kept = 2 * u8::from(c.sweep_down) + u8::from(c.lenient);
+        let prepared = self.sheet.policy.strategy == SCAN
+            && (c.idle || self.is(Fault::PrepareAll))
+            && (self.pending != 0 || self.is(Fault::PrepareAlways))
+            && !self.is(Fault::SweepKept);
+        if !prepared {
+            return kept;
+        }
+        let among = if self.is(Fault::AheadPendingOnly) {
+            self.pending
+        } else if self.is(Fault::AheadOnLineOnly) {
+            self.demand & self.line_mask(c)
+        } else {
+            self.demand & self.group
+        };
+        let wide = self.is(Fault::AheadAtTolerance);
+        let ahead = (0..self.sheet.stops.len()).any(|j| {
+            let p = self.sheet.stops[j].position;
+            let past = if c.sweep_down {
+                p < c.position - 1e-9 || wide && p == c.position - 1e-9
+            } else {
+                p > c.position + 1e-9 || wide && p == c.position + 1e-9
+            };
+            nth(among, j) && past
+        });
+        if ahead {
+            2 * u8::from(c.sweep_down)
+        } else {
+            2 * u8::from(!c.sweep_down) + 1
+        }
+    }
+
+    fn line_mask(&self, c: &Car) -> u64 {
+        self.sheet
+            .lines
+            .iter()
+            .find(|l| l.id == c.line)
+            .unwrap()
+            .mask
+    }
+
+    fn distance(&self, from: f64, j: usize) -> f64 {
+        (from - self.sheet.stops[j].position).abs()
+    }
+
+    fn kept(&self, c: &Car, j: usize) -> bool {
+        let viable = self.pending & !c.restricted & self.line_mask(c);
+        let limit = self.sheet.policy.limit;
+        let none = limit == NO_LIMIT
+            || self.sheet.policy.strategy == SCAN && self.is(Fault::NoCutUnderScan);
+        let among = if self.is(Fault::LimitBeforeLine) {
+            self.pending
+        } else {
+            viable
+        };
+        let here = (self.distance(c.position, j), j);
+        let before = (0..self.sheet.stops.len())
+            .filter(|k| nth(among, *k))
+            .filter(|k| {
+                let there = (self.distance(c.position, *k), *k);
+                if self.is(Fault::CutByHigherId) && there.0 == here.0 {
+                    return there.1 > here.1;
+                }
+                there < here
+            })
+            .count();
+        nth(viable, j) && (none || before < usize::from(limit))
+    }
+
+    /// The position of a stop by id.
+    fn position(&self, id: u32) -> Option<f64> {
+        self.sheet
+            .stops
+            .iter()
+            .find(|s| s.id == id)
+            .map(|s| s.position)
+    }
+
+    fn aboard(&self, c: &Car) -> Vec<Option<u32>> {
+        self.sheet
+            .aboard
+            .iter()
+            .filter(|a| a.car == c.id)
+            .map(|a| a.destination)
+            .collect()
+    }
+
+    /// Where a moving or repositioning car is bound.
+    fn heading(&self, c: &Car) -> Option<f64> {
+        if c.phase == 1 || c.phase == 2 {
+            self.position(c.stop)
+        } else {
+            None
+        }
+    }
+
+    fn bypass(&self, c: &Car, p: f64) -> bool {
+        let Some(target) = self.heading(c) else {
+            return false;
+        };
+        let (up, down) = (target > c.position, target < c.position);
+        if !up && !down {
+            return false;
+        }
+        let Some(threshold) = (if up { c.up_threshold } else { c.down_threshold }) else {
+            return false;
+        };
+        if c.capacity <= 0.0 {
+            return false;
+        }
+        let ratio = c.load / c.capacity;
+        if ratio < threshold || ratio == threshold && self.is(Fault::BypassAbove) {
+            return false;
+        }
+        up && p > c.position || down && p < c.position
+    }
+
+    fn can_board(&self, c: &Car, w: &Waiting, p: f64, remaining: f64) -> bool {
+        if w.weight > remaining || w.weight == remaining && self.is(Fault::BoardBelow) {
+            return false;
+        }
+        let Some(to) = w.destination.and_then(|id| self.position(id)) else {
+            return true;
+        };
+        if self.is(Fault::LampsIgnored) {
+            return true;
+        }
+        !(to > p && !c.going_up) && !(to < p && !c.going_down)
+    }
+
+    fn useful(&self, c: &Car, j: usize, path: bool) -> bool {
+        let stop = &self.sheet.stops[j];
+        let p = stop.position;
+        let aboard = self.aboard(c);
+        if aboard.contains(&Some(stop.id)) {
+            return true;
+        }
+        if self.bypass(c, p) {
+            return false;
+        }
+        let remaining = c.capacity - c.load;
+        if remaining <= 0.0 {
+            return false;
+        }
+        let servable = if self.waiters(j).next().is_none() {
+            self.call(j) && !self.is(Fault::CallIgnored)
+        } else {
+            self.waiters(j).any(|w| self.can_board(c, w, p, remaining))
+        };
+        if !servable {
+            return false;
+        }
+        let strict = self.is(Fault::PathWithoutDestination) && !aboard.is_empty();
+        if !path || !strict && aboard.iter().all(Option::is_none) {
+            return true;
+        }
+        let to_stop = p - c.position;
+        aboard.iter().any(|a| {
+            let Some(at) = a.and_then(|id| self.position(id)) else {
+                return false;
+            };
+            let to_there = at - c.position;
+            let onward = if self.is(Fault::PathBySigns) {
+                !(to_there > 0.0 && to_stop < 0.0 || to_there < 0.0 && to_stop > 0.0)
+            } else {
+                to_there * to_stop >= 0.0
+            };
+            onward && to_stop.abs() <= to_there.abs()
+        })
+    }
+
+    fn fma(&self, a: f64, b: f64, c: f64) -> f64 {
+        if self.is(Fault::Fused) {
+            a.mul_add(b, c)
+        } else {
+            a * b + c
+        }
+    }
+
+    fn waits(&self, j: usize) -> f64 {
+        self.waiters(j).fold(0.0, |sum, w| sum + w.wait as f64)
+    }
+
+    fn squares(&self, j: usize) -> f64 {
+        if self.is(Fault::SquareOfSum) {
+            return self.waits(j) * self.waits(j);
+        }
+        self.waiters(j)
+            .fold(0.0, |sum, w| sum + w.wait as f64 * w.wait as f64)
+    }
+
+    fn eased(&self, cost: f64, weight: f64, term: f64) -> f64 {
+        if weight > 0.0 {
+            self.fma(weight, -term, cost).max(0.0)
+        } else {
+            cost
+        }
+    }
+
+    fn etd(&self, c: &Car, j: usize) -> Option<f64> {
+        if !self.useful(c, j, self.is(Fault::PathUnderEtd)) {
+            return None;
+        }
+        let w = self.sheet.policy.weights;
+        let p = self.sheet.stops[j].position;
+        if c.speed <= 0.0 && !self.is(Fault::SpeedZeroRanked) {
+            return None;
+        }
+        let travel = if c.speed > 0.0 {
+            self.distance(c.position, j) / c.speed
+        } else {
+            0.0
+        };
+        let transitions = if self.is(Fault::OneTransition) {
+            1.0
+        } else {
+            2.0
+        };
+        let door = (transitions * f64::from(c.transition) + f64::from(c.open))
+            / self.sheet.policy.tick_rate;
+        let (low, high) = if c.position < p {
+            (c.position, p)
+        } else {
+            (p, c.position)
+        };
+        let among = if self.is(Fault::CoveredNotCounted) {
+            self.pending
+        } else {
+            self.demand & self.group
+        };
+        let between = (0..self.sheet.stops.len())
+            .filter(|k| nth(among, *k))
+            .filter(|k| {
+                let q = self.sheet.stops[*k].position;
+                if self.is(Fault::CountAtTolerance) {
+                    q >= low + 1e-9 && q <= high - 1e-9
+                } else {
+                    q > low + 1e-9 && q < high - 1e-9
+                }
+            })
+            .count() as f64;
+        let mut delay = 0.0;
+        for to in self
+            .aboard(c)
+            .into_iter()
+            .flatten()
+            .filter_map(|id| self.position(id))
+        {
+            let direct = (c.position - to).abs();
+            let detour = (c.position - p).abs() + (p - to).abs();
+            if c.speed > 0.0 {
+                delay += (detour - direct).max(0.0) / c.speed;
+            }
+        }
+        let mut bonus = match self.heading(c) {
+            _ if c.phase == 2 && self.is(Fault::NoBonusRepositioning) => 0.0,
+            Some(to) => {
+                let beyond = self.is(Fault::AheadBeyondTarget);
+                let ahead = if to > c.position {
+                    p > c.position && (p <= to || beyond)
+                } else {
+                    p < c.position && (p >= to || beyond)
+                };
+                if ahead { -travel * 0.5 } else { 0.0 }
+            }
+            None if c.phase == 0 || c.phase == 6 && self.is(Fault::BonusStopped) => -travel * 0.3,
+            None => 0.0,
+        };
+        if self.is(Fault::BonusWeighted) {
+            bonus *= w[0];
+        }
+        let raw = if self.is(Fault::OtherOrder) {
+            self.fma(
+                w[2],
+                between * door,
+                self.fma(w[1], delay, self.fma(w[0], travel, bonus)),
+            )
+        } else {
+            self.fma(
+                w[0],
+                travel,
+                self.fma(w[1], delay, self.fma(w[2], between * door, bonus)),
+            )
+        };
+        let cost = raw.max(0.0);
+        let cost = if self.is(Fault::AgeBeforeSquares) {
+            self.eased(self.eased(cost, w[4], self.waits(j)), w[3], self.squares(j))
+        } else {
+            self.eased(self.eased(cost, w[3], self.squares(j)), w[4], self.waits(j))
+        };
+        cost.is_finite().then_some(cost)
+    }
+
+    fn rsr(&self, c: &Car, j: usize) -> Option<f64> {
+        if !self.useful(c, j, true) || c.speed <= 0.0 {
+            return None;
+        }
+        let w = self.sheet.policy.weights;
+        let p = self.sheet.stops[j].position;
+        let mut cost = w[0] * (self.distance(c.position, j) / c.speed);
+        if let Some(to) = self.heading(c)
+            && w[1] > 0.0
+            && (to > c.position && p < c.position || to < c.position && p > c.position)
+        {
+            let traffic = self.sheet.policy.traffic;
+            let peak = traffic == 1 || traffic == 3 && !self.is(Fault::NoDownPeak);
+            cost += w[1]
+                * if peak || self.is(Fault::AlwaysPeak) {
+                    w[5]
+                } else {
+                    1.0
+                };
+        }
+        if w[2] > 0.0 && (nth(c.calls, j) || self.is(Fault::BonusWithoutCall)) {
+            cost -= w[2];
+        }
+        let cost = self.eased(cost, w[4], self.waits(j)).max(0.0);
+        cost.is_finite().then_some(cost)
+    }
+
+    fn scan(&self, c: &Car, sweep: u8, j: usize) -> Option<f64> {
+        if !self.useful(c, j, false) {
+            return None;
+        }
+        let p = self.sheet.stops[j].position;
+        let down = sweep >= 2;
+        let lenient = sweep % 2 == 1 && !self.is(Fault::AlwaysStrict);
+        let accepted = match (lenient, down) {
+            (false, false) => p > c.position + 1e-9,
+            (false, true) => p < c.position - 1e-9,
+            (true, false) => p > c.position - 1e-9,
+            (true, true) => p < c.position + 1e-9,
+        };
+        accepted.then(|| self.distance(c.position, j))
+    }
+
+    fn scale(&self, cost: f64) -> u64 {
+        if !cost.is_finite() || cost < 0.0 {
+            return SENTINEL as u64;
+        }
+        let scaled = cost * 1_000_000.0;
+        let whole = match self.fault {
+            Fault::HalfToEven => scaled.round_ties_even(),
+            Fault::CutOff => scaled.trunc(),
+            _ => scaled.round(),
+        };
+        let most = if self.is(Fault::CeilingIsSentinel) {
+            SENTINEL
+        } else {
+            SENTINEL - 1
+        };
+        whole.min(most as f64) as u64
+    }
+
+    fn cell(&self, i: usize, j: usize) -> u64 {
+        let c = &self.sheet.cars[i];
+        if !self.kept(c, j) {
+            return SENTINEL as u64;
+        }
+        let rank = match self.sheet.policy.strategy {
+            ETD => self.etd(c, j),
+            RSR => self.rsr(c, j),
+            _ => self.scan(c, self.sweeps[i], j),
+        };
+        rank.map_or(SENTINEL as u64, |cost| self.scale(cost))
+    }
+}
+
+impl Bench for Paper {
+    fn has(&self) -> Has {
+        Has {
+            read: self.whole,
+            pass: true,
+            choose: self.whole,
+        }
+    }
+
+    fn read(&mut self, sheet: &[u8]) -> (u32, u64) {
+        self.refusal(sheet).unwrap_or((0, 0))
+    }
+
+    fn pass(&mut self, bytes: &[u8], lent: &mut Lent) -> u32 {
+        let small = lent.decisions.len() < 32 || lent.matrix.len() < 2048 || lent.sweeps.len() < 32;
+        let refusal = if small {
+            Some((1, 0))
+        } else {
+            self.refusal(bytes)
+        };
+        if let Some((number, offset)) = refusal {
+            lent.offset = offset;
+            if self.fault == Fault::RefusalWrites {
+                lent.decisions.fill(0);
+            }
+            return number;
+        }
+        if read(bytes).is_some() {
+            return 0;
+        }
+        let sheet = Sheet::of_accepted(bytes);
+        let pass = Pass::new(self.fault, &sheet);
+        let idle: Vec<usize> = (0..sheet.cars.len())
+            .filter(|i| sheet.cars[*i].idle)
+            .collect();
+        let pending: Vec<usize> = (0..sheet.stops.len())
+            .filter(|j| nth(pass.pending, *j))
+            .collect();
+        let (n, m) = (idle.len(), pending.len());
+        let columns = n.max(m);
+        let mut cells = vec![SENTINEL as u64; n * columns];
+        for (row, i) in idle.iter().enumerate() {
+            for (column, j) in pending.iter().enumerate() {
+                cells[row * columns + column] = pass.cell(*i, *j);
+            }
+        }
+        let chosen = self.chosen(n, columns, &cells);
+        lent.total = 0;
+        for row in 0..n {
+            let cell = cells[row * columns + chosen[row]];
+            let sent = chosen[row] < m && cell < SENTINEL as u64;
+            lent.decisions[row] = if sent {
+                sheet.stops[pending[chosen[row]]].id
+            } else {
+                0
+            };
+            if sent || self.fault != Fault::TotalOfSent {
+                lent.total += cell;
+            }
+        }
+        lent.cars = n as u64;
+        lent.stops = m as u64;
+        lent.ranked = (n * m.min(usize::from(sheet.policy.limit))) as u64;
+        lent.matrix[..cells.len()].copy_from_slice(&cells);
+        if self.fault == Fault::OneEntryMore && cells.len() < lent.matrix.len() {
+            lent.matrix[cells.len()] = SENTINEL as u64;
+        }
+        lent.sweeps[..pass.sweeps.len()].copy_from_slice(&pass.sweeps);
+        0
+    }
+
+    fn choose(
+        &mut self,
+        cars: usize,
+        columns: usize,
+        cells: &[u64],
+        chosen: &mut [u32],
+        total: &mut u64,
+    ) -> u32 {
+        let mut seen = cells.to_vec();
+        if self.fault == Fault::CellAboveSentinel {
+            seen.iter_mut().for_each(|c| *c = (*c).min(SENTINEL as u64));
+        }
+        if choice::expected(cars, columns, &seen, chosen.len()).is_none() {
+            return 1;
+        }
+        let found = self.chosen(cars, columns, &seen);
+        *total = 0;
+        for i in 0..cars {
+            chosen[i] = found[i] as u32;
+            *total += seen[i * columns + found[i]];
+        }
+        0
+    }
+}

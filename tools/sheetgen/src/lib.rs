@@ -1,0 +1,14 @@
+//! The sheet of the dispatch bench, written from document 01 alone: its records and their bits, a reader
+//! that gives each byte string its refusal, generators of sheets from a seed, and a shrinker.
+
+pub mod bits;
+pub mod describe;
+pub mod generate;
+pub mod provoke;
+pub mod reader;
+pub mod rng;
+pub mod sheet;
+pub mod shrink;
+
+pub use reader::{Refusal, read};
+pub use sheet::{Aboard, Car, Demand, Line, Policy, Sheet, Stop, Waiting};
