@@ -116,7 +116,7 @@ fn lines_served<'a>(targets: &'a [u32], lines: &'a [u32], n: usize, stops: &'a [
 }
 
 // Whether the stop with this id is covered.
-fn is_covered<'a>(targets: &'a [u32], lines: &'a [u32], rooms: &'a [f64], n: usize, ids: &'a [u32], nl: usize, stops: &'a [u32], required: &'a [u32], weights: &'a [f64], nw: usize, id: u32) -> bool
+pub fn is_covered<'a>(targets: &'a [u32], lines: &'a [u32], rooms: &'a [f64], n: usize, ids: &'a [u32], nl: usize, stops: &'a [u32], required: &'a [u32], weights: &'a [f64], nw: usize, id: u32) -> bool
     requires { ⌜ (n ≤ length (now targets)) × (n ≤ length (now lines)) × (n ≤ length (now rooms)) × (nl ≤ length (now ids)) ⌝ }
     requires { ⌜ (nw ≤ length (now stops)) × (nw ≤ length (now required)) × (nw ≤ length (now weights)) ⌝ }
     ensures { λ r. ⌜ r ≡ coveredBy (now (targets .entry)) (now (lines .entry)) (now (rooms .entry)) n (now (ids .entry)) nl (now (stops .entry)) (now (required .entry)) (now (weights .entry)) nw id ⌝ }

@@ -40,7 +40,7 @@ returns c =
     let l = c .before .loop in
     let a = c .before .before .before .before .args in
     let e : l .i ≡ a .n = omega arith in
-    l .inv .2 ∙ ap (λ (m : ℕ). tab (λ k. ofBits binary64 (fieldAt (a .s .now) (a .base + a .len * k + a .off) 64)) m ++ drop m (a .out .now)) e
+    (l .inv .1, l .inv .2 ∙ ap (λ (m : ℕ). tab (λ k. ofBits binary64 (fieldAt (a .s .now) (a .base + a .len * k + a .off) 64)) m ++ drop m (a .out .now)) e)
 
 pub fill-doubles-spec : {M : Type 1} → statement M
 fill-doubles-spec =

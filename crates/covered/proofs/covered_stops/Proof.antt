@@ -1,0 +1,49 @@
+-- covered::covered_stops meets its contract.
+use Prim.Native.Nat.{ℕ, _+_, _*_}
+use Rattle.bits.specs.Field.{fieldAt}
+use Rattle.columns.specs.Held.{held}
+use Rattle.components.specs.Cars.{remaining}
+use Rattle.covered.specs.Columns.{servedTarget}
+use Rattle.covered.specs.Same.{HoldsCars}
+use Rattle.layout.specs.Records.{from, carOf, lineOf, sheetOf}
+use borrow.Author.Needs.{needs}
+use lib.Ieee.{nan}
+use mathlib.Core.Path.{_≡_, ap, _∙_}
+use native.Mathlib.Omega.{arith}
+use Rattle.covered.proofs.covered_stops.Statement.{statement}
+use Rattle.covered.proofs.covered_stops.Tie as tie
+
+-- the columns hold the cars' and the lines' fields
+held-cars : (c : tie.After-ids3) → HoldsCars (sheetOf (c .before .before .before .before .before .before .before .before .before .before .before .before .before .before .before .before .before .before .before .before .before .before .args .s .now) (c .before .before .before .before .before .before .before .before .before .before .before .before .before .before .before .before .before .before .before .before .before .before .args .c)) (c .before .before .before .before .before .before .before .before .before .before .before .before .before .before .before .before .fill-targets .last .1 .1 .1 .0) (c .before .before .before .before .before .before .before .before .before .before .before .before .before .fill32 .last .1 .1 .1 .1 .1 .0) (c .before .before .before .before .before .before .before .before .before .before .fill-rooms .last .1 .1 .1 .0) (c .before .before .before .before .before .fill322 .last .1 .1 .1 .1 .1 .0)
+unfolding sheetOf carOf lineOf
+held-cars c =
+    let a = c .before .before .before .before .before .before .before .before .before .before .before .before .before .before .before .before .before .before .before .before .before .before .args in
+    let b = a .s .now in
+    let at = c .before .before .before .before .before .before .before .before .before .before .before .before .before .before .before .before .before .before .cars-from in
+    let lines = c .before .before .before .before .before .before .before .before .lines-from in
+    record {
+      target = λ i l. held (λ k. servedTarget (carOf (from b (at .result + 737 * k)))) (a .c .cars) _ _ (c .before .before .before .before .before .before .before .before .before .before .before .before .before .before .before .before .fill-targets .ensures .1) 0 i l ∙ ap (λ (x : ℕ). servedTarget (carOf (from b (x + 737 * i)))) (at .ensures);
+      line = λ i l. held (λ k. fieldAt b (at .result + 737 * k + 54) 32) (a .c .cars) _ _ (c .before .before .before .before .before .before .before .before .before .before .before .before .before .fill32 .ensures .1) 0 i l ∙ ap (λ (x : ℕ). fieldAt b (x + 737 * i + 54) 32) (at .ensures);
+      room = λ i l. held (λ k. remaining (carOf (from b (at .result + 737 * k)))) (a .c .cars) _ _ (c .before .before .before .before .before .before .before .before .before .before .fill-rooms .ensures .1) nan i l ∙ ap (λ (x : ℕ). remaining (carOf (from b (x + 737 * i)))) (at .ensures);
+      line-id = λ l k. held (λ k. fieldAt b (lines .result + 118 * k + 22) 32) (a .c .lines) _ _ (c .before .before .before .before .before .fill322 .ensures .1) 0 l k ∙ ap (λ (x : ℕ). fieldAt b (x + 118 * l + 22) 32) (lines .ensures);
+    }
+
+covered-waits-requires : tie.Need-covered-waits-requires
+unfolding sheetOf
+covered-waits-requires c κs =
+    let p = c .before .before .before .before .before .before .before .before .before .before .before .before .before .before .before .before .before .before .before .before .before .before .pre in
+    let a = c .before .before .before .before .before .before .before .before .before .before .before .before .before .before .before .before .before .before .before .before .before .before .args in
+    let b = a .s .now in
+    let at = c .before .before .before .before .before .before .before .before .before .before .before .before .before .before .before .before .before .before .cars-from in
+    ((p .0, omega (arith, c .before .before .before .before .before .before .before .before .before .before .before .before .before .before .before .before .fill-targets .ensures .0), omega (arith, c .before .before .before .before .before .before .before .before .before .before .before .before .before .fill32 .ensures .0), omega (arith, c .before .before .before .before .before .before .before .before .before .before .fill-rooms .ensures .0), omega (arith, c .before .before .before .before .before .fill322 .ensures .0), p .1),
+    (held-cars c, p .2))
+
+returns : tie.Need-returns
+returns c = c .covered-waits .ensures
+
+pub covered-stops-spec : {M : Type 1} → statement M
+covered-stops-spec =
+    tie.close
+    (tie.spec (λ c. search needs) (λ c κs. search needs) (λ c. search needs) (λ c κs. search needs) (λ c. search needs)
+    (λ c κs. search needs) (λ c. search needs) (λ c κs. search needs) (λ c κs. search needs) (λ c. search needs) (λ c. search needs)
+    (λ c κs. search needs) (λ c. search needs) (λ c. search needs) (λ c. search needs) (λ c. search needs) covered-waits-requires returns)

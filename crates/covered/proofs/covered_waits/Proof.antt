@@ -1,0 +1,41 @@
+-- covered::covered_waits meets its contract.
+use Prim.Native.Nat.{ℕ, _+_, _*_}
+use Rattle.bits.specs.Field.{fieldAt}
+use Rattle.columns.specs.Held.{held}
+use Rattle.covered.specs.Same.{HoldsWaits, mask-same}
+use Rattle.layout.specs.Records.{waitingOf, sheetOf}
+use borrow.Author.Needs.{needs}
+use lib.Ieee.{nan, ofBits, binary64}
+use mathlib.Core.Path.{_≡_, ap, _∙_}
+use native.Mathlib.Omega.{arith}
+use Rattle.covered.proofs.covered_waits.Statement.{statement}
+use Rattle.covered.proofs.covered_waits.Tie as tie
+
+covered-mask-requires : tie.Need-covered-mask-requires
+covered-mask-requires c κs =
+    let p = c .before .before .before .before .before .before .before .before .before .before .before .before .before .before .before .before .before .before .before .before .before .before .pre in
+    ((omega arith, omega arith, omega arith, omega arith),
+    (omega (arith, c .before .before .before .before .before .before .before .before .before .before .before .before .fill32 .ensures .0), omega (arith, c .before .before .before .before .before .before .before .before .before .fill322 .ensures .0), omega (arith, c .before .before .before .before .before .before .fill-doubles .ensures .0), omega arith))
+
+returns : tie.Need-returns
+unfolding sheetOf waitingOf
+returns c =
+    let a = c .before .before .before .before .before .before .before .before .before .before .before .before .before .before .before .before .before .before .before .before .before .before .before .args in
+    let b = a .s .now in
+    let at = c .before .before .before .before .before .before .before .before .before .before .before .before .before .before .before .waits-from .ensures in
+    c .covered-mask .ensures
+    ∙ mask-same (sheetOf b (a .c)) _ _ _ _ _ _ _ (a .asked) _
+    (c .before .before .before .before .before .before .before .before .before .before .before .before .before .before .before .before .before .before .before .before .before .before .before .pre .1 .0)
+    (record {
+      stop = λ w l. held (λ k. fieldAt b (c .before .before .before .before .before .before .before .before .before .before .before .before .before .before .before .waits-from .result + 248 * k + 22) 32) (a .c .waits) _ _ (c .before .before .before .before .before .before .before .before .before .before .before .before .before .fill32 .ensures .1) 0 w l ∙ ap (λ (x : ℕ). fieldAt b (x + 248 * w + 22) 32) at;
+      required-line = λ w l. held (λ k. fieldAt b (c .before .before .before .before .before .before .before .before .before .before .before .before .before .before .before .waits-from .result + 248 * k + 55) 32) (a .c .waits) _ _ (c .before .before .before .before .before .before .before .before .before .before .fill322 .ensures .1) 0 w l ∙ ap (λ (x : ℕ). fieldAt b (x + 248 * w + 55) 32) at;
+      weight = λ w l. held (λ k. ofBits binary64 (fieldAt b (c .before .before .before .before .before .before .before .before .before .before .before .before .before .before .before .waits-from .result + 248 * k + 120) 64)) (a .c .waits) _ _ (c .before .before .before .before .before .before .before .fill-doubles .ensures .1) nan w l ∙ ap (λ (x : ℕ). ofBits binary64 (fieldAt b (x + 248 * w + 120) 64)) at;
+    })
+    (c .before .before .before .before .before .before .before .before .before .before .before .before .before .before .before .before .before .before .before .before .before .before .before .pre .1 .1)
+
+pub covered-waits-spec : {M : Type 1} → statement M
+covered-waits-spec =
+    tie.close
+    (tie.spec (λ c. search needs) (λ c κs. search needs) (λ c. search needs) (λ c κs. search needs) (λ c. search needs)
+    (λ c κs. search needs) (λ c. search needs) (λ c κs. search needs) (λ c. search needs) (λ c. search needs) (λ c. search needs)
+    (λ c. search needs) (λ c. search needs) covered-mask-requires returns)

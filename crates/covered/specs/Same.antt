@@ -1,0 +1,111 @@
+-- Coverage by columns is the sheet's. Assumes nothing.
+use Prim.Native.Nat.{ℕ, _<_}
+use mathlib.Core.Path.{_≡_, refl, sym, ap, ap₂, _∙_}
+use mathlib.Core.Bool.{Bool, true, false, not, _&&_, _||_, cond}
+use mathlib.Core.List.{List}
+use mathlib.Core.Logic.{⊎-elim}
+use native.Mathlib.Omega.{arith}
+use lib.Dec.{eqb}
+use lib.ListN.{getD}
+use lib.Ieee.{Float, nan, le}
+use borrow.Author.Tests.{ne-eqb}
+use Rattle.laws.specs.Bools.{which}
+use Rattle.laws.specs.Folds.{fold, any, every, fold-cong, any-cong, every-cong}
+use Rattle.fp.specs.Num.{zero, plus}
+use Rattle.mask.specs.Mask.{has, built}
+use Rattle.mask.specs.MaskLaws.{built-cong}
+use Rattle.components.specs.Cars.{servicing, remaining}
+use Rattle.components.specs.Sheet.{Sheet}
+use Rattle.manifest.specs.World.{stopId}
+use Rattle.manifest.specs.Manifest.{waitsAt}
+use Rattle.assignment.specs.Pending.{serves, lineCapacity, capacityAt, weightAt, lineServed, covered}
+use Rattle.coverage.specs.Coverage.{servesBy, anyServes, roomStep, lineRoom, capacityStep, capacityBy, weightStep, weightBy, onServedLine, lineServedBy, waiterServed, linesServed, coveredBy}
+use Rattle.covered.specs.Columns.{servedTarget, HoldsIds}
+
+-- lists that hold the columns that coverage asks for, of the cars and lines, and of those who wait
+pub record HoldsCars (s : Sheet) (targets lines : List ℕ) (rooms : List Float) (ids : List ℕ) : Type 0 where
+  pub target : (i : ℕ) → i < s .cars → getD targets i 0 ≡ servedTarget (s .car i)
+  pub line : (i : ℕ) → i < s .cars → getD lines i 0 ≡ s .car i .line
+  pub room : (i : ℕ) → i < s .cars → getD rooms i nan ≡ remaining (s .car i)
+  pub line-id : (l : ℕ) → l < s .lines → getD ids l 0 ≡ s .line l .id
+
+pub record HoldsWaits (s : Sheet) (stops required : List ℕ) (weights : List Float) : Type 0 where
+  pub stop : (w : ℕ) → w < s .waits → getD stops w 0 ≡ s .waiting w .stop
+  pub required-line : (w : ℕ) → w < s .waits → getD required w 0 ≡ s .waiting w .line
+  pub weight : (w : ℕ) → w < s .waits → getD weights w nan ≡ s .waiting w .weight
+
+-- stop j is asked for and covered, with its id from a list of names
+unfoldable pub coveredIn : List ℕ → List ℕ → List Float → ℕ → List ℕ → ℕ → List ℕ → List ℕ → List Float → ℕ → ℕ → List ℕ → ℕ → Bool
+coveredIn targets lines rooms n ids nl stops required weights nw asked names j =
+    has asked j && coveredBy targets lines rooms n ids nl stops required weights nw (getD names j 0)
+
+-- a target of 0 is no stop's id
+served : (b : Bool) (t id : ℕ) → 0 < id → eqb (cond b t 0) id ≡ (eqb t id && b)
+served true t id h = and-true (eqb t id)
+  where
+    and-true : (a : Bool) → a ≡ (a && true)
+    and-true true = refl
+    and-true false = refl
+served false t id h = ne-eqb 0 id (λ e. absurd (omega arith)) ∙ and-false (eqb t id)
+  where
+    and-false : (a : Bool) → false ≡ (a && false)
+    and-false true = refl
+    and-false false = refl
+
+module _ (s : Sheet) (targets lines : List ℕ) (rooms : List Float) (ids stops required : List ℕ) (weights : List Float)
+  (h : HoldsCars s targets lines rooms ids) (k : HoldsWaits s stops required weights) (j : ℕ) (pos : 0 < stopId s j) where
+  serves-same : (i : ℕ) → i < s .cars → servesBy targets (stopId s j) i ≡ serves s j i
+  unfolding serves
+  serves-same i l =
+      ap (λ (t : ℕ). eqb t (stopId s j)) (h .target i l) ∙ served (servicing (s .car i .phase)) (s .car i .target) (stopId s j) pos
+
+  any-same : anyServes targets (s .cars) (stopId s j) ≡ any (serves s j) (s .cars)
+  unfolding anyServes
+  any-same = any-cong (servesBy targets (stopId s j)) (serves s j) (s .cars) serves-same
+
+  room-same : (a : Float) (l : ℕ) → l < s .lines → capacityStep targets lines rooms (s .cars) ids (stopId s j) a l ≡ lineCapacity s j a l
+  unfolding lineRoom lineCapacity
+  room-same a l ll =
+      fold-cong (roomStep targets lines rooms (stopId s j) (getD ids l 0))
+      (λ b i. cond (eqb (s .car i .line) (s .line l .id) && serves s j i) (plus b (remaining (s .car i))) b) a (s .cars)
+      (λ b i li. rw (h .line i li, h .line-id l ll, serves-same i li, h .room i li))
+
+  capacity-same : capacityBy targets lines rooms (s .cars) ids (s .lines) (stopId s j) ≡ capacityAt s j
+  unfolding capacityBy capacityAt
+  capacity-same = fold-cong (capacityStep targets lines rooms (s .cars) ids (stopId s j)) (lineCapacity s j) zero (s .lines) room-same
+
+  weight-same : weightBy stops weights (s .waits) (stopId s j) ≡ weightAt s j
+  unfolding weightBy weightAt
+  weight-same =
+      fold-cong (weightStep stops weights (stopId s j)) (λ a w. cond (waitsAt s j w) (plus a (s .waiting w .weight)) a) zero (s .waits)
+      (λ a w lw. rw (k .stop w lw, k .weight w lw))
+
+  lines-same : linesServed targets lines (s .cars) stops required (s .waits) (stopId s j)
+      ≡ every (λ w. not (waitsAt s j w) || lineServed s j w) (s .waits)
+  unfolding linesServed lineServedBy lineServed
+  lines-same =
+      every-cong (waiterServed targets lines (s .cars) stops required (stopId s j)) (λ w. not (waitsAt s j w) || lineServed s j w) (s .waits)
+      (λ w lw.
+      ap₂ (λ (a b : Bool). not a || b)
+      (ap (λ (x : ℕ). eqb x (stopId s j)) (k .stop w lw))
+      (ap₂ (λ (a b : Bool). a || b)
+      (ap (λ (x : ℕ). eqb x 0) (k .required-line w lw))
+      (any-cong (onServedLine targets lines (stopId s j) (getD required w 0)) (λ i. serves s j i && eqb (s .car i .line) (s .waiting w .line)) (s .cars)
+      (λ i li. rw (serves-same i li, h .line i li, k .required-line w lw)))))
+
+  pub covered-same : coveredBy targets lines rooms (s .cars) ids (s .lines) stops required weights (s .waits) (stopId s j) ≡ covered s j
+  unfolding coveredBy covered
+  covered-same = rw (any-same, lines-same, weight-same, capacity-same)
+
+-- the mask of what is asked for and covered
+pub mask-same : (s : Sheet) (targets lines : List ℕ) (rooms : List Float) (ids stops required : List ℕ) (weights : List Float) (asked : ℕ) (names : List ℕ)
+    → HoldsCars s targets lines rooms ids → HoldsWaits s stops required weights → HoldsIds s asked names
+    → built (coveredIn targets lines rooms (s .cars) ids (s .lines) stops required weights (s .waits) asked names) 64 ≡ built (λ j. has asked j && covered s j) 64
+unfolding coveredIn
+mask-same s targets lines rooms ids stops required weights asked names h k names-held =
+    built-cong (coveredIn targets lines rooms (s .cars) ids (s .lines) stops required weights (s .waits) asked names) (λ j. has asked j && covered s j) 64
+    (λ j l. ⊎-elim
+    (λ (t : has asked j ≡ true).
+    rw (t, names-held .held j l t) (covered-same s targets lines rooms ids stops required weights h k j (names-held .above-zero j l t)))
+    (λ (t : has asked j ≡ false). rw t)
+    (which (has asked j)))

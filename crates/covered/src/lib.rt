@@ -1,0 +1,121 @@
+// The covered stops of a sheet: its columns, and is_covered for each stop that is asked for.
+ghost use mathlib.Core.Path.{_≡_};
+ghost use mathlib.Core.Bool.{_&&_, cond};
+ghost use mathlib.Core.List.{_++_};
+ghost use Prim.Native.Nat.{ℕ, _+_, _*_, _^_, _<_, _≤_};
+ghost use lib.ListN.{length, getD, drop};
+ghost use Rattle.laws.specs.Tables.{tab};
+ghost use Rattle.mask.specs.Mask.{has, built};
+ghost use Rattle.components.specs.Cars.{servicing, remaining};
+ghost use Rattle.layout.specs.Offsets.{Small, carsFrom};
+ghost use Rattle.layout.specs.Records.{from, carOf, sheetOf};
+ghost use Rattle.assignment.specs.Pending.{covered};
+ghost use Rattle.coverage.specs.Coverage.{coveredBy};
+ghost use Rattle.covered.specs.Columns.{servedTarget, HoldsIds};
+ghost use Rattle.covered.specs.Same.{coveredIn, HoldsCars};
+
+use components::Phase;
+use layout::Counts;
+
+// The target of a car that serves it, else 0.
+fn target_at(s: &[u8], at: u32) -> u32
+    ensures { λ r. ⌜ r ≡ servedTarget (carOf (from (now (s .entry)) at)) ⌝ }
+{
+    let phase = Phase::of_code(bits::field(s, at, 86, 3), bits::field32(s, at, 89));
+    if phase.servicing() {
+        bits::field32(s, at, 122)
+    } else {
+        0
+    }
+}
+
+// The weight that a car still takes.
+fn room_at(s: &[u8], at: u32) -> f64
+    ensures { λ r. ⌜ r ≡ remaining (carOf (from (now (s .entry)) at)) ⌝ }
+{
+    records::double_at(s, at, 287) - records::double_at(s, at, 351)
+}
+
+fn fill_targets(s: &[u8], base: u32, n: usize, out: &mut [u32])
+    requires { ⌜ (base < 2 ^ 31) × (n ≤ 32) × (length (now out) ≡ 32) ⌝ }
+    ensures { λ _. ⌜ (length (now (out .exit)) ≡ length (now (out .entry))) × (now (out .exit) ≡ tab (λ i. servedTarget (carOf (from (now (s .entry)) (base + 737 * i)))) n ++ drop n (now (out .entry))) ⌝ }
+{
+    let mut i: usize = 0;
+    while i < n {
+        out[i] = target_at(s, base + 737 * (i as u32));
+        i += 1;
+    }
+}
+
+fn fill_rooms(s: &[u8], base: u32, n: usize, out: &mut [f64])
+    requires { ⌜ (base < 2 ^ 31) × (n ≤ 32) × (length (now out) ≡ 32) ⌝ }
+    ensures { λ _. ⌜ (length (now (out .exit)) ≡ length (now (out .entry))) × (now (out .exit) ≡ tab (λ i. remaining (carOf (from (now (s .entry)) (base + 737 * i)))) n ++ drop n (now (out .entry))) ⌝ }
+{
+    let mut i: usize = 0;
+    while i < n {
+        out[i] = room_at(s, base + 737 * (i as u32));
+        i += 1;
+    }
+}
+
+// Whether stop j is in the mask and covered.
+fn covered_at<'a>(targets: &'a [u32], lines: &'a [u32], rooms: &'a [f64], n: usize, ids: &'a [u32], nl: usize, stops: &'a [u32], required: &'a [u32], weights: &'a [f64], nw: usize, asked: u64, j: usize, id: u32) -> bool
+    requires { ⌜ (n ≤ length (now targets)) × (n ≤ length (now lines)) × (n ≤ length (now rooms)) × (nl ≤ length (now ids)) ⌝ }
+    requires { ⌜ (nw ≤ length (now stops)) × (nw ≤ length (now required)) × (nw ≤ length (now weights)) × (j < 64) ⌝ }
+    ensures { λ r. ⌜ r ≡ (has asked j && coveredBy (now (targets .entry)) (now (lines .entry)) (now (rooms .entry)) n (now (ids .entry)) nl (now (stops .entry)) (now (required .entry)) (now (weights .entry)) nw id) ⌝ }
+{
+    if !mask::has(asked, j) {
+        return false;
+    }
+    coverage::is_covered(targets, lines, rooms, n, ids, nl, stops, required, weights, nw, id)
+}
+
+// The stops of the mask that are covered.
+fn covered_mask<'a>(targets: &'a [u32], lines: &'a [u32], rooms: &'a [f64], n: usize, ids: &'a [u32], nl: usize, stops: &'a [u32], required: &'a [u32], weights: &'a [f64], nw: usize, asked: u64, names: &'a [u32]) -> u64
+    requires { ⌜ (n ≤ length (now targets)) × (n ≤ length (now lines)) × (n ≤ length (now rooms)) × (nl ≤ length (now ids)) ⌝ }
+    requires { ⌜ (nw ≤ length (now stops)) × (nw ≤ length (now required)) × (nw ≤ length (now weights)) × (length (now names) ≡ 64) ⌝ }
+    ensures { λ r. ⌜ r ≡ built (coveredIn (now (targets .entry)) (now (lines .entry)) (now (rooms .entry)) n (now (ids .entry)) nl (now (stops .entry)) (now (required .entry)) (now (weights .entry)) nw asked (now (names .entry))) 64 ⌝ }
+{
+    let mut m: u64 = 0;
+    let mut j: usize = 0;
+    while j < 64 {
+        m = mask::pushed(m, covered_at(targets, lines, rooms, n, ids, nl, stops, required, weights, nw, asked, j, names[j]));
+        j += 1;
+    }
+    m
+}
+
+// The stops of the mask that are covered, with the columns of those who wait.
+fn covered_waits<'a>(s: &'a [u8], c: Counts, targets: &'a [u32], lines: &'a [u32], rooms: &'a [f64], ids: &'a [u32], asked: u64, names: &'a [u32]) -> u64
+    requires { ⌜ Small c × (length (now targets) ≡ 32) × (length (now lines) ≡ 32) × (length (now rooms) ≡ 32) × (length (now ids) ≡ 8) × (length (now names) ≡ 64) ⌝ }
+    requires { ⌜ HoldsCars (sheetOf (now s) c) (now targets) (now lines) (now rooms) (now ids) × HoldsIds (sheetOf (now s) c) asked (now names) ⌝ }
+    ensures { λ r. ⌜ r ≡ built (λ j. has asked j && covered (sheetOf (now (s .entry)) c) j) 64 ⌝ }
+{
+    let mut stops = [0u32; 512];
+    let mut required = [0u32; 512];
+    let mut weights = [0.0f64; 512];
+    let n = c.waits as usize;
+    let at = c.waits_from();
+    columns::fill32(s, at, 248, 22, n, &mut stops);
+    columns::fill32(s, at, 248, 55, n, &mut required);
+    columns::fill_doubles(s, at, 248, 120, n, &mut weights);
+    covered_mask(targets, lines, rooms, c.cars as usize, ids, c.lines as usize, &stops, &required, &weights, n, asked, names)
+}
+
+// The stops of the mask that are covered. The mask has stops with a record only, and names holds their ids.
+pub fn covered_stops<'a>(s: &'a [u8], c: Counts, asked: u64, names: &'a [u32]) -> u64
+    requires { ⌜ Small c × (length (now names) ≡ 64) × HoldsIds (sheetOf (now s) c) asked (now names) ⌝ }
+    ensures { λ r. ⌜ r ≡ built (λ j. has asked j && covered (sheetOf (now (s .entry)) c) j) 64 ⌝ }
+{
+    let mut targets = [0u32; 32];
+    let mut lines = [0u32; 32];
+    let mut rooms = [0.0f64; 32];
+    let mut ids = [0u32; 8];
+    let n = c.cars as usize;
+    let at = c.cars_from();
+    fill_targets(s, at, n, &mut targets);
+    columns::fill32(s, at, 737, 54, n, &mut lines);
+    fill_rooms(s, at, n, &mut rooms);
+    columns::fill32(s, c.lines_from(), 118, 22, c.lines as usize, &mut ids);
+    covered_waits(s, c, &targets, &lines, &rooms, &ids, asked, names)
+}
