@@ -8,13 +8,11 @@ use lib.ListN.{getD}
 use lib.Ieee.{Float, nan, le}
 use Rattle.laws.specs.Folds.{fold, any, every}
 use Rattle.fp.specs.Num.{zero, plus}
+use Rattle.columns.specs.Named.{contains}
 
 -- car i serves the stop with this id
 abbrev pub servesBy : List ℕ → ℕ → ℕ → Bool
 servesBy targets id i = eqb (getD targets i 0) id
-
-unfoldable pub anyServes : List ℕ → ℕ → ℕ → Bool
-anyServes targets n id = any (servesBy targets id) n
 
 -- one car's part of a line's room
 abbrev pub roomStep : List ℕ → List ℕ → List Float → ℕ → ℕ → Float → ℕ → Float
@@ -52,6 +50,6 @@ linesServed targets lines n stops required nw id = every (waiterServed targets l
 -- covered, of the stop with this id
 unfoldable pub coveredBy : List ℕ → List ℕ → List Float → ℕ → List ℕ → ℕ → List ℕ → List ℕ → List Float → ℕ → ℕ → Bool
 coveredBy targets lines rooms n ids nl stops required weights nw id =
-    anyServes targets n id
+    contains targets n id
     && (linesServed targets lines n stops required nw id
     && le (weightBy stops weights nw id) (capacityBy targets lines rooms n ids nl id))

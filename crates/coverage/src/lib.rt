@@ -5,28 +5,13 @@ ghost use lib.Dec.{eqb};
 ghost use Prim.Native.Nat.{_<_, _≤_};
 ghost use lib.ListN.{length, getD};
 ghost use Rattle.fp.specs.Num.{plus};
-ghost use Rattle.coverage.specs.Coverage.{anyServes, lineRoom, capacityBy, weightBy, lineServedBy, linesServed, coveredBy};
+ghost use Rattle.coverage.specs.Coverage.{lineRoom, capacityBy, weightBy, lineServedBy, linesServed, coveredBy};
 
 // a with x added where b holds.
 fn add_if(b: bool, a: f64, x: f64) -> f64
     ensures { λ r. ⌜ r ≡ cond b (plus a x) a ⌝ }
 {
     if b { a + x } else { a }
-}
-
-// Whether one of n cars serves the stop with this id.
-fn any_serves(targets: &[u32], n: usize, id: u32) -> bool
-    requires { ⌜ n ≤ length (now targets) ⌝ }
-    ensures { λ r. ⌜ r ≡ anyServes (now (targets .entry)) n id ⌝ }
-{
-    let mut i: usize = 0;
-    while i < n {
-        if targets[i] == id {
-            return true;
-        }
-        i += 1;
-    }
-    false
 }
 
 // a, and the room of each car of the line that serves the stop, in record order.
@@ -121,7 +106,7 @@ pub fn is_covered<'a>(targets: &'a [u32], lines: &'a [u32], rooms: &'a [f64], n:
     requires { ⌜ (nw ≤ length (now stops)) × (nw ≤ length (now required)) × (nw ≤ length (now weights)) ⌝ }
     ensures { λ r. ⌜ r ≡ coveredBy (now (targets .entry)) (now (lines .entry)) (now (rooms .entry)) n (now (ids .entry)) nl (now (stops .entry)) (now (required .entry)) (now (weights .entry)) nw id ⌝ }
 {
-    if !any_serves(targets, n, id) {
+    if !columns::contains(targets, n, id) {
         return false;
     }
     if !lines_served(targets, lines, n, stops, required, nw, id) {

@@ -19,7 +19,8 @@ use Rattle.components.specs.Sheet.{Sheet}
 use Rattle.manifest.specs.World.{stopId}
 use Rattle.manifest.specs.Manifest.{waitsAt}
 use Rattle.assignment.specs.Pending.{serves, lineCapacity, capacityAt, weightAt, lineServed, covered}
-use Rattle.coverage.specs.Coverage.{servesBy, anyServes, roomStep, lineRoom, capacityStep, capacityBy, weightStep, weightBy, onServedLine, lineServedBy, waiterServed, linesServed, coveredBy}
+use Rattle.columns.specs.Named.{contains}
+use Rattle.coverage.specs.Coverage.{servesBy, roomStep, lineRoom, capacityStep, capacityBy, weightStep, weightBy, onServedLine, lineServedBy, waiterServed, linesServed, coveredBy}
 use Rattle.covered.specs.Columns.{servedTarget, HoldsIds}
 
 -- lists that hold the columns that coverage asks for, of the cars and lines, and of those who wait
@@ -59,8 +60,8 @@ module _ (s : Sheet) (targets lines : List ℕ) (rooms : List Float) (ids stops 
   serves-same i l =
       ap (λ (t : ℕ). eqb t (stopId s j)) (h .target i l) ∙ served (servicing (s .car i .phase)) (s .car i .target) (stopId s j) pos
 
-  any-same : anyServes targets (s .cars) (stopId s j) ≡ any (serves s j) (s .cars)
-  unfolding anyServes
+  any-same : contains targets (s .cars) (stopId s j) ≡ any (serves s j) (s .cars)
+  unfolding contains
   any-same = any-cong (servesBy targets (stopId s j)) (serves s j) (s .cars) serves-same
 
   room-same : (a : Float) (l : ℕ) → l < s .lines → capacityStep targets lines rooms (s .cars) ids (stopId s j) a l ≡ lineCapacity s j a l

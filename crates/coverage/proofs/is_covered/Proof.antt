@@ -8,18 +8,18 @@ use Rattle.coverage.proofs.is_covered.Tie as tie
 
 returns : tie.Need-returns
 unfolding coveredBy
-returns c = rw (sym (c .before .any-serves .ensures) ∙ not-true _ (c .if1 .taken))
+returns c = rw (sym (c .before .contains .ensures) ∙ not-true _ (c .if1 .taken))
 
 returns-2 : tie.Need-returns-2
 unfolding coveredBy
 returns-2 c =
-    rw (sym (c .before .before .before .any-serves .ensures) ∙ not-false _ (c .before .before .if1 .left), sym (c .before .lines-served .ensures) ∙ not-true _ (c .if2 .taken))
+    rw (sym (c .before .before .before .contains .ensures) ∙ not-false _ (c .before .before .if1 .left), sym (c .before .lines-served .ensures) ∙ not-true _ (c .if2 .taken))
 
 returns-3 : tie.Need-returns-3
 unfolding coveredBy
 returns-3 c =
     rw (
-      sym (c .before .before .before .before .before .any-serves .ensures) ∙ not-false _ (c .before .before .before .before .if1 .left),
+      sym (c .before .before .before .before .before .contains .ensures) ∙ not-false _ (c .before .before .before .before .if1 .left),
       sym (c .before .before .before .lines-served .ensures) ∙ not-false _ (c .before .before .if2 .left),
       c .before .weight-at .ensures,
       c .capacity-at .ensures,

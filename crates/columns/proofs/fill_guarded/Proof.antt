@@ -1,0 +1,48 @@
+-- columns::fill_guarded meets its contract.
+use Prim.Native.Nat.{ℕ, _≤_, _-_, _+_, _*_}
+use Rattle.columns.proofs.Offset.{offset-small}
+use Rattle.columns.specs.Named.{guarded}
+use Rattle.laws.specs.Tables.{tab, tab-next}
+use borrow.Author.Needs.{needs}
+use lib.ListN.{length, drop, length-set}
+use mathlib.Core.List.{List, _++_}
+use mathlib.Core.Path.{_≡_, refl, sym, ap, _∙_}
+use native.Mathlib.Omega.{arith}
+use Rattle.columns.proofs.fill_guarded.Statement.{statement}
+use Rattle.columns.proofs.fill_guarded.Tie as tie
+
+abbrev Inv-loop : tie.InvT-loop
+Inv-loop s base len off guard w n out₀ i₀ out i = (i ≤ n) × (length out ≡ length out₀) × (out ≡ tab (λ k. guarded (s) (base + len * k) (off) (guard) (w)) i ++ drop i out₀)
+
+abbrev μ-loop : tie.MeasureT-loop
+μ-loop s base len off guard w n out₀ i₀ out i = n - i
+
+loop-holds : tie.Need-loop-holds Inv-loop μ-loop
+unfolding tab
+loop-holds c = (omega arith, refl, refl)
+
+mul-guarded-at : tie.Need-mul-guarded-at Inv-loop μ-loop
+mul-guarded-at c = let a = c .before .before .before .before .args in omega (arith, offset-small (a .len) (c .before .loop .i) (omega arith) (omega arith))
+
+add-guarded-at : tie.Need-add-guarded-at Inv-loop μ-loop
+add-guarded-at c = let a = c .before .before .before .before .args in omega (arith, offset-small (a .len) (c .before .loop .i) (omega arith) (omega arith))
+
+loop-again : tie.Need-loop-again Inv-loop μ-loop
+loop-again c =
+    let l = c .before .before .loop in
+    let a = c .before .before .before .before .before .args in
+    (omega arith, simp length-set (l .inv .1),
+    tab-next (λ k. guarded (a .s .now) (a .base + a .len * k) (a .off) (a .guard) (a .w)) (a .out .now) (l .out) (l .i) (c .guarded-at .result) (omega arith) (l .inv .2) (c .guarded-at .ensures))
+
+returns : tie.Need-returns Inv-loop μ-loop
+returns c =
+    let l = c .before .loop in
+    let a = c .before .before .before .before .args in
+    let e : l .i ≡ a .n = omega arith in
+    (l .inv .1, l .inv .2 ∙ ap (λ (m : ℕ). tab (λ k. guarded (a .s .now) (a .base + a .len * k) (a .off) (a .guard) (a .w)) m ++ drop m (a .out .now)) e)
+
+pub fill-guarded-spec : {M : Type 1} → statement M
+fill-guarded-spec =
+    tie.close
+    (tie.spec Inv-loop μ-loop loop-holds (λ c. search needs) mul-guarded-at add-guarded-at (λ c κs. search needs) (λ c. search needs)
+    (λ c. search needs) (λ c. search needs) (λ c. search needs) loop-again (λ c. search needs) returns)
