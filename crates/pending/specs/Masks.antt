@@ -1,0 +1,24 @@
+-- Masks of a sheet's stops, each of stops with a record only. Assumes nothing.
+use Prim.Native.Nat.{ℕ, _<_}
+use mathlib.Core.Path.{_≡_}
+use mathlib.Core.Bool.{Bool, _&&_, _||_}
+use mathlib.Core.List.{List}
+use lib.Dec.{eqb, ltb}
+use lib.ListN.{getD}
+use Rattle.laws.specs.Folds.{any}
+use Rattle.mask.specs.Mask.{has, built}
+use Rattle.components.specs.Sheet.{Sheet}
+use Rattle.manifest.specs.World.{stopId}
+
+-- the stops with a record that pass
+abbrev pub stopMask : Sheet → (ℕ → Bool) → ℕ
+stopMask s p = built (λ j. ltb j (s .stops) && p j) 64
+
+-- the stops of every line, or of the lines with this id
+unfoldable pub lineStop : Sheet → Bool → ℕ → ℕ → ℕ → Bool
+lineStop s every id n j = any (λ l. (every || eqb (s .line l .id) id) && has (s .line l .serves) j) n
+
+-- a list holds the ids of the stops, none of them 0
+pub record HoldsNames (s : Sheet) (names : List ℕ) : Type 0 where
+  pub held : (j : ℕ) → j < s .stops → getD names j 0 ≡ stopId s j
+  pub above-zero : (j : ℕ) → j < s .stops → 0 < stopId s j

@@ -1,0 +1,89 @@
+// The pending stops of a sheet: pending_stops_minus_covered of assignment.rs.
+ghost use mathlib.Core.Path.{_≡_};
+ghost use mathlib.Core.Bool.{cond, _||_};
+ghost use Prim.Native.Nat.{_<_, _≤_};
+ghost use lib.Dec.{eqb};
+ghost use Rattle.layout.specs.Offsets.{Small};
+ghost use Rattle.layout.specs.Records.{sheetOf};
+ghost use Rattle.mask.specs.Mask.{built};
+ghost use Rattle.pending.specs.Masks.{lineStop};
+
+ghost use mathlib.Core.Bool.{_&&_};
+ghost use lib.ListN.{length};
+ghost use Rattle.manifest.specs.Manifest.{someoneWaits, riderlessCall, riddenTo, demandStop};
+ghost use Rattle.assignment.specs.Pending.{idleBound, pending};
+ghost use Rattle.pending.specs.Masks.{stopMask, HoldsNames};
+
+use components::Line;
+use layout::Counts;
+
+// The stops of a line, if all are wanted or it has the id.
+fn served_by(line: Line, every: bool, id: u32) -> u64
+    ensures { λ r. ⌜ r ≡ cond (every || eqb (line .id) id) (line .serves) 0 ⌝ }
+{
+    if every | (line.id == id) {
+        line.serves
+    } else {
+        0
+    }
+}
+
+// The stops of every line, or of the line with this id.
+pub fn line_stops(s: &[u8], c: Counts, every: bool, id: u32) -> u64
+    requires { ⌜ Small c ⌝ }
+    ensures { λ r. ⌜ r ≡ built (lineStop (sheetOf (now (s .entry)) c) every id (c .lines)) 64 ⌝ }
+{
+    let n = c.lines;
+    let mut m: u64 = 0;
+    let mut l: u32 = 0;
+    while l < n {
+        m = mask::either(m, served_by(sheet::line_at(s, c, l), every, id));
+        l += 1;
+    }
+    m
+}
+
+// The stops where a hall call has no rider.
+pub fn call_stops<'a>(s: &'a [u8], c: Counts, names: &'a [u32]) -> u64
+    requires { ⌜ Small c × (c .demands ≤ 64) × (length (now names) ≡ 64) × HoldsNames (sheetOf (now s) c) (now names) ⌝ }
+    ensures { λ r. ⌜ r ≡ stopMask (sheetOf (now (s .entry)) c) (riderlessCall (sheetOf (now (s .entry)) c)) ⌝ }
+{
+    let mut ids = [0u32; 64];
+    let n = c.demands as usize;
+    columns::fill_guarded(s, c.demands_from(), 71, 22, 70, 1, n, &mut ids);
+    columns::named_stops(&ids, n, names, c.stops as usize)
+}
+
+// The stops that someone rides to.
+fn ridden_stops<'a>(s: &'a [u8], c: Counts, names: &'a [u32]) -> u64
+    requires { ⌜ Small c × (c .demands ≤ 64) × (length (now names) ≡ 64) × HoldsNames (sheetOf (now s) c) (now names) ⌝ }
+    ensures { λ r. ⌜ r ≡ stopMask (sheetOf (now (s .entry)) c) (riddenTo (sheetOf (now (s .entry)) c)) ⌝ }
+{
+    let mut ids = [0u32; 64];
+    let n = c.demands as usize;
+    columns::fill_guarded(s, c.demands_from(), 71, 22, 54, 16, n, &mut ids);
+    columns::named_stops(&ids, n, names, c.stops as usize)
+}
+
+// The stops where someone waits.
+fn waited_stops<'a>(s: &'a [u8], c: Counts, names: &'a [u32]) -> u64
+    requires { ⌜ Small c × (length (now names) ≡ 64) × HoldsNames (sheetOf (now s) c) (now names) ⌝ }
+    ensures { λ r. ⌜ r ≡ stopMask (sheetOf (now (s .entry)) c) (someoneWaits (sheetOf (now (s .entry)) c)) ⌝ }
+{
+    let mut ids = [0u32; 512];
+    let n = c.waits as usize;
+    columns::fill32(s, c.waits_from(), 248, 22, n, &mut ids);
+    columns::named_stops(&ids, n, names, c.stops as usize)
+}
+
+// The demand stops of the group.
+pub fn demand_stops<'a>(s: &'a [u8], c: Counts, calls: u64, names: &'a [u32]) -> u64
+    requires { ⌜ Small c × (c .demands ≤ 64) × (length (now names) ≡ 64) × HoldsNames (sheetOf (now s) c) (now names) ⌝ }
+    requires { ⌜ calls ≡ stopMask (sheetOf (now s) c) (riderlessCall (sheetOf (now s) c)) ⌝ }
+    ensures { λ r. ⌜ r ≡ stopMask (sheetOf (now (s .entry)) c) (demandStop (sheetOf (now (s .entry)) c)) ⌝ }
+{
+    let group = line_stops(s, c, true, 0);
+    let waited = waited_stops(s, c, names);
+    let ridden = ridden_stops(s, c, names);
+    mask::both(group, mask::either(waited, mask::either(ridden, calls)))
+}
