@@ -1,11 +1,13 @@
 -- Masks of a sheet's stops, each of stops with a record only. Assumes nothing.
-use Prim.Native.Nat.{ℕ, _<_}
+use Prim.Native.Nat.{ℕ, _+_, _<_}
 use mathlib.Core.Path.{_≡_}
-use mathlib.Core.Bool.{Bool, _&&_, _||_}
+use mathlib.Core.Bool.{Bool, _&&_, _||_, cond}
 use mathlib.Core.List.{List}
 use lib.Dec.{eqb, ltb}
 use lib.ListN.{getD}
+use Rattle.bits.specs.Field.{fieldAt}
 use Rattle.laws.specs.Folds.{any}
+use Rattle.columns.specs.Named.{contains}
 use Rattle.mask.specs.Mask.{has, built}
 use Rattle.components.specs.Sheet.{Sheet}
 use Rattle.manifest.specs.World.{stopId}
@@ -22,3 +24,11 @@ lineStop s every id n j = any (λ l. (every || eqb (s .line l .id) id) && has (s
 pub record HoldsNames (s : Sheet) (names : List ℕ) : Type 0 where
   pub held : (j : ℕ) → j < s .stops → getD names j 0 ≡ stopId s j
   pub above-zero : (j : ℕ) → j < s .stops → 0 < stopId s j
+
+-- the destination of the aboard record at a bit, where its car is among the first n ids, else 0
+unfoldable pub boundId : List ℕ → List ℕ → ℕ → ℕ → ℕ
+boundId b idle n at = cond (contains idle n (fieldAt b (at + 22) 32)) (fieldAt b (at + 55) 32) 0
+
+-- every aboard rider names a car
+pub record Boarded (s : Sheet) : Type 0 where
+  pub above-zero : (a : ℕ) → a < s .aboards → 0 < s .aboard a .car

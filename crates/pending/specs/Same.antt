@@ -9,7 +9,7 @@ use native.Mathlib.Omega.{arith}
 use lib.Dec.{eqb, ltb}
 use lib.ListN.{getD}
 use borrow.Author.Tests.{eq-eqb, ne-eqb, ltb-true, lt-ltb, le-ltb, eqb-true}
-use Rattle.laws.specs.Bools.{which, same?, less?}
+use Rattle.laws.specs.Bools.{which, same?, less?, both-left}
 use Rattle.laws.specs.Folds.{any, any-cong, any-next, none-any}
 use Rattle.bits.specs.Field.{fieldAt, field-lt}
 use Rattle.mask.specs.Mask.{has, built}
@@ -18,7 +18,8 @@ use Rattle.components.specs.Sheet.{Sheet}
 use Rattle.manifest.specs.World.{stopId, inGroup}
 use Rattle.manifest.specs.Manifest.{someoneWaits, riderlessCall, riddenTo, hasDemand, demandStop}
 use Rattle.assignment.specs.Pending.{covered, idle, idleBound, pending}
-use Rattle.columns.specs.Named.{contains, named}
+use Rattle.covered.specs.Columns.{HoldsIds}
+use Rattle.columns.specs.Named.{contains, named, guarded}
 use Rattle.pending.specs.Masks.{stopMask, lineStop, HoldsNames}
 
 -- ---- stops named in a column
@@ -35,6 +36,29 @@ guarded-is false v id h = and-true (eqb v id)
     and-true : (a : Bool) → a ≡ (a && true)
     and-true true = refl
     and-true false = refl
+
+pub guarded-column : (b : List ℕ) (at off guard w id : ℕ) → 0 < id
+    → eqb (guarded b at off guard w) id ≡ (eqb (fieldAt b (at + off) 32) id && not (eqb (fieldAt b (at + guard) w) 0))
+unfolding guarded
+guarded-column b at off guard w id h = guarded-is (eqb (fieldAt b (at + guard) w) 0) (fieldAt b (at + off) 32) id h
+
+pub cond-is : (b : Bool) (v id : ℕ) → 0 < id → eqb (cond b v 0) id ≡ (eqb v id && b)
+cond-is true v id h = and-true (eqb v id)
+  where
+    and-true : (a : Bool) → a ≡ (a && true)
+    and-true true = refl
+    and-true false = refl
+cond-is false v id h = ne-eqb 0 id (λ e. absurd (omega arith)) ∙ and-false (eqb v id)
+  where
+    and-false : (a : Bool) → false ≡ (a && false)
+    and-false true = refl
+    and-false false = refl
+
+pub and-swap : (a b : Bool) → (a && b) ≡ (b && a)
+and-swap true true = refl
+and-swap true false = refl
+and-swap false true = refl
+and-swap false false = refl
 
 -- a single bit is one where it is not zero
 pub flag-is : (s : List ℕ) (at : ℕ) → not (eqb (fieldAt s at 1) 0) ≡ eqb (fieldAt s at 1) 1
@@ -126,3 +150,31 @@ module _ (s : Sheet) where
       (has-built (λ i. has ridden i || has calls i) j l
       ∙ ap₂ (λ (a b : Bool). a || b) (mask-has (riddenTo s) ridden er j l) (mask-has (riderlessCall s) calls ec j l)))
       ∙ demand-parts (ltb j (s .stops)) (inGroup s j) (someoneWaits s j) (riddenTo s j) (riderlessCall s j))
+
+  pending-parts : (b d c i : Bool) → ((b && d) && not (((b && d) && c) && not (b && i))) ≡ (b && (d && (i || not c)))
+  pending-parts true true true true = refl
+  pending-parts true true true false = refl
+  pending-parts true true false true = refl
+  pending-parts true true false false = refl
+  pending-parts true false c i = refl
+  pending-parts false d c i = refl
+
+  pub pending-mask : (demand bound cover : ℕ) → demand ≡ stopMask s (demandStop s) → bound ≡ stopMask s (idleBound s)
+      → cover ≡ built (λ j. has demand j && covered s j) 64
+      → built (λ j. has demand j && not (has (built (λ k. has cover k && not (has bound k)) 64) j)) 64 ≡ stopMask s (pending s)
+  unfolding pending
+  pending-mask demand bound cover ed eb ec =
+      built-cong (λ j. has demand j && not (has (built (λ k. has cover k && not (has bound k)) 64) j)) (λ j. ltb j (s .stops) && pending s j) 64
+      (λ j l.
+      let hd = mask-has (demandStop s) demand ed j l in
+      let hb = mask-has (idleBound s) bound eb j l in
+      let hc : has cover j ≡ (has demand j && covered s j) = ap (λ (n : ℕ). has n j) ec ∙ has-built (λ k. has demand k && covered s k) j l in
+      ap (λ (x : Bool). has demand j && not x) (has-built (λ k. has cover k && not (has bound k)) j l)
+      ∙ rw (hc, hd, hb) (pending-parts (ltb j (s .stops)) (demandStop s j) (covered s j) (idleBound s j)))
+
+  -- the stops of a mask have a record, and their names are held
+  pub asked-ids : (names : List ℕ) (m : ℕ) (p : ℕ → Bool) → HoldsNames s names → m ≡ stopMask s p → HoldsIds s m names
+  asked-ids names m p h e =
+      let below : (j : ℕ) → j < 64 → has m j ≡ true → j < s .stops =
+      λ j l t. ltb-true j (s .stops) (both-left (ltb j (s .stops)) (p j) (sym (mask-has p m e j l) ∙ t)) in
+      record { held = λ j l t. h .held j (below j l t); above-zero = λ j l t. h .above-zero j (below j l t) }

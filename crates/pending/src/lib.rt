@@ -12,7 +12,11 @@ ghost use mathlib.Core.Bool.{_&&_};
 ghost use lib.ListN.{length};
 ghost use Rattle.manifest.specs.Manifest.{someoneWaits, riderlessCall, riddenTo, demandStop};
 ghost use Rattle.assignment.specs.Pending.{idleBound, pending};
-ghost use Rattle.pending.specs.Masks.{stopMask, HoldsNames};
+ghost use mathlib.Core.List.{_++_};
+ghost use lib.ListN.{drop};
+ghost use Prim.Native.Nat.{_+_, _*_, _^_};
+ghost use Rattle.laws.specs.Tables.{tab};
+ghost use Rattle.pending.specs.Masks.{stopMask, HoldsNames, boundId, Boarded};
 
 use components::Line;
 use layout::Counts;
@@ -86,4 +90,52 @@ pub fn demand_stops<'a>(s: &'a [u8], c: Counts, calls: u64, names: &'a [u32]) ->
     let waited = waited_stops(s, c, names);
     let ridden = ridden_stops(s, c, names);
     mask::both(group, mask::either(waited, mask::either(ridden, calls)))
+}
+
+// The destination of a rider in one of the idle cars, else 0.
+fn bound_at<'a>(s: &'a [u8], at: u32, idle: &'a [u32], n: usize) -> u32
+    requires { ⌜ n ≤ length (now idle) ⌝ }
+    ensures { λ r. ⌜ r ≡ boundId (now (s .entry)) (now (idle .entry)) n at ⌝ }
+{
+    if columns::contains(idle, n, bits::field32(s, at, 22)) {
+        bits::field32(s, at, 55)
+    } else {
+        0
+    }
+}
+
+fn fill_bound<'a>(s: &'a [u8], base: u32, k: usize, idle: &'a [u32], n: usize, out: &mut [u32])
+    requires { ⌜ (base < 2 ^ 31) × (k ≤ 512) × (length (now out) ≡ 512) × (n ≤ length (now idle)) ⌝ }
+    ensures { λ _. ⌜ (length (now (out .exit)) ≡ length (now (out .entry))) × (now (out .exit) ≡ tab (λ a. boundId (now (s .entry)) (now (idle .entry)) n (base + 87 * a)) k ++ drop k (now (out .entry))) ⌝ }
+{
+    let mut a: usize = 0;
+    while a < k {
+        out[a] = bound_at(s, base + 87 * (a as u32), idle, n);
+        a += 1;
+    }
+}
+
+// The stops that a rider of an idle car is bound for.
+fn bound_stops<'a>(s: &'a [u8], c: Counts, names: &'a [u32]) -> u64
+    requires { ⌜ Small c × (length (now names) ≡ 64) × HoldsNames (sheetOf (now s) c) (now names) × Boarded (sheetOf (now s) c) ⌝ }
+    ensures { λ r. ⌜ r ≡ stopMask (sheetOf (now (s .entry)) c) (idleBound (sheetOf (now (s .entry)) c)) ⌝ }
+{
+    let mut idle = [0u32; 32];
+    let mut ids = [0u32; 512];
+    let n = c.cars as usize;
+    let k = c.aboards as usize;
+    columns::fill_guarded(s, c.cars_from(), 737, 22, 154, 1, n, &mut idle);
+    fill_bound(s, c.aboards_from(), k, &idle, n, &mut ids);
+    columns::named_stops(&ids, k, names, c.stops as usize)
+}
+
+// The pending stops.
+pub fn pending_stops<'a>(s: &'a [u8], c: Counts, demand: u64, names: &'a [u32]) -> u64
+    requires { ⌜ Small c × (length (now names) ≡ 64) × HoldsNames (sheetOf (now s) c) (now names) × Boarded (sheetOf (now s) c) ⌝ }
+    requires { ⌜ demand ≡ stopMask (sheetOf (now s) c) (demandStop (sheetOf (now s) c)) ⌝ }
+    ensures { λ r. ⌜ r ≡ stopMask (sheetOf (now (s .entry)) c) (pending (sheetOf (now (s .entry)) c)) ⌝ }
+{
+    let bound = bound_stops(s, c, names);
+    let covered = covered::covered_stops(s, c, demand, names);
+    mask::without(demand, mask::without(covered, bound))
 }

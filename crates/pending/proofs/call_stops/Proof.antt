@@ -1,53 +1,38 @@
+-- pending::call_stops meets its contract.
+use Prim.Native.Nat.{ℕ, _+_, _*_}
+use Rattle.bits.specs.Field.{fieldAt}
+use Rattle.columns.specs.Held.{held}
+use Rattle.columns.specs.Named.{guarded}
+use Rattle.layout.specs.Records.{demandOf, sheetOf}
+use Rattle.manifest.specs.Manifest.{riderlessCall}
+use Rattle.manifest.specs.World.{stopId}
+use Rattle.pending.specs.Same.{guarded-column, named-mask, flag-is}
 use borrow.Author.Needs.{needs}
+use lib.Dec.{eqb}
+use lib.ListN.{getD}
+use mathlib.Core.Bool.{Bool, _&&_}
+use mathlib.Core.Path.{_≡_, sym, ap, ap₂, _∙_}
 use Rattle.pending.proofs.call_stops.Statement.{statement}
 use Rattle.pending.proofs.call_stops.Tie as tie
-use Rattle.pending.proofs.call_stops.Reads as reads
-use Rattle.pending.proofs.call_stops.Lts as lts
-use Rattle.columns.proofs.fill_guarded.Reads as fill-guarded-reads
-use Rattle.columns.proofs.named_stops.Reads as named-stops-reads
-use Rattle.layout.proofs.Counts.demands_from.Reads as demands-from-reads
 
--- src/lib.rt:52:13
-cast-n : tie.Need-cast-n
-cast-n c = search needs
-
--- src/lib.rt:53:30
-demands-from-requires : tie.Need-demands-from-requires
-demands-from-requires c κs = search needs
-
--- src/lib.rt:53:66
-slice-aggregate-fill-guarded : tie.Need-slice-aggregate-fill-guarded
-slice-aggregate-fill-guarded c = search needs
-
--- src/lib.rt:53:5
-fill-guarded-requires : tie.Need-fill-guarded-requires
-fill-guarded-requires c κs = search needs
-
--- src/lib.rt:54:26
-slice-aggregate-named-stops : tie.Need-slice-aggregate-named-stops
-slice-aggregate-named-stops c = search needs
-
--- src/lib.rt:54:42
-cast-named-stops : tie.Need-cast-named-stops
-cast-named-stops c = search needs
-
--- src/lib.rt:54:5
-named-stops-requires : tie.Need-named-stops-requires
-named-stops-requires c κs = search needs
-
--- src/lib.rt:47:1
 returns : tie.Need-returns
-returns c = ?
+unfolding riderlessCall sheetOf demandOf
+returns c =
+    let a = c .before .before .before .before .before .before .before .before .before .before .args in
+    let b = a .s .now in
+    let s = sheetOf b (a .c) in
+    let at = c .before .before .before .before .before .before .demands-from in
+    let names = c .before .before .before .before .before .before .before .before .before .before .pre .3 in
+    c .named-stops .ensures
+    ∙ named-mask s _ (a .c .demands) (a .names .now) (λ j d. eqb (s .demand d .stop) (stopId s j) && s .demand d .call) names
+    (λ j i lj li.
+    ap (λ (x : ℕ). eqb x (stopId s j)) (held (λ k. guarded b (at .result + 71 * k) 22 70 1) (a .c .demands) _ _ (c .before .before .before .before .fill-guarded .ensures .1) 0 i li)
+    ∙ guarded-column b (at .result + 71 * i) 22 70 1 (stopId s j) (names .above-zero j lj)
+    ∙ ap (λ (t : Bool). eqb (fieldAt b (at .result + 71 * i + 22) 32) (stopId s j) && t) (flag-is b (at .result + 71 * i + 70))
+    ∙ ap (λ (x : ℕ). eqb (fieldAt b (x + 71 * i + 22) 32) (stopId s j) && eqb (fieldAt b (x + 71 * i + 70) 1) 1) (at .ensures))
 
 pub call-stops-spec : {M : Type 1} → statement M
 call-stops-spec =
     tie.close
-    (tie.spec
-    cast-n
-    demands-from-requires
-    slice-aggregate-fill-guarded
-    fill-guarded-requires
-    slice-aggregate-named-stops
-    cast-named-stops
-    named-stops-requires
-    returns)
+    (tie.spec (λ c. search needs) (λ c κs. search needs) (λ c. search needs) (λ c κs. search needs) (λ c. search needs) (λ c. search needs)
+    (λ c κs. search needs) returns)

@@ -1,50 +1,26 @@
+-- pending::demand_stops meets its contract.
+use Prim.Native.Nat.{ℕ}
+use Rattle.layout.specs.Records.{sheetOf}
+use Rattle.mask.specs.Mask.{has, built}
+use Rattle.pending.specs.Same.{demand-mask}
 use borrow.Author.Needs.{needs}
+use mathlib.Core.Bool.{_&&_, _||_}
+use mathlib.Core.Path.{_≡_, ap, _∙_}
 use Rattle.pending.proofs.demand_stops.Statement.{statement}
 use Rattle.pending.proofs.demand_stops.Tie as tie
-use Rattle.pending.proofs.demand_stops.Reads as reads
-use Rattle.pending.proofs.demand_stops.Lts as lts
-use Rattle.mask.proofs.both.Reads as both-reads
-use Rattle.mask.proofs.either.Reads as either-reads
-use Rattle.pending.proofs.line_stops.Reads as line-stops-reads
-use Rattle.pending.proofs.ridden_stops.Reads as ridden-stops-reads
-use Rattle.pending.proofs.waited_stops.Reads as waited-stops-reads
 
--- src/lib.rt:85:9
-line-stops-requires : tie.Need-line-stops-requires
-line-stops-requires c κs = search needs
-
--- src/lib.rt:86:9
-waited-stops-requires : tie.Need-waited-stops-requires
-waited-stops-requires c κs = search needs
-
--- src/lib.rt:87:9
-ridden-stops-requires : tie.Need-ridden-stops-requires
-ridden-stops-requires c κs = search needs
-
--- src/lib.rt:88:44
-either-requires : tie.Need-either-requires
-either-requires c κs = search needs
-
--- src/lib.rt:88:23
-either-requires-2 : tie.Need-either-requires-2
-either-requires-2 c κs = search needs
-
--- src/lib.rt:88:5
-both-requires : tie.Need-both-requires
-both-requires c κs = search needs
-
--- src/lib.rt:80:1
 returns : tie.Need-returns
-returns c = ?
+unfolding sheetOf
+returns c =
+    let a = c .before .before .before .before .before .before .before .before .args in
+    c .both .ensures
+    ∙ ap (λ (x : ℕ). built (λ j. has (c .before .before .before .before .before .line-stops .result) j && has x j) 64)
+    (c .before .either2 .ensures ∙ ap (λ (x : ℕ). built (λ j. has (c .before .before .before .before .waited-stops .result) j || has x j) 64) (c .before .before .either .ensures))
+    ∙ demand-mask (sheetOf (a .s .now) (a .c)) (c .before .before .before .before .before .line-stops .result) (c .before .before .before .before .waited-stops .result) (c .before .before .before .ridden-stops .result) (a .calls)
+    (c .before .before .before .before .before .line-stops .ensures) (c .before .before .before .before .waited-stops .ensures) (c .before .before .before .ridden-stops .ensures) (c .before .before .before .before .before .before .before .before .pre .1)
 
 pub demand-stops-spec : {M : Type 1} → statement M
 demand-stops-spec =
     tie.close
-    (tie.spec
-    line-stops-requires
-    waited-stops-requires
-    ridden-stops-requires
-    either-requires
-    either-requires-2
-    both-requires
-    returns)
+    (tie.spec (λ c κs. search needs) (λ c κs. search needs) (λ c κs. search needs) (λ c κs. search needs) (λ c κs. search needs)
+    (λ c κs. search needs) returns)

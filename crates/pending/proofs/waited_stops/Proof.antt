@@ -1,53 +1,35 @@
+-- pending::waited_stops meets its contract.
+use Prim.Native.Nat.{ℕ, _+_, _*_}
+use Rattle.bits.specs.Field.{fieldAt}
+use Rattle.columns.specs.Held.{held}
+use Rattle.layout.specs.Records.{waitingOf, sheetOf}
+use Rattle.manifest.specs.Manifest.{someoneWaits}
+use Rattle.manifest.specs.World.{stopId}
+use Rattle.pending.specs.Same.{named-mask}
 use borrow.Author.Needs.{needs}
+use lib.Dec.{eqb}
+use lib.ListN.{getD}
+use mathlib.Core.Bool.{Bool, _&&_}
+use mathlib.Core.Path.{_≡_, sym, ap, ap₂, _∙_}
 use Rattle.pending.proofs.waited_stops.Statement.{statement}
 use Rattle.pending.proofs.waited_stops.Tie as tie
-use Rattle.pending.proofs.waited_stops.Reads as reads
-use Rattle.pending.proofs.waited_stops.Lts as lts
-use Rattle.columns.proofs.fill32.Reads as fill32-reads
-use Rattle.columns.proofs.named_stops.Reads as named-stops-reads
-use Rattle.layout.proofs.Counts.waits_from.Reads as waits-from-reads
 
--- src/lib.rt:74:13
-cast-n : tie.Need-cast-n
-cast-n c = search needs
-
--- src/lib.rt:75:24
-waits-from-requires : tie.Need-waits-from-requires
-waits-from-requires c κs = search needs
-
--- src/lib.rt:75:52
-slice-aggregate-fill32 : tie.Need-slice-aggregate-fill32
-slice-aggregate-fill32 c = search needs
-
--- src/lib.rt:75:5
-fill32-requires : tie.Need-fill32-requires
-fill32-requires c κs = search needs
-
--- src/lib.rt:76:26
-slice-aggregate-named-stops : tie.Need-slice-aggregate-named-stops
-slice-aggregate-named-stops c = search needs
-
--- src/lib.rt:76:42
-cast-named-stops : tie.Need-cast-named-stops
-cast-named-stops c = search needs
-
--- src/lib.rt:76:5
-named-stops-requires : tie.Need-named-stops-requires
-named-stops-requires c κs = search needs
-
--- src/lib.rt:69:1
 returns : tie.Need-returns
-returns c = ?
+unfolding someoneWaits sheetOf waitingOf
+returns c =
+    let a = c .before .before .before .before .before .before .before .before .before .before .args in
+    let b = a .s .now in
+    let s = sheetOf b (a .c) in
+    let at = c .before .before .before .before .before .before .waits-from in
+    let names = c .before .before .before .before .before .before .before .before .before .before .pre .2 in
+    c .named-stops .ensures
+    ∙ named-mask s _ (a .c .waits) (a .names .now) (λ j w. eqb (s .waiting w .stop) (stopId s j)) names
+    (λ j i lj li.
+    ap (λ (x : ℕ). eqb x (stopId s j)) (held (λ k. fieldAt b (at .result + 248 * k + 22) 32) (a .c .waits) _ _ (c .before .before .before .before .fill32 .ensures .1) 0 i li)
+    ∙ ap (λ (x : ℕ). eqb (fieldAt b (x + 248 * i + 22) 32) (stopId s j)) (at .ensures))
 
 pub waited-stops-spec : {M : Type 1} → statement M
 waited-stops-spec =
     tie.close
-    (tie.spec
-    cast-n
-    waits-from-requires
-    slice-aggregate-fill32
-    fill32-requires
-    slice-aggregate-named-stops
-    cast-named-stops
-    named-stops-requires
-    returns)
+    (tie.spec (λ c. search needs) (λ c κs. search needs) (λ c. search needs) (λ c κs. search needs) (λ c. search needs) (λ c. search needs)
+    (λ c κs. search needs) returns)

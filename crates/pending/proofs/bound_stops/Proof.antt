@@ -1,0 +1,61 @@
+-- pending::bound_stops meets its contract.
+use Prim.Native.Nat.{ℕ, _+_, _*_, _<_}
+use Rattle.assignment.specs.Pending.{idle, idleBound}
+use Rattle.bits.specs.Field.{fieldAt}
+use Rattle.columns.specs.Held.{held}
+use Rattle.columns.specs.Named.{contains, guarded}
+use Rattle.laws.specs.Folds.{any, any-cong}
+use Rattle.layout.specs.Records.{carOf, aboardOf, sheetOf}
+use Rattle.manifest.specs.World.{stopId}
+use Rattle.pending.specs.Masks.{boundId}
+use Rattle.pending.specs.Same.{guarded-column, flag-is, cond-is, and-swap, named-mask}
+use borrow.Author.Needs.{needs}
+use lib.Dec.{eqb}
+use lib.ListN.{getD}
+use mathlib.Core.Bool.{Bool, _&&_}
+use mathlib.Core.List.{List}
+use mathlib.Core.Path.{_≡_, sym, ap, _∙_}
+use Rattle.pending.proofs.bound_stops.Statement.{statement}
+use Rattle.pending.proofs.bound_stops.Tie as tie
+
+-- a car id is among the idle cars' ids
+in-idle : (c : tie.After-named-stops) (x : ℕ) → 0 < x
+    → contains (c .before .before .before .before .before .before .before .before .before .fill-guarded .last .1 .1 .1 .1 .1 .1 .1 .0) (c .before .before .before .before .before .before .before .before .before .before .before .before .before .before .before .before .args .c .cars) x
+    ≡ any (λ i. idle (sheetOf (c .before .before .before .before .before .before .before .before .before .before .before .before .before .before .before .before .args .s .now) (c .before .before .before .before .before .before .before .before .before .before .before .before .before .before .before .before .args .c)) i && eqb (sheetOf (c .before .before .before .before .before .before .before .before .before .before .before .before .before .before .before .before .args .s .now) (c .before .before .before .before .before .before .before .before .before .before .before .before .before .before .before .before .args .c) .car i .id) x) (c .before .before .before .before .before .before .before .before .before .before .before .before .before .before .before .before .args .c .cars)
+unfolding contains idle sheetOf carOf
+in-idle c x pos =
+    let a = c .before .before .before .before .before .before .before .before .before .before .before .before .before .before .before .before .args in
+    let b = a .s .now in
+    let s = sheetOf b (a .c) in
+    let at = c .before .before .before .before .before .before .before .before .before .before .before .cars-from in
+    any-cong (λ i. eqb (getD (c .before .before .before .before .before .before .before .before .before .fill-guarded .last .1 .1 .1 .1 .1 .1 .1 .0) i 0) x) (λ i. idle s i && eqb (s .car i .id) x) (a .c .cars)
+    (λ i li.
+    ap (λ (y : ℕ). eqb y x) (held (λ k. guarded b (at .result + 737 * k) 22 154 1) (a .c .cars) _ _ (c .before .before .before .before .before .before .before .before .before .fill-guarded .ensures .1) 0 i li)
+    ∙ guarded-column b (at .result + 737 * i) 22 154 1 x pos
+    ∙ ap (λ (t : Bool). eqb (fieldAt b (at .result + 737 * i + 22) 32) x && t) (flag-is b (at .result + 737 * i + 154))
+    ∙ ap (λ (y : ℕ). eqb (fieldAt b (y + 737 * i + 22) 32) x && eqb (fieldAt b (y + 737 * i + 154) 1) 1) (at .ensures)
+    ∙ and-swap (eqb (s .car i .id) x) (s .car i .listed))
+
+returns : tie.Need-returns
+unfolding idleBound boundId sheetOf aboardOf
+returns c =
+    let a = c .before .before .before .before .before .before .before .before .before .before .before .before .before .before .before .before .args in
+    let b = a .s .now in
+    let s = sheetOf b (a .c) in
+    let at = c .before .before .before .before .before .before .before .aboards-from in
+    let names = c .before .before .before .before .before .before .before .before .before .before .before .before .before .before .before .before .pre .2 in
+    let boarded = c .before .before .before .before .before .before .before .before .before .before .before .before .before .before .before .before .pre .3 in
+    c .named-stops .ensures
+    ∙ named-mask s _ (a .c .aboards) (a .names .now) (λ j k. eqb (s .aboard k .destination) (stopId s j) && any (λ i. idle s i && eqb (s .car i .id) (s .aboard k .car)) (s .cars)) names
+    (λ j i lj li.
+    ap (λ (x : ℕ). eqb x (stopId s j)) (held (λ k. boundId b (c .before .before .before .before .before .before .before .before .before .fill-guarded .last .1 .1 .1 .1 .1 .1 .1 .0) (a .c .cars) (at .result + 87 * k)) (a .c .aboards) _ _ (c .before .before .before .before .fill-bound .ensures .1) 0 i li)
+    ∙ ap (λ (x : ℕ). eqb (boundId b (c .before .before .before .before .before .before .before .before .before .fill-guarded .last .1 .1 .1 .1 .1 .1 .1 .0) (a .c .cars) (x + 87 * i)) (stopId s j)) (at .ensures)
+    ∙ cond-is (contains (c .before .before .before .before .before .before .before .before .before .fill-guarded .last .1 .1 .1 .1 .1 .1 .1 .0) (a .c .cars) (s .aboard i .car)) (s .aboard i .destination) (stopId s j) (names .above-zero j lj)
+    ∙ ap (λ (t : Bool). eqb (s .aboard i .destination) (stopId s j) && t) (in-idle c (s .aboard i .car) (boarded .above-zero i li)))
+
+pub bound-stops-spec : {M : Type 1} → statement M
+bound-stops-spec =
+    tie.close
+    (tie.spec (λ c. search needs) (λ c. search needs) (λ c κs. search needs) (λ c. search needs) (λ c κs. search needs)
+    (λ c κs. search needs) (λ c. search needs) (λ c. search needs) (λ c κs. search needs) (λ c. search needs) (λ c. search needs)
+    (λ c κs. search needs) returns)

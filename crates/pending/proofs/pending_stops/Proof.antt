@@ -1,0 +1,29 @@
+-- pending::pending_stops meets its contract.
+use Prim.Native.Nat.{ℕ}
+use Rattle.layout.specs.Records.{sheetOf}
+use Rattle.manifest.specs.Manifest.{demandStop}
+use Rattle.mask.specs.Mask.{has, built}
+use Rattle.pending.specs.Same.{pending-mask, asked-ids}
+use borrow.Author.Needs.{needs}
+use mathlib.Core.Bool.{_&&_, not}
+use mathlib.Core.Path.{_≡_, ap, _∙_}
+use Rattle.pending.proofs.pending_stops.Statement.{statement}
+use Rattle.pending.proofs.pending_stops.Tie as tie
+
+covered-stops-requires : tie.Need-covered-stops-requires
+covered-stops-requires c κs =
+    let a = c .before .before .before .args in
+    let p = c .before .before .before .pre in
+    (p .0 .0, p .0 .1, asked-ids (sheetOf (a .s .now) (a .c)) (a .names .now) (a .demand) (demandStop (sheetOf (a .s .now) (a .c))) (p .0 .2) (p .1))
+
+returns : tie.Need-returns
+returns c =
+    let a = c .before .before .before .before .before .before .args in
+    c .without2 .ensures
+    ∙ ap (λ (x : ℕ). built (λ j. has (a .demand) j && not (has x j)) 64) (c .before .without .ensures)
+    ∙ pending-mask (sheetOf (a .s .now) (a .c)) (a .demand) (c .before .before .before .bound-stops .result) (c .before .before .covered-stops .result) (c .before .before .before .before .before .before .pre .1) (c .before .before .before .bound-stops .ensures) (c .before .before .covered-stops .ensures)
+
+pub pending-stops-spec : {M : Type 1} → statement M
+pending-stops-spec =
+    tie.close
+    (tie.spec (λ c κs. search needs) covered-stops-requires (λ c κs. search needs) (λ c κs. search needs) returns)
