@@ -1,0 +1,108 @@
+-- Stops by two lists, their ids and their positions, n of each: what the code looks up. Assumes nothing.
+use Prim.Native.Nat.{ℕ, zero, suc, _+_, _-_, _≤_, _<_}
+use native.Mathlib.Omega.{arith}
+use mathlib.Core.Path.{_≡_, refl, sym, ap, _∙_}
+use mathlib.Core.Bool.{Bool, true, false, cond, _&&_}
+use mathlib.Core.List.{List}
+use mathlib.Core.Logic.{_≢_}
+use lib.Dec.{eqb, ltb}
+use lib.ListN.{getD}
+use lib.Ieee.{Float, nan}
+use borrow.Author.Tests.{lt-ltb, le-ltb, eq-eqb, ne-eqb}
+use Rattle.laws.specs.Folds.{lookup, lookup-next, lookup-cong}
+use Rattle.components.specs.declared.Place.{Place}
+use Rattle.components.specs.declared.Place.the-variants.{At, Nowhere}
+use Rattle.components.specs.declared.Phase.{Phase}
+use Rattle.components.specs.declared.Phase.the-variants.{Idle, MovingToStop, Repositioning, DoorOpening, Loading, DoorClosing, Stopped, Unknown}
+use Rattle.components.specs.Sheet.{Sheet}
+use Rattle.manifest.specs.World.{stopId, stopAt, stopPosition, goal, goalOf}
+
+-- the index of the stop with this id, n where there is none
+unfoldable pub stopIndex : List ℕ → ℕ → ℕ → ℕ
+stopIndex ids n id = lookup (λ j. eqb (getD ids j 0) id) (λ j. j) n n
+
+-- a search from the last stop down: all above k have another id, and k - 1 has it, or has another too
+pub record Searched (ids : List ℕ) (n id k : ℕ) : Type 0 where
+  pub within : k ≤ n
+  pub so-far : stopIndex ids n id ≡ lookup (λ j. eqb (getD ids j 0) id) (λ j. j) n k
+
+module _ (ids : List ℕ) (n id : ℕ) where
+  pub search-start : Searched ids n id n
+  unfolding stopIndex
+  search-start = record { within = omega arith; so-far = refl }
+
+  one-down : (k : ℕ) → 0 < k → lookup (λ j. eqb (getD ids j 0) id) (λ j. j) n k
+      ≡ cond (eqb (getD ids (k - 1) 0) id) (k - 1) (lookup (λ j. eqb (getD ids j 0) id) (λ j. j) n (k - 1))
+  one-down k l =
+      let e : k ≡ k - 1 + 1 = omega arith in
+      ap (lookup (λ j. eqb (getD ids j 0) id) (λ j. j) n) e ∙ lookup-next (λ j. eqb (getD ids j 0) id) (λ j. j) n (k - 1)
+
+  pub search-found : (k : ℕ) → Searched ids n id k → 0 < k → getD ids (k - 1) 0 ≡ id → k - 1 ≡ stopIndex ids n id
+  search-found k h l e =
+      sym (h .so-far ∙ one-down k l ∙ ap (λ (b : Bool). cond b (k - 1) (lookup (λ j. eqb (getD ids j 0) id) (λ j. j) n (k - 1))) (eq-eqb (getD ids (k - 1) 0) id e))
+
+  pub search-on : (k : ℕ) → Searched ids n id k → 0 < k → getD ids (k - 1) 0 ≢ id → Searched ids n id (k - 1)
+  search-on k h l e =
+      record {
+        within = let m = h .within in omega arith;
+        so-far = h .so-far ∙ one-down k l ∙ ap (λ (b : Bool). cond b (k - 1) (lookup (λ j. eqb (getD ids j 0) id) (λ j. j) n (k - 1))) (ne-eqb (getD ids (k - 1) 0) id e)
+      }
+
+  pub search-none : (k : ℕ) → Searched ids n id k → k ≤ 0 → n ≡ stopIndex ids n id
+  unfolding lookup
+  search-none k h l = let e : k ≡ 0 = omega arith in sym (h .so-far ∙ ap (lookup (λ j. eqb (getD ids j 0) id) (λ j. j) n) e)
+
+-- where the stop of an index stands
+unfoldable pub placeAt : List Float → ℕ → ℕ → Place
+placeAt xs n j = cond (ltb j n) (At (getD xs j nan)) Nowhere
+
+-- stop_position
+unfoldable pub positionIn : List ℕ → List Float → ℕ → ℕ → Place
+positionIn ids xs n id = placeAt xs n (stopIndex ids n id)
+
+-- ---- lists that hold a sheet's stops
+
+pub record HoldsStops (s : Sheet) (ids : List ℕ) (xs : List Float) (n : ℕ) : Type 0 where
+  pub counted : n ≡ s .stops
+  pub id-of : (j : ℕ) → j < n → getD ids j 0 ≡ stopId s j
+  pub at : (j : ℕ) → j < n → getD xs j nan ≡ stopAt s j
+
+-- one id, one stop: "stop .. id, rising"
+pub record DistinctStops (s : Sheet) : Type 0 where
+  pub same : (a b : ℕ) → a < s .stops → b < s .stops → stopId s a ≡ stopId s b → a ≡ b
+
+-- the index that a look-up gives is one that passes, or none does
+found : (p : ℕ → Bool) (xs : List Float) (n k : ℕ) → k ≤ n
+    → placeAt xs n (lookup p (λ j. j) n k) ≡ lookup p (λ j. At (getD xs j nan)) Nowhere k
+unfolding lookup placeAt
+found p xs n zero l = rw (le-ltb n n (omega arith))
+found p xs n (suc k) l = by (p k) (found p xs n k (omega arith))
+  where
+    by : (b : Bool) → placeAt xs n (lookup p (λ j. j) n k) ≡ lookup p (λ j. At (getD xs j nan)) Nowhere k
+        → placeAt xs n (cond b k (lookup p (λ j. j) n k)) ≡ cond b (At (getD xs k nan)) (lookup p (λ j. At (getD xs j nan)) Nowhere k)
+    by true h = rw (lt-ltb k n (omega arith))
+    by false h = h
+
+goalOf-cong : (f g : ℕ → Place) → ((id : ℕ) → f id ≡ g id) → (p : Phase) → goalOf f p ≡ goalOf g p
+goalOf-cong f g h Idle = refl
+goalOf-cong f g h (MovingToStop id) = h id
+goalOf-cong f g h (Repositioning id) = h id
+goalOf-cong f g h DoorOpening = refl
+goalOf-cong f g h Loading = refl
+goalOf-cong f g h DoorClosing = refl
+goalOf-cong f g h Stopped = refl
+goalOf-cong f g h Unknown = refl
+
+module _ (s : Sheet) (ids : List ℕ) (xs : List Float) (n : ℕ) (h : HoldsStops s ids xs n) where
+  -- the place by the lists is the sheet's
+  pub position-is : (id : ℕ) → positionIn ids xs n id ≡ stopPosition s id
+  unfolding positionIn stopIndex stopPosition
+  position-is id =
+      found (λ j. eqb (getD ids j 0) id) xs n n (omega arith)
+      ∙ lookup-cong (λ j. eqb (getD ids j 0) id) (λ j. eqb (stopId s j) id) (λ j. At (getD xs j nan)) (λ j. At (stopAt s j)) Nowhere n
+      (λ k l. ap (λ (z : ℕ). eqb z id) (h .id-of k l)) (λ k l. ap At (h .at k l))
+      ∙ ap (λ (z : ℕ). lookup (λ j. eqb (stopId s j) id) (λ j. At (stopAt s j)) Nowhere z) (h .counted)
+
+  pub goal-is : (i : ℕ) → goalOf (positionIn ids xs n) (s .car i .phase) ≡ goal s i
+  unfolding goal
+  goal-is i = goalOf-cong (positionIn ids xs n) (stopPosition s) position-is (s .car i .phase)
