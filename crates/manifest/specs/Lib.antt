@@ -1,3 +1,4 @@
 pub mod World
 pub mod Manifest
 pub mod Stops
+pub mod Riders

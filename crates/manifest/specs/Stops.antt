@@ -10,12 +10,14 @@ use lib.ListN.{getD}
 use lib.Ieee.{Float, nan}
 use borrow.Author.Tests.{lt-ltb, le-ltb, eq-eqb, ne-eqb}
 use Rattle.laws.specs.Folds.{lookup, lookup-next, lookup-cong}
+use Rattle.mask.specs.Mask.{has}
 use Rattle.components.specs.declared.Place.{Place}
 use Rattle.components.specs.declared.Place.the-variants.{At, Nowhere}
 use Rattle.components.specs.declared.Phase.{Phase}
 use Rattle.components.specs.declared.Phase.the-variants.{Idle, MovingToStop, Repositioning, DoorOpening, Loading, DoorClosing, Stopped, Unknown}
 use Rattle.components.specs.Sheet.{Sheet}
 use Rattle.manifest.specs.World.{stopId, stopAt, stopPosition, goal, goalOf}
+use Rattle.manifest.specs.Manifest.{demandStop}
 
 -- the index of the stop with this id, n where there is none
 unfoldable pub stopIndex : List ℕ → ℕ → ℕ → ℕ
@@ -66,6 +68,10 @@ pub record HoldsStops (s : Sheet) (ids : List ℕ) (xs : List Float) (n : ℕ) :
   pub counted : n ≡ s .stops
   pub id-of : (j : ℕ) → j < n → getD ids j 0 ≡ stopId s j
   pub at : (j : ℕ) → j < n → getD xs j nan ≡ stopAt s j
+
+-- a mask that holds the demand stops of the group
+pub record HoldsDemand (s : Sheet) (mask n : ℕ) : Type 0 where
+  pub is-demand : (j : ℕ) → j < n → has mask j ≡ demandStop s j
 
 -- one id, one stop: "stop .. id, rising"
 pub record DistinctStops (s : Sheet) : Type 0 where
