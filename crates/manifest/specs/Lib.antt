@@ -1,4 +1,5 @@
 pub mod World
 pub mod Manifest
 pub mod Stops
-pub mod Riders
+pub mod Holds
+pub mod Waiters
