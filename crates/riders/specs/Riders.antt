@@ -9,10 +9,10 @@ use lib.Dec.{eqb, ltb}
 use lib.ListN.{getD, length, set, drop}
 use lib.Ieee.{Float, nan}
 use Rattle.laws.specs.Bools.{bit, never}
-use Rattle.laws.specs.Folds.{any, any-next, any-cong, count, count-step, count-le}
-use Rattle.laws.specs.Collected.{collected, collected-take, collected-skip}
+use Rattle.laws.specs.Folds.{any, any-next, any-cong, none-any, count, count-step, count-le}
+use Rattle.laws.specs.Collected.{collected, collected-take, collected-skip, collected-length}
 use Rattle.mask.specs.Mask.{has, built}
-use Rattle.mask.specs.MaskLaws.{built-cong, has-built}
+use Rattle.mask.specs.MaskLaws.{built-cong, has-built, none-built}
 use Rattle.manifest.specs.Stops.{stopIndex}
 use Rattle.riders.specs.declared.Riders.{Riders}
 
@@ -77,6 +77,10 @@ module _ (ids : List ℕ) (n : ℕ) (acar adest : List ℕ) (id : ℕ) where
       e ∙ built-cong (exitsAt ids n acar adest id a) (λ k. exitsAt ids n acar adest id a k || false) 64
       (λ j l. sym (or-false (exitsAt ids n acar adest id a j)))
 
+  pub exits-start : 0 ≡ exitsIn ids n acar adest id 0
+  unfolding exitsIn any
+  exits-start = sym (none-built (exitsAt ids n acar adest id 0) 64 (none-any (exitsAt ids n acar adest id 0) 64 (λ k l. refl)))
+
   pub exits-next : (a m m′ : ℕ) → m ≡ exitsIn ids n acar adest id a → m′ ≡ withExit ids n id m (getD acar a 0) (getD adest a 0)
       → m′ ≡ exitsIn ids n acar adest id (a + 1)
   unfolding exitsIn withExit
@@ -92,6 +96,19 @@ module _ (ids : List ℕ) (xs : List Float) (n : ℕ) (acar adest : List ℕ) (i
   pub record Held (a at : ℕ) (entry now : List Float) : Type 0 where
     pub counted : at ≡ count (knownAt ids n acar adest id) a
     pub held : now ≡ destsIn ids n acar adest id xs a ++ drop at entry
+
+  pub held-start : (entry : List Float) → Held 0 0 entry entry
+  unfolding destsIn collected count
+  held-start entry = record { counted = refl; held = refl }
+
+  pub held-le : (a at : ℕ) (entry now : List Float) → Held a at entry now → at ≤ a
+  held-le a at entry now h = rw (h .counted) (count-le (knownAt ids n acar adest id) a)
+
+  pub held-length : (a at : ℕ) (entry now : List Float) → Held a at entry now → a ≤ length entry → length now ≡ length entry
+  unfolding destsIn
+  held-length a at entry now h l =
+      let m = held-le a at entry now h in
+      collected-length (knownAt ids n acar adest id) (λ c. getD xs (stopIndex ids n (getD adest c 0)) nan) a at entry now (h .counted) (omega arith) (h .held)
 
   by : (b : Bool) (a at r : ℕ) (entry now exit : List Float) → knownAt ids n acar adest id a ≡ b → Held a at entry now → at < length entry
       → r ≡ at + bit b → exit ≡ cond b (set now at (getD xs (stopIndex ids n (getD adest a 0)) nan)) now
@@ -113,3 +130,6 @@ module _ (ids : List ℕ) (xs : List Float) (n : ℕ) (acar adest : List ℕ) (i
         counted = d .counted ∙ count-step (knownAt ids n acar adest id) a (h .counted) refl;
         held = by (knownAt ids n acar adest id a) a at r entry now exit refl h l (d .counted) (d .stored)
       }
+
+  pub held-end : (a na at : ℕ) (entry now : List Float) → a ≤ na → na ≤ a → Held a at entry now → Held na at entry now
+  held-end a na at entry now l m h = let e : a ≡ na = omega arith in rw e at h
