@@ -1,2 +1,3 @@
 pub mod Useful
 pub mod Waits
+pub mod Pairs
