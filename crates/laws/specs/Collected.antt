@@ -77,10 +77,16 @@ module _ {A : Type 0} (p : ℕ → Bool) (f : ℕ → A) where
           ∙ ap₂ (λ (x y : Bool). x || y) (h (f n ∷ r)) (ap q (getD-at (collected p f n) (f n) r d (count p n) (length-collected n)))
       by false h = simp unary-clauses (h r ∙ sym (or-false _))
 
--- tests and values that agree below n
-pub collected-cong : {A : Type 0} (p q : ℕ → Bool) (f g : ℕ → A) (n : ℕ) → ((k : ℕ) → k < n → p k ≡ q k) → ((k : ℕ) → k < n → f k ≡ g k)
+-- tests that agree below n, and values where they hold
+pub collected-cong : {A : Type 0} (p q : ℕ → Bool) (f g : ℕ → A) (n : ℕ) → ((k : ℕ) → k < n → p k ≡ q k) → ((k : ℕ) → k < n → p k ≡ true → f k ≡ g k)
     → collected p f n ≡ collected q g n
 unfolding collected
 collected-cong p q f g zero h e = refl
-collected-cong p q f g (suc n) h e =
-    rw (h n (omega arith), e n (omega arith), collected-cong p q f g n (λ k l. h k (omega arith)) (λ k l. e k (omega arith)))
+collected-cong {A} p q f g (suc n) h e =
+    by (p n) refl (collected-cong p q f g n (λ k l. h k (omega arith)) (λ k l. e k (omega arith)))
+    ∙ ap (λ (b : Bool). cond b (collected q g n ++ (g n ∷ [])) (collected q g n)) (h n (omega arith))
+  where
+    by : (b : Bool) → p n ≡ b → collected p f n ≡ collected q g n
+        → cond b (collected p f n ++ (f n ∷ [])) (collected p f n) ≡ cond b (collected q g n ++ (g n ∷ [])) (collected q g n)
+    by true t c = ap₂ (λ (l : List A) (x : A). l ++ (x ∷ [])) c (e n (omega arith) t)
+    by false t c = c

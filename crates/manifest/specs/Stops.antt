@@ -8,8 +8,9 @@ use mathlib.Core.Logic.{_≢_}
 use lib.Dec.{eqb, ltb}
 use lib.ListN.{getD}
 use lib.Ieee.{Float, nan}
-use borrow.Author.Tests.{lt-ltb, le-ltb, eq-eqb, ne-eqb}
-use Rattle.laws.specs.Folds.{lookup, lookup-next, lookup-cong}
+use borrow.Author.Tests.{lt-ltb, le-ltb, eq-eqb, ne-eqb, eqb-true, ltb-true}
+use Rattle.laws.specs.Bools.{same-test, both, both-left, both-right}
+use Rattle.laws.specs.Folds.{lookup, lookup-next, lookup-cong, lookup-at}
 use Rattle.mask.specs.Mask.{has}
 use Rattle.components.specs.declared.Place.{Place}
 use Rattle.components.specs.declared.Place.the-variants.{At, Nowhere}
@@ -89,6 +90,16 @@ found p xs n (suc k) l = by (p k) (found p xs n k (omega arith))
     by true h = rw (lt-ltb k n (omega arith))
     by false h = h
 
+passes : (p : ℕ → Bool) (n k : ℕ) → k ≤ n → lookup p (λ j. j) n k < n → p (lookup p (λ j. j) n k) ≡ true
+unfolding lookup
+passes p n zero l h = absurd (omega arith)
+passes p n (suc k) l h = by (p k) refl h (passes p n k (omega arith))
+  where
+    by : (b : Bool) → p k ≡ b → cond b k (lookup p (λ j. j) n k) < n → (lookup p (λ j. j) n k < n → p (lookup p (λ j. j) n k) ≡ true)
+        → p (cond b k (lookup p (λ j. j) n k)) ≡ true
+    by true e q f = e
+    by false e q f = f q
+
 goalOf-cong : (f g : ℕ → Place) → ((id : ℕ) → f id ≡ g id) → (p : Phase) → goalOf f p ≡ goalOf g p
 goalOf-cong f g h Idle = refl
 goalOf-cong f g h (MovingToStop id) = h id
@@ -112,3 +123,25 @@ module _ (s : Sheet) (ids : List ℕ) (xs : List Float) (n : ℕ) (h : HoldsStop
   pub goal-is : (i : ℕ) → goalOf (positionIn ids xs n) (s .car i .phase) ≡ goal s i
   unfolding goal
   goal-is i = goalOf-cong (positionIn ids xs n) (stopPosition s) position-is (s .car i .phase)
+
+  -- where ids are distinct, an id's index is j exactly where the id is stop j's
+  pub index-is : DistinctStops s → (j id : ℕ) → j < n → (ltb (stopIndex ids n id) n && eqb j (stopIndex ids n id)) ≡ eqb id (stopId s j)
+  unfolding stopIndex
+  index-is d j id l = same-test (ltb (stopIndex ids n id) n && eqb j (stopIndex ids n id)) (eqb id (stopId s j)) there back
+    where
+      there : (ltb (stopIndex ids n id) n && eqb j (stopIndex ids n id)) ≡ true → eqb id (stopId s j) ≡ true
+      there e =
+          let q = eqb-true j (stopIndex ids n id) (both-right (ltb (stopIndex ids n id) n) (eqb j (stopIndex ids n id)) e) in
+          let m = ltb-true (stopIndex ids n id) n (both-left (ltb (stopIndex ids n id) n) (eqb j (stopIndex ids n id)) e) in
+          let z = eqb-true (getD ids (stopIndex ids n id) 0) id (passes (λ k. eqb (getD ids k 0) id) n n (omega arith) m) in
+          eq-eqb id (stopId s j) (sym z ∙ ap (λ (k : ℕ). getD ids k 0) (sym q) ∙ h .id-of j l)
+
+      back : eqb id (stopId s j) ≡ true → (ltb (stopIndex ids n id) n && eqb j (stopIndex ids n id)) ≡ true
+      back e =
+          let q = eqb-true id (stopId s j) e in
+          let at : stopIndex ids n id ≡ j = lookup-at (λ k. eqb (getD ids k 0) id) (λ k. k) n n j l (eq-eqb (getD ids j 0) id (h .id-of j l ∙ sym q))
+          (λ k lk t. d .same k j (within k lk) (within j l) (sym (h .id-of k lk) ∙ eqb-true (getD ids k 0) id t ∙ q)) in
+          both (lt-ltb (stopIndex ids n id) n (rw at l)) (eq-eqb j (stopIndex ids n id) (sym at))
+        where
+          within : (k : ℕ) → k < n → k < s .stops
+          within k lk = let e = h .counted in omega arith
