@@ -1,3 +1,4 @@
 pub mod Useful
 pub mod Waits
 pub mod Pairs
+pub mod WaitersLaws
