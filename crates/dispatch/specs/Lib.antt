@@ -2,3 +2,4 @@ pub mod Useful
 pub mod Waits
 pub mod Pairs
 pub mod WaitersLaws
+pub mod RidersLaws
