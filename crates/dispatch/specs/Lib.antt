@@ -1,2 +1,5 @@
 pub mod Useful
 pub mod Waits
+pub mod Pairs
+pub mod WaitersLaws
+pub mod RidersLaws

@@ -1,1 +1,221 @@
 // ETD: etd.rs.
+ghost use mathlib.Core.Path.{_≡_};
+ghost use mathlib.Core.Bool.{_&&_, cond};
+ghost use Prim.Native.Nat.{_≤_, _<_};
+ghost use lib.ListN.{length};
+ghost use lib.Ieee.{lt};
+ghost use Rattle.laws.specs.Bools.{bit};
+ghost use Rattle.mask.specs.Mask.{has};
+ghost use Rattle.etd.specs.Etd.{intervenes, doorCost, extraDelay, isAhead, movingBonus, directionBonus, weighted, finiteRank};
+ghost use Rattle.etd.specs.Pairs.{interveningIn, delayIn, costBy, fairCostBy, rankBy};
+use components::Car;
+use components::Phase;
+use components::Place;
+use components::Policy;
+use components::Rank;
+use manifest::Waiters;
+use riders::Riders;
+
+fn upper(x: f64, p: f64) -> f64
+    ensures { λ r. ⌜ r ≡ cond (lt x p) p x ⌝ }
+{
+    if x < p { p } else { x }
+}
+
+// Whether q lies strictly between a car at x and a stop at p, by more than 1e-9 from either.
+fn intervenes(x: f64, p: f64, q: f64) -> bool
+    ensures { λ r. ⌜ r ≡ intervenes x p q ⌝ }
+{
+    let lo = fp::lesser(p, x);
+    let hi = upper(x, p);
+    if q > lo + 1e-9 { q < hi - 1e-9 } else { false }
+}
+
+// 1 where stop k, at q, has demand and lies between.
+fn intervening(x: f64, p: f64, demand: u64, k: usize, q: f64) -> u64
+    requires { ⌜ k < 64 ⌝ }
+    ensures { λ r. ⌜ r ≡ bit (has demand k && intervenes x p q) ⌝ }
+{
+    if mask::has(demand, k) {
+        if intervenes(x, p, q) { 1 } else { 0 }
+    } else {
+        0
+    }
+}
+
+// How many demand stops of the n at xs lie between.
+fn intervening_stops(x: f64, p: f64, demand: u64, xs: &[f64], n: usize) -> u64
+    requires { ⌜ (n ≤ 64) × (n ≤ length (now xs)) ⌝ }
+    ensures { λ r. ⌜ r ≡ interveningIn x p demand (now (xs .entry)) n ⌝ }
+{
+    let mut stops: u64 = 0;
+    let mut k: usize = 0;
+    while k < n {
+        stops += intervening(x, p, demand, k, xs[k]);
+        k += 1;
+    }
+    stops
+}
+
+// The door cycles of these stops, in seconds.
+fn door_cost(stops: u64, transition: u32, dwell: u32, rate: f64) -> f64
+    ensures { λ r. ⌜ r ≡ doorCost stops transition dwell rate ⌝ }
+{
+    let cycle = transition as u64 * 2 + dwell as u64;
+    let ticks = fp::natural(cycle);
+    fp::natural(stops) * (ticks / rate)
+}
+
+// What the detour by a stop at p adds to the trip to d, in seconds.
+fn extra_delay(x: f64, p: f64, d: f64, speed: f64) -> f64
+    ensures { λ r. ⌜ r ≡ extraDelay x p d speed ⌝ }
+{
+    let detour = fp::distance(x, p) + fp::distance(p, d);
+    let direct = fp::distance(x, d);
+    fp::max_zero(detour - direct) / speed
+}
+
+// existing_rider_delay, over the first n positions of dests.
+fn existing_rider_delay(x: f64, p: f64, speed: f64, dests: &[f64], n: usize) -> f64
+    requires { ⌜ n ≤ length (now dests) ⌝ }
+    ensures { λ r. ⌜ r ≡ delayIn x p speed (now (dests .entry)) n ⌝ }
+{
+    let mut delay = 0.0;
+    let mut k: usize = 0;
+    while k < n {
+        delay = delay + extra_delay(x, p, dests[k], speed);
+        k += 1;
+    }
+    delay
+}
+
+// Whether a stop at p is ahead of a car that moves from x to g, up to g.
+fn is_ahead(x: f64, p: f64, g: f64) -> bool
+    ensures { λ r. ⌜ r ≡ isAhead x p g ⌝ }
+{
+    if g > x {
+        if p > x { p <= g } else { false }
+    } else {
+        if p < x { p >= g } else { false }
+    }
+}
+
+// Half of the travel time off where the car moves past the stop.
+fn moving_bonus(x: f64, p: f64, travel: f64, goal: Place) -> f64
+    ensures { λ r. ⌜ r ≡ movingBonus x p travel goal ⌝ }
+{
+    match goal {
+        Place::Nowhere => 0.0,
+        Place::At(g) => {
+            if is_ahead(x, p, g) {
+                -travel * 0.5
+            } else {
+                0.0
+            }
+        }
+    }
+}
+
+// direction_bonus: that, three tenths off for an idle car, nothing for any other.
+fn direction_bonus(phase: Phase, goal: Place, x: f64, p: f64, travel: f64) -> f64
+    ensures { λ r. ⌜ r ≡ directionBonus phase goal x p travel ⌝ }
+{
+    if phase.is_moving() {
+        moving_bonus(x, p, travel, goal)
+    } else {
+        if phase.is_idle() { -travel * 0.3 } else { 0.0 }
+    }
+}
+
+// The weighted sum: wait, delay, door; the bonus bears no weight.
+fn weighted(wait: f64, delay: f64, door: f64, travel: f64, riders: f64, doors: f64, bonus: f64) -> f64
+    ensures { λ r. ⌜ r ≡ weighted wait delay door travel riders doors bonus ⌝ }
+{
+    let a = fp::fma(door, doors, bonus);
+    let b = fp::fma(delay, riders, a);
+    fp::max_zero(fp::fma(wait, travel, b))
+}
+
+// compute_cost, of a stop at p, for a car whose riders go to the first count positions of dests.
+pub fn compute_cost(
+    policy: Policy,
+    car: Car,
+    goal: Place,
+    count: usize,
+    dests: &[f64],
+    demand: u64,
+    xs: &[f64],
+    n: usize,
+    p: f64,
+) -> f64
+    requires { ⌜ (count ≤ length (now dests)) × (n ≤ 64) × (n ≤ length (now xs)) ⌝ }
+    ensures { λ r. ⌜ r ≡ costBy policy car goal count (now (dests .entry)) demand (now (xs .entry)) n p ⌝ }
+{
+    let x = car.position;
+    let speed = car.speed;
+    let phase = car.phase;
+    let travel = fp::distance(x, p) / speed;
+    let stops = intervening_stops(x, p, demand, xs, n);
+    let doors = door_cost(stops, car.transition, car.dwell, policy.rate);
+    let delay = existing_rider_delay(x, p, speed, dests, count);
+    let bonus = direction_bonus(phase, goal, x, p, travel);
+    weighted(policy.w0, policy.w1, policy.w2, travel, delay, doors, bonus)
+}
+
+// The cost less both fairness bonuses.
+fn fair_cost(
+    policy: Policy,
+    car: Car,
+    goal: Place,
+    count: usize,
+    dests: &[f64],
+    waiters: Waiters,
+    demand: u64,
+    xs: &[f64],
+    n: usize,
+    p: f64,
+) -> f64
+    requires { ⌜ (count ≤ length (now dests)) × (n ≤ 64) × (n ≤ length (now xs)) ⌝ }
+    ensures { λ r. ⌜ r ≡ fairCostBy policy car goal count (now (dests .entry)) waiters demand (now (xs .entry)) n p ⌝ }
+{
+    let cost = compute_cost(policy, car, goal, count, dests, demand, xs, n, p);
+    let squared = dispatch::with_bonus(cost, policy.w3, waiters.squares);
+    dispatch::with_bonus(squared, policy.w4, waiters.waitsum)
+}
+
+// A cost that is finite is a rank.
+pub fn finite_rank(cost: f64) -> Rank
+    ensures { λ r. ⌜ r ≡ finiteRank cost ⌝ }
+{
+    if fp::finite(cost) { Rank::Cost(cost) } else { Rank::Never }
+}
+
+// rank, of stop j of the n at xs.
+pub fn rank(
+    policy: Policy,
+    car: Car,
+    goal: Place,
+    riders: Riders,
+    dests: &[f64],
+    waiters: Waiters,
+    demand: u64,
+    xs: &[f64],
+    n: usize,
+    j: usize,
+) -> Rank
+    requires { ⌜ (riders .count ≤ length (now dests)) × (n ≤ 64) × (n ≤ length (now xs)) × (j < n) ⌝ }
+    ensures { λ r. ⌜ r ≡ rankBy policy car goal riders (now (dests .entry)) waiters demand (now (xs .entry)) n j ⌝ }
+{
+    let p = xs[j];
+    let count = riders.count;
+    let here = mask::has(riders.exits, j);
+    if dispatch::pair_is_useful(car, goal, riders, dests, waiters, here, p, false) {
+        if car.speed > 0.0 {
+            finite_rank(fair_cost(policy, car, goal, count, dests, waiters, demand, xs, n, p))
+        } else {
+            Rank::Never
+        }
+    } else {
+        Rank::Never
+    }
+}

@@ -245,3 +245,45 @@ lookup-none p f z zero h = refl
 lookup-none p f z (suc n) h =
     rw (any-none p (suc n) h n (omega arith))
     (lookup-none p f z n (none-any p n (λ k l. any-none p (suc n) h k (omega arith))))
+
+-- ---- walks that follow each other
+
+-- a walk seen through a function that keeps step
+pub fold-map : {A B : Type 0} (h : A → B) (f : A → ℕ → A) (g : B → ℕ → B) (a : A) (n : ℕ) → ((x : A) (k : ℕ) → k < n → h (f x k) ≡ g (h x) k)
+    → h (fold f a n) ≡ fold g (h a) n
+unfolding fold
+fold-map h f g a zero e = refl
+fold-map h f g a (suc n) e = e (fold f a n) n (omega arith) ∙ ap (λ x. g x n) (fold-map h f g a n (λ x k l. e x k (omega arith)))
+
+-- a walk that changes nothing
+pub fold-keep : {A : Type 0} (a : A) (n : ℕ) → fold (λ (x : A) (k : ℕ). x) a n ≡ a
+unfolding fold
+fold-keep a zero = refl
+fold-keep a (suc n) = fold-keep a n
+
+-- a flag that is set where an index passes
+pub fold-flag : (p : ℕ → Bool) (n : ℕ) → fold (λ (b : Bool) (k : ℕ). cond (p k) true b) false n ≡ any p n
+unfolding fold any
+fold-flag p zero = refl
+fold-flag p (suc n) = ap (λ (b : Bool). cond (p n) true b) (fold-flag p n) ∙ by (p n)
+  where
+    by : (c : Bool) → cond c true (any p n) ≡ (any p n || c)
+    by true = sym (either-right (any p n) true refl)
+    by false = sym (or-false (any p n))
+
+-- some index passes one of two tests
+pub any-or : (p q : ℕ → Bool) (n : ℕ) → (any p n || any q n) ≡ any (λ k. p k || q k) n
+unfolding any
+any-or p q zero = refl
+any-or p q (suc n) = by (any p n) (any q n) (p n) (q n) ∙ ap (λ (b : Bool). b || (p n || q n)) (any-or p q n)
+  where
+    by : (a b c d : Bool) → ((a || c) || (b || d)) ≡ ((a || b) || (c || d))
+    by true b c d = refl
+    by false true true d = refl
+    by false true false d = refl
+    by false false c d = refl
+
+-- a test that does not depend on the index
+pub any-and : (b : Bool) (p : ℕ → Bool) (n : ℕ) → (b && any p n) ≡ any (λ k. b && p k) n
+any-and true p n = refl
+any-and false p n = sym (none-any (λ k. false) n (λ k l. refl))

@@ -4,3 +4,4 @@ pub mod Folds
 pub mod Counts
 pub mod Sums
 pub mod Tables
+pub mod Collected

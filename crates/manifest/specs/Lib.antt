@@ -1,2 +1,5 @@
 pub mod World
 pub mod Manifest
+pub mod Stops
+pub mod Holds
+pub mod Waiters

@@ -1,1 +1,180 @@
-// What waits where: manifest.rs, and the look-ups of world.rs and the group that the costs share.
+// What waits where: manifest.rs, and the look-ups of world.rs and the group that the costs share. Stops are two lists, of ids and of positions.
+ghost use mathlib.Core.Path.{_≡_};
+ghost use Prim.Native.Nat.{_≤_, _<_};
+ghost use lib.ListN.{length};
+ghost use Rattle.manifest.specs.World.{goalOf};
+ghost use Rattle.manifest.specs.Stops.{stopIndex, placeAt, positionIn};
+ghost use Rattle.manifest.specs.Waiters.{goesUp, goesDown, lesserIf, nobody, withRider, meet, waitersIn};
+use components::Phase;
+use components::Place;
+
+// The index of the stop with this id, n where there is none.
+pub fn stop_index(ids: &[u32], n: usize, id: u32) -> usize
+    requires { ⌜ n ≤ length (now ids) ⌝ }
+    ensures { λ r. ⌜ r ≡ stopIndex (now (ids .entry)) n id ⌝ }
+{
+    let mut left = n;
+    while left > 0 {
+        left -= 1;
+        if ids[left] == id {
+            return left;
+        }
+    }
+    n
+}
+
+// Where the stop of an index stands.
+pub fn place(xs: &[f64], n: usize, index: usize) -> Place
+    requires { ⌜ n ≤ length (now xs) ⌝ }
+    ensures { λ r. ⌜ r ≡ placeAt (now (xs .entry)) n index ⌝ }
+{
+    if index < n { Place::At(xs[index]) } else { Place::Nowhere }
+}
+
+// stop_position: where the stop with this id stands.
+pub fn stop_position(ids: &[u32], xs: &[f64], n: usize, id: u32) -> Place
+    requires { ⌜ (n ≤ length (now ids)) × (n ≤ length (now xs)) ⌝ }
+    ensures { λ r. ⌜ r ≡ positionIn (now (ids .entry)) (now (xs .entry)) n id ⌝ }
+{
+    let index = stop_index(ids, n, id);
+    place(xs, n, index)
+}
+
+// Where a car in this phase moves to: the position of its moving_target.
+pub fn goal(ids: &[u32], xs: &[f64], n: usize, phase: Phase) -> Place
+    requires { ⌜ (n ≤ length (now ids)) × (n ≤ length (now xs)) ⌝ }
+    ensures { λ r. ⌜ r ≡ goalOf (positionIn (now (ids .entry)) (now (xs .entry)) n) phase ⌝ }
+{
+    match phase {
+        Phase::Idle => Place::Nowhere,
+        Phase::MovingToStop(stop) => stop_position(ids, xs, n, stop),
+        Phase::Repositioning(stop) => stop_position(ids, xs, n, stop),
+        Phase::DoorOpening => Place::Nowhere,
+        Phase::Loading => Place::Nowhere,
+        Phase::DoorClosing => Place::Nowhere,
+        Phase::Stopped => Place::Nowhere,
+        Phase::Unknown => Place::Nowhere,
+    }
+}
+
+// What waits at a stop: whether anyone does, whether a hall call has no rider, the sums of the wait ticks and of their squares, and the least
+// weight among those who go up, who go down, and who do neither. It depends on no car.
+pub struct Waiters {
+    pub someone: bool,
+    pub call: bool,
+    pub waitsum: f64,
+    pub squares: f64,
+    pub up: f64,
+    pub down: f64,
+    pub level: f64,
+}
+
+fn goes_up(p: f64, place: Place) -> bool
+    ensures { λ r. ⌜ r ≡ goesUp p place ⌝ }
+{
+    match place {
+        Place::Nowhere => false,
+        Place::At(d) => p < d,
+    }
+}
+
+fn goes_down(p: f64, place: Place) -> bool
+    ensures { λ r. ⌜ r ≡ goesDown p place ⌝ }
+{
+    match place {
+        Place::Nowhere => false,
+        Place::At(d) => d < p,
+    }
+}
+
+fn lesser_if(counts: bool, least: f64, weight: f64) -> f64
+    ensures { λ r. ⌜ r ≡ lesserIf counts least weight ⌝ }
+{
+    if counts { fp::lesser(least, weight) } else { least }
+}
+
+impl Waiters {
+    pub fn none(call: bool) -> Self
+        ensures { λ r. ⌜ r ≡ nobody call ⌝ }
+    {
+        let infinity = 1.0 / 0.0;
+        Waiters {
+            someone: false,
+            call: call,
+            waitsum: 0.0,
+            squares: 0.0,
+            up: infinity,
+            down: infinity,
+            level: infinity,
+        }
+    }
+
+    // One rider more at a stop at p.
+    pub fn with_rider(self, p: f64, place: Place, weight: f64, wait: u64) -> Self
+        ensures { λ r. ⌜ r ≡ withRider self p place weight wait ⌝ }
+    {
+        let ticks = fp::natural(wait);
+        let up = goes_up(p, place);
+        let down = goes_down(p, place);
+        Waiters {
+            someone: true,
+            call: self.call,
+            waitsum: self.waitsum + ticks,
+            squares: self.squares + ticks * ticks,
+            up: lesser_if(up, self.up, weight),
+            down: lesser_if(down, self.down, weight),
+            level: lesser_if(!(up | down), self.level, weight),
+        }
+    }
+
+    // The rider of a record, where it waits at the stop with this id, which stands at p.
+    fn meet(
+        self,
+        ids: &[u32],
+        xs: &[f64],
+        n: usize,
+        id: u32,
+        p: f64,
+        stop: u32,
+        dest: u32,
+        weight: f64,
+        wait: u64,
+    ) -> Self
+        requires { ⌜ (n ≤ length (now ids)) × (n ≤ length (now xs)) ⌝ }
+        ensures { λ r. ⌜ r ≡ meet (now (ids .entry)) (now (xs .entry)) n id p self stop dest weight wait ⌝ }
+    {
+        if stop == id {
+            let place = stop_position(ids, xs, n, dest);
+            self.with_rider(p, place, weight, wait)
+        } else {
+            self
+        }
+    }
+}
+
+// waiting_riders_at, summed up: the riders of nw records who wait at stop j.
+pub fn waiters_at(
+    ids: &[u32],
+    xs: &[f64],
+    n: usize,
+    j: usize,
+    call: bool,
+    wstop: &[u32],
+    wdest: &[u32],
+    wweight: &[f64],
+    wwait: &[u64],
+    nw: usize,
+) -> Waiters
+    requires { ⌜ (n ≤ length (now ids)) × (n ≤ length (now xs)) × (j < n) × (nw ≤ length (now wstop)) × (nw ≤ length (now wdest)) × (nw ≤ length (now wweight)) × (nw ≤ length (now wwait)) ⌝ }
+    ensures { λ r. ⌜ r ≡ waitersIn (now (ids .entry)) (now (xs .entry)) n j call (now (wstop .entry)) (now (wdest .entry)) (now (wweight .entry)) (now (wwait .entry)) nw ⌝ }
+{
+    let id = ids[j];
+    let p = xs[j];
+    let mut waiters = Waiters::none(call);
+    let mut w = 0;
+    while w < nw {
+        waiters = waiters.meet(ids, xs, n, id, p, wstop[w], wdest[w], wweight[w], wwait[w]);
+        w += 1;
+    }
+    waiters
+}

@@ -1,1 +1,108 @@
 // RSR: rsr.rs, without its load term.
+ghost use mathlib.Core.Path.{_≡_};
+ghost use Prim.Native.Nat.{_≤_, _<_};
+ghost use lib.ListN.{length};
+ghost use Rattle.components.specs.declared.Place.the-variants.{At};
+ghost use Rattle.rsr.specs.Rsr.{wrongDirection, peakScaling, withPenalty, withCoincidentCall};
+ghost use Rattle.rsr.specs.Pairs.{costBy, rankBy};
+use components::Car;
+use components::Place;
+use components::Policy;
+use components::Rank;
+use components::Traffic;
+use manifest::Waiters;
+use riders::Riders;
+
+// Whether a car that moves from x to g moves away from a stop at p.
+fn moves_away(g: f64, x: f64, p: f64) -> bool
+    ensures { λ r. ⌜ r ≡ wrongDirection (At g) x p ⌝ }
+{
+    ((x < g) & (p < x)) | ((g < x) & (x < p))
+}
+
+// Whether the trip to a stop at p reverses the car.
+fn wrong_direction(goal: Place, x: f64, p: f64) -> bool
+    ensures { λ r. ⌜ r ≡ wrongDirection goal x p ⌝ }
+{
+    match goal {
+        Place::Nowhere => false,
+        Place::At(g) => moves_away(g, x, p),
+    }
+}
+
+// The multiplier in an up or a down peak.
+fn peak_scaling(traffic: Traffic, multiplier: f64) -> f64
+    ensures { λ r. ⌜ r ≡ peakScaling traffic multiplier ⌝ }
+{
+    match traffic {
+        Traffic::Idle => 1.0,
+        Traffic::UpPeak => multiplier,
+        Traffic::InterFloor => 1.0,
+        Traffic::DownPeak => multiplier,
+    }
+}
+
+// The penalty, where its weight is above 0 and the trip reverses the car.
+fn with_penalty(cost: f64, weight: f64, scaling: f64, wrong: bool) -> f64
+    ensures { λ r. ⌜ r ≡ withPenalty cost weight scaling wrong ⌝ }
+{
+    if weight > 0.0 {
+        if wrong { cost + weight * scaling } else { cost }
+    } else {
+        cost
+    }
+}
+
+// The bonus, where its weight is above 0 and the car has a call for the stop.
+fn with_coincident_call(cost: f64, weight: f64, call: bool) -> f64
+    ensures { λ r. ⌜ r ≡ withCoincidentCall cost weight call ⌝ }
+{
+    if weight > 0.0 {
+        if call { cost - weight } else { cost }
+    } else {
+        cost
+    }
+}
+
+// The cost of a stop at p for which the car has a call, or not.
+pub fn compute_cost(policy: Policy, car: Car, goal: Place, waiters: Waiters, call: bool, p: f64) -> f64
+    ensures { λ r. ⌜ r ≡ costBy policy car goal waiters call p ⌝ }
+{
+    let x = car.position;
+    let traffic = policy.traffic;
+    let eta = policy.w0 * (fp::distance(x, p) / car.speed);
+    let scaling = peak_scaling(traffic, policy.w5);
+    let wrong = wrong_direction(goal, x, p);
+    let reversed = with_penalty(eta, policy.w1, scaling, wrong);
+    let called = with_coincident_call(reversed, policy.w2, call);
+    let aged = dispatch::with_bonus(called, policy.w4, waiters.waitsum);
+    fp::max_zero(aged)
+}
+
+// rank, of stop j of the n at xs.
+pub fn rank(
+    policy: Policy,
+    car: Car,
+    goal: Place,
+    riders: Riders,
+    dests: &[f64],
+    waiters: Waiters,
+    xs: &[f64],
+    j: usize,
+) -> Rank
+    requires { ⌜ (riders .count ≤ length (now dests)) × (j < 64) × (j < length (now xs)) ⌝ }
+    ensures { λ r. ⌜ r ≡ rankBy policy car goal riders (now (dests .entry)) waiters (now (xs .entry)) j ⌝ }
+{
+    let p = xs[j];
+    let here = mask::has(riders.exits, j);
+    let call = mask::has(car.calls, j);
+    if dispatch::pair_is_useful(car, goal, riders, dests, waiters, here, p, true) {
+        if car.speed <= 0.0 {
+            Rank::Never
+        } else {
+            etd::finite_rank(compute_cost(policy, car, goal, waiters, call, p))
+        }
+    } else {
+        Rank::Never
+    }
+}

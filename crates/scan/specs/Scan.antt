@@ -1,12 +1,35 @@
 -- SCAN over a sheet: scan.rs. Assumes nothing.
 use Prim.Native.Nat.{ℕ}
-use mathlib.Core.Bool.{Bool, _&&_}
+use mathlib.Core.Bool.{Bool, _&&_, cond}
+use mathlib.Core.List.{List}
+use lib.ListN.{getD}
+use lib.Ieee.{Float, nan}
 use Rattle.laws.specs.Folds.{any}
+use Rattle.mask.specs.Mask.{has}
+use Rattle.components.specs.declared.Direction.{Direction}
+use Rattle.components.specs.declared.Rank.{Rank}
+use Rattle.components.specs.declared.Rank.the-variants.{Never}
 use Rattle.components.specs.Sheet.{Sheet}
 use Rattle.manifest.specs.World.{stopAt}
 use Rattle.manifest.specs.Manifest.{demandStop}
-use Rattle.sweep.specs.Sweeps.{strictlyAhead, prepared}
+use Rattle.sweep.specs.Sweeps.{strictlyAhead, prepared, sweepRank}
 use Rattle.sweep.specs.declared.Sweep.{Sweep}
+
+-- ---- by lists: n stops at xs, the demand stops as a mask
+
+-- strict_demand_ahead: some demand stop is strictly ahead of a car at x
+unfoldable pub demandAhead : Direction → Float → ℕ → List Float → ℕ → Bool
+demandAhead d x demand xs n = any (λ j. has demand j && strictlyAhead d x (getD xs j nan)) n
+
+-- prepare_car, by lists
+unfoldable pub preparedBy : Sweep → Float → ℕ → List Float → ℕ → Sweep
+preparedBy w x demand xs n = prepared w (demandAhead (w .direction) x demand xs n)
+
+-- rank, of a pair that is useful or not
+unfoldable pub rankOf : Sweep → Bool → Float → Float → Rank
+rankOf w useful x p = cond useful (sweepRank w x p) Never
+
+-- ---- over a sheet
 
 module _ (s : Sheet) where
   -- the sweep that the sheet gives car i

@@ -7,15 +7,24 @@ use Rattle.components.specs.declared.Direction.{Direction}
 use Rattle.components.specs.declared.Direction.the-variants.{Up, Down}
 use Rattle.components.specs.declared.Mode.{Mode}
 use Rattle.components.specs.declared.Mode.the-variants.{Strict, Lenient}
+use Rattle.components.specs.declared.Car.{Car}
 use Rattle.components.specs.declared.Rank.{Rank}
 use Rattle.components.specs.declared.Rank.the-variants.{Cost, Never}
 use Rattle.components.specs.Codes.{directionCode, modeCode}
 use Rattle.sweep.specs.declared.Sweep.{Sweep}
 
+-- the sweep that the sheet gives a car
+abbrev pub sweepOf : Car → Sweep
+sweepOf c = record { direction = c .direction; mode = c .mode }
+
 -- SweepDirection::reversed
 abbrev pub reversed : Direction → Direction
 reversed Up = Down
 reversed Down = Up
+
+-- the same mode, the other way
+abbrev pub turnedRound : Sweep → Sweep
+turnedRound w = record { direction = reversed (w .direction); mode = w .mode }
 
 -- strictly ahead of the car at x: "p > position + 1e-9 going up, p < position - 1e-9 going down"
 abbrev pub strictlyAhead : Direction → Float → Float → Bool

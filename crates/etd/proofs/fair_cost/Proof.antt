@@ -1,0 +1,12 @@
+-- etd::fair_cost meets its contract.
+use Rattle.etd.specs.Pairs.{fairCostBy}
+use borrow.Author.Needs.{needs}
+use Rattle.etd.proofs.fair_cost.Statement.{statement}
+use Rattle.etd.proofs.fair_cost.Tie as tie
+
+returns : tie.Need-returns
+unfolding fairCostBy
+returns c = simp (← c .before .before .compute-cost .ensures, ← c .before .with-bonus .ensures) (c .with-bonus2 .ensures)
+
+pub fair-cost-spec : {M : Type 1} → statement M
+fair-cost-spec = tie.close (tie.spec (λ c κs. search needs) (λ c κs. search needs) (λ c κs. search needs) returns)
