@@ -49,23 +49,25 @@ pub record Put (n r x : ℕ) (ro co ro′ co′ : List ℕ) : Type 0 where
   pub column : r < n → at co′ r ≡ x
   pub columns : (s : ℕ) → (s ≡ r → ⊥) → at co′ s ≡ at co s
 
--- for some prices the columns seen are a tree of the equality graph, and column j is the hole
+-- for some prices the columns seen are a tree of the equality graph over some rows ro0, and column j is the hole
 pub record Going (n cols : ℕ) (se fr ro co : List ℕ) (j : ℕ) : Type 0 where
   pub rows : ℕ
   pub few : rows ≤ n
   pub lo : ℕ
   pub c : ℕ → ℕ → ℕ
+  pub ro0 : ℕ → ℕ
+  pub co0 : ℕ → ℕ
   pub u : ℕ → ℕ
   pub w : ℕ → ℕ
-  pub path : Path n cols lo c (at ro) u w (at se) (at fr)
-  pub walk : Walk n cols rows lo j c (at ro) (at co) u w (at se) (at fr) (at ro) (at co)
+  pub path : Path n cols lo c ro0 u w (at se) (at fr)
+  pub walk : Walk n cols rows lo j c ro0 co0 u w (at se) (at fr) (at ro) (at co)
 
--- for all prices for which that was so, the hole is now at j′
+-- for all prices and rows for which that was so, the hole is now at j′
 abbrev pub Gone : (n cols : ℕ) (se fr ro co : List ℕ) (j : ℕ) (ro′ co′ : List ℕ) (j′ : ℕ) → Type 0
 Gone n cols se fr ro co j ro′ co′ j′ =
-    (k lo : ℕ) (c : ℕ → ℕ → ℕ) (u w : ℕ → ℕ) → k ≤ n → Path n cols lo c (at ro) u w (at se) (at fr)
-    → Walk n cols k lo j c (at ro) (at co) u w (at se) (at fr) (at ro) (at co)
-    → Walk n cols k lo j′ c (at ro) (at co) u w (at se) (at fr) (at ro′) (at co′)
+    (k lo : ℕ) (c : ℕ → ℕ → ℕ) (ro0 co0 u w : ℕ → ℕ) → k ≤ n → Path n cols lo c ro0 u w (at se) (at fr)
+    → Walk n cols k lo j c ro0 co0 u w (at se) (at fr) (at ro) (at co)
+    → Walk n cols k lo j′ c ro0 co0 u w (at se) (at fr) (at ro′) (at co′)
 
 -- ---- lists that a loop fills from the front
 

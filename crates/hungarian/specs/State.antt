@@ -169,7 +169,7 @@ module _ {cells : List ℕ} {n cols i t f : ℕ} {u w ro co sl fr se : List ℕ}
         → Gone n cols se′ fr ro co j ro′ co′ cols → State cells n cols (i + 1) u w ro′ co′
     ended fj se′ ro′ co′ e ne g =
         let p = going fj se′ e ne in
-        let wk = g (suc i) 0 (cellAt cells cols) (at u) (at w) li (p .0) (p .1) in
+        let wk = g (suc i) 0 (cellAt cells cols) (at ro) (at co) (at u) (at w) li (p .0) (p .1) in
         record {
           matched = subst (λ (x : ℕ). Matched n cols x (at ro′) (at co′)) (omega arith) (walk-matched wk li);
           priced = subst (λ (x : ℕ). Priced n cols x (cellAt cells cols) (at ro′) (at co′) (at u) (at w)) (omega arith) (walk-priced wk);

@@ -25,15 +25,15 @@ abbrev μ-loop : tie.MeasureT-loop
 module _ (ro₀ co₀ from seen : List ℕ) (n cols j : ℕ) (c64 : cols ≤ 64) (ro co : List ℕ) (hole : ℕ)
     (gone : Gone n cols seen from ro₀ co₀ j ro co hole) where
   -- the hole is not the stand yet
-  before-stand : {k lo : ℕ} {c : ℕ → ℕ → ℕ} {u w : ℕ → ℕ} → Path n cols lo c (at ro₀) u w (at seen) (at from)
-      → Walk n cols k lo hole c (at ro₀) (at co₀) u w (at seen) (at from) (at ro) (at co) → 1 < at seen hole → hole < cols
+  before-stand : {k lo : ℕ} {c : ℕ → ℕ → ℕ} {ro0 co0 u w : ℕ → ℕ} → Path n cols lo c ro0 u w (at seen) (at from)
+      → Walk n cols k lo hole c ro0 co0 u w (at seen) (at from) (at ro) (at co) → 1 < at seen hole → hole < cols
   before-stand pa wk far =
       ⊎-elim (λ e. absurd (let a : at seen hole ≡ at seen cols = ap (at seen) e in omega (arith, pa .p-root))) (λ ne. omega (arith, wk .at)) (same? hole cols)
 
   turn : 1 < at seen hole → (ro₁ co₁ : List ℕ) → at from hole < length ro₁ → Put n (at ro (at from hole)) hole ro co ro₁ co₁
       → Gone n cols seen from ro₀ co₀ j (set ro₁ (at from hole) n) co₁ (at from hole)
-  turn far ro₁ co₁ room put k lo c u w kn pa wk0 =
-      let wk : Walk n cols k lo hole c (at ro₀) (at co₀) u w (at seen) (at from) (at ro) (at co) = gone k lo c u w kn pa wk0 in
+  turn far ro₁ co₁ room put k lo c ro0 co0 u w kn pa wk0 =
+      let wk : Walk n cols k lo hole c ro0 co0 u w (at seen) (at from) (at ro) (at co) = gone k lo c ro0 co0 u w kn pa wk0 in
       let lh : hole < cols = before-stand pa wk far in
       let lt : at seen (at from hole) < at seen hole = pa .p-earlier hole lh (wk .seen) in
       let ne : hole ≡ at from hole → ⊥ = λ e. let a : at seen hole ≡ at seen (at from hole) = ap (at seen) e in omega arith in
@@ -45,20 +45,20 @@ module _ (ro₀ co₀ from seen : List ℕ) (n cols j : ℕ) (c64 : cols ≤ 64)
       (λ s ls n0. put .columns s n0)
 
   home : at seen hole ≤ 1 → Gone n cols seen from ro₀ co₀ j ro co cols
-  home near k lo c u w kn pa wk0 =
-      let wk : Walk n cols k lo hole c (at ro₀) (at co₀) u w (at seen) (at from) (at ro) (at co) = gone k lo c u w kn pa wk0 in
+  home near k lo c ro0 co0 u w kn pa wk0 =
+      let wk : Walk n cols k lo hole c ro0 co0 u w (at seen) (at from) (at ro) (at co) = gone k lo c ro0 co0 u w kn pa wk0 in
       ⊎-elim
       (λ e. rw e at wk)
       (λ ne. absurd (let lh : hole < cols = omega (arith, wk .at) in omega (arith, pa .p-earlier hole lh (wk .seen), pa .p-seen hole lh (wk .seen))))
       (same? hole cols)
 
   here : Going n cols seen from ro₀ co₀ j → hole ≤ 64
-  here g = omega (arith, gone (g .rows) (g .lo) (g .c) (g .u) (g .w) (g .few) (g .path) (g .walk) .at)
+  here g = omega (arith, gone (g .rows) (g .lo) (g .c) (g .ro0) (g .co0) (g .u) (g .w) (g .few) (g .path) (g .walk) .at)
 
   ahead : Going n cols seen from ro₀ co₀ j → 1 < at seen hole → (at from hole ≤ 64) × (at seen (at from hole) < at seen hole)
   ahead g far =
       let pa = g .path in
-      let wk = gone (g .rows) (g .lo) (g .c) (g .u) (g .w) (g .few) pa (g .walk) in
+      let wk = gone (g .rows) (g .lo) (g .c) (g .ro0) (g .co0) (g .u) (g .w) (g .few) pa (g .walk) in
       let lh : hole < cols = before-stand pa wk far in
       (omega (arith, pa .p-from hole lh (wk .seen)), pa .p-earlier hole lh (wk .seen))
 
@@ -80,7 +80,7 @@ module _ (a : tie.At-loop Inv-loop μ-loop) where
       (a .loop .row-of) (a .loop .col-of) (a .loop .hole) (a .loop .inv .2) (p .1 .2)
 
 loop-holds : tie.Need-loop-holds Inv-loop μ-loop
-loop-holds c = (omega arith, omega arith, λ k lo d u w kn pa wk. wk)
+loop-holds c = (omega arith, omega arith, λ k lo d ro0 co0 u w kn pa wk. wk)
 
 mul-if1 : tie.Need-mul-if1 Inv-loop μ-loop
 mul-if1 c = omega (arith, hole-in c)

@@ -176,7 +176,7 @@ augment-requires c κs =
       (
         mx .rows32,
         mx .cols64,
-        record { rows = suc (s .args .i); few = li; lo = 0; c = cellAt (s .args .cells .now) (s .args .cols); u = at u′; w = at w′; path = p .0; walk = p .1 },
+        record { rows = suc (s .args .i); few = li; lo = 0; c = cellAt (s .args .cells .now) (s .args .cols); ro0 = at (a .loop .row-of); co0 = at (a .loop .col-of); u = at u′; w = at w′; path = p .0; walk = p .1 },
       ),
     )
 
