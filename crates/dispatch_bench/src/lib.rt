@@ -2,7 +2,6 @@
 ghost use mathlib.Core.Path.{_≡_};
 ghost use lib.ListN.{length};
 ghost use Rattle.matcher.specs.Promise.{matching, written, numberOf, totalOr};
-
 use matcher::Matching;
 
 // The matcher: 1, with the columns first in chosen and their total; or 0, with nothing written.

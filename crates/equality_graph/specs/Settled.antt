@@ -445,7 +445,7 @@ lower-start {cells} {n} {cols} {i} {u} {w} {ro} {co} {qu} {fr} {se} {se′} sz s
     ro65 = simp length-set (sz .ro65);
     se65 = le ∙ sc .se65;
     fr65 = sc .fr65;
-    qu65 = sc .sl65;
+    qu65 = sc .di65;
     w-small = ws;
     stand = at-same ro cols i (omega (arith, sz .ro65, mx .cols64));
   };

@@ -1,13 +1,16 @@
 -- Lists read at an index, and what each function of the method promises of them. Assumes nothing.
 use mathlib.Core.Path.{_≡_, refl, sym, ap, _∙_}
-use mathlib.Core.Logic.{⊎-elim}
+use mathlib.Core.Bool.{cond}
+use mathlib.Core.Logic.{_⊎_, inl, inr, ⊎-elim}
 use mathlib.Core.List.{List}
 use Prim.Native.Nat.{ℕ, _+_, _-_, _*_, _^_, _≤_, _<_}
 use native.Mathlib.Omega.{arith}
+use lib.Dec.{eqb}
 use lib.ListN.{length, getD, set}
 use lib.Seq.{getD-set-same, getD-set-other}
+use borrow.Author.Tests.{eq-eqb, ne-eqb}
 use Rattle.laws.specs.Bools.{same?}
-use Rattle.assignment_problem.specs.Insertion.{lift, Relaxed, Path, Walk}
+use Rattle.assignment_problem.specs.Insertion.{Path, Walk}
 
 abbrev pub at : List ℕ → ℕ → ℕ
 at l k = getD l k 0
@@ -21,26 +24,56 @@ pub record FreeColumn (ro : List ℕ) (n cols r : ℕ) : Type 0 where
   pub before : (j : ℕ) → j < r → at ro j < n
   pub here : r < cols → n ≤ at ro r
 
-pub record Begun (cells : List ℕ) (cols i : ℕ) (w sl fr : List ℕ) : Type 0 where
-  pub slacks : (j : ℕ) → j < cols → at sl j ≡ at cells (i * cols + j) + at w j
+-- the new row alone: the distance of each column is its slack, seen from the stand, which is at distance 0
+pub record Begun (cells : List ℕ) (cols i : ℕ) (w di fr : List ℕ) : Type 0 where
+  pub distances : (j : ℕ) → j < cols → at di j ≡ at cells (i * cols + j) + at w j
   pub froms : (j : ℕ) → j < cols → at fr j ≡ cols
+  pub home : at di cols ≡ 0
 
-pub record Nearest (se sl : List ℕ) (cols r : ℕ) : Type 0 where
+pub record Nearest (se di : List ℕ) (cols r : ℕ) : Type 0 where
   pub below : r < cols
   pub outside : at se r ≡ 0
-  pub least : (j : ℕ) → j < cols → at se j ≡ 0 → at sl r ≤ at sl j
+  pub least : (j : ℕ) → j < cols → at se j ≡ 0 → at di r ≤ at di j
 
-pub record LiftedRows (se co : List ℕ) (rows d : ℕ) (u u′ : List ℕ) : Type 0 where
-  pub lifted : (r : ℕ) → r < rows → at u′ r ≡ at u r + lift (at se (at co r)) d
+-- what a price gains until the tree comes to the distance d, where its column joined at the distance k (turn s; 0: it is outside)
+abbrev pub gain : ℕ → ℕ → ℕ → ℕ
+gain s d k = cond (eqb s 0) 0 (d - k)
 
-pub record LiftedColumns (se : List ℕ) (cols d : ℕ) (w sl w′ sl′ : List ℕ) : Type 0 where
-  pub lifted : (j : ℕ) → j < cols → at w′ j ≡ at w j + lift (at se j) d
-  pub slack-in : (j : ℕ) → j < cols → 0 < at se j → at sl′ j ≡ at sl j
-  pub slack-out : (j : ℕ) → j < cols → at se j ≡ 0 → at sl′ j ≡ at sl j - d
+pub gain-out : (s d k : ℕ) → s ≡ 0 → gain s d k ≡ 0
+gain-out s d k e = rw (eq-eqb s 0 e)
 
-pub record RelaxedAll (cells : List ℕ) (cols r ur col : ℕ) (w se sl fr sl′ fr′ : List ℕ) : Type 0 where
-  pub kept : (j : ℕ) → j < cols → 0 < at se j → (at sl′ j ≡ at sl j) × (at fr′ j ≡ at fr j)
-  pub relaxed : (j : ℕ) → j < cols → at se j ≡ 0 → Relaxed col ur (at cells (r * cols + j)) (at w j) (at sl j) (at fr j) (at sl′ j) (at fr′ j)
+pub gain-in : (s d k : ℕ) → 0 < s → gain s d k ≡ d - k
+gain-in s d k l = rw (ne-eqb s 0 (λ e. omega arith))
+
+pub gain-le : (s d k : ℕ) → gain s d k ≤ d
+gain-le s d k = ⊎-elim (λ e. omega (arith, gain-out s d k e)) (λ ne. omega (arith, gain-in s d k (omega arith))) (same? s 0)
+
+-- the slack of a column at the distance k when the tree has come to d
+abbrev pub left : ℕ → ℕ → ℕ → ℕ
+left s d k = cond (eqb s 0) (k - d) 0
+
+pub left-out : (s d k : ℕ) → s ≡ 0 → left s d k ≡ k - d
+left-out s d k e = rw (eq-eqb s 0 e)
+
+pub left-in : (s d k : ℕ) → 0 < s → left s d k ≡ 0
+left-in s d k l = rw (ne-eqb s 0 (λ e. omega arith))
+
+pub record RaisedRows (se co di : List ℕ) (rows d : ℕ) (u u′ : List ℕ) : Type 0 where
+  pub raised : (r : ℕ) → r < rows → at u′ r ≡ at u r + gain (at se (at co r)) d (at di (at co r))
+
+pub record RaisedColumns (se di : List ℕ) (cols d : ℕ) (w w′ : List ℕ) : Type 0 where
+  pub raised : (j : ℕ) → j < cols → at w′ j ≡ at w j + gain (at se j) d (at di j)
+
+-- a distance k with its origin f, lowered to the one by the row of column col at the distance d, if that is less
+abbrev pub Lowered : (col d ur cj wj k f k′ f′ : ℕ) → Type 0
+Lowered col d ur cj wj k f k′ f′ =
+    ((k′ ≡ k) × (f′ ≡ f) × (k + ur ≤ cj + wj + d)) ⊎ ((f′ ≡ col) × (k′ ≤ k) × (k′ + ur ≡ cj + wj + d))
+
+pub record Relaxed (cells : List ℕ) (cols r ur col d : ℕ) (w se di fr di′ fr′ : List ℕ) : Type 0 where
+  pub kept : (j : ℕ) → j < cols → 0 < at se j → (at di′ j ≡ at di j) × (at fr′ j ≡ at fr j)
+  pub lowered : (j : ℕ) → j < cols → at se j ≡ 0
+      → Lowered col d ur (at cells (r * cols + j)) (at w j) (at di j) (at fr j) (at di′ j) (at fr′ j)
+  pub stand : at di′ cols ≡ at di cols
 
 -- the row r, or nothing, stands at column x
 pub record Put (n r x : ℕ) (ro co ro′ co′ : List ℕ) : Type 0 where

@@ -3,8 +3,8 @@ ghost use mathlib.Core.Path.{_≡_};
 ghost use Prim.Native.Nat.{ℕ, _+_, _*_, _-_, _^_, _<_, _≤_};
 ghost use lib.ListN.{length, getD};
 ghost use Rattle.assignment_problem.specs.Choice.{cellAt};
-ghost use Rattle.hungarian.specs.Lists.{at, big, Begun, Nearest, LiftedRows, LiftedColumns, FreeColumn, RelaxedAll, Put, Going, Gone};
-ghost use Rattle.hungarian.specs.State.{Sizes, Scratch, Matrix, State, Growing, Cleared, Grew, Joined};
+ghost use Rattle.hungarian.specs.Lists.{at, big, gain, Begun, Nearest, RaisedRows, RaisedColumns, FreeColumn, Relaxed, Put, Going, Gone};
+ghost use Rattle.hungarian.specs.State.{Sizes, Scratch, Matrix, State, Growing, Cleared, Joined};
 
 // The cell of row i and column j.
 pub fn cell(cells: &[u64], cols: usize, i: usize, j: usize) -> u64
@@ -30,33 +30,34 @@ fn free_column(row_of: &[usize], n: usize, cols: usize) -> usize
     j
 }
 
-// Row i alone in the tree: its slacks, and the stand as where they come from.
-fn begin(cells: &[u64], cols: usize, i: usize, w: &[u64], slack: &mut [u64], from: &mut [usize])
-    requires { ⌜ (length (now w) ≡ 65) × (length (now slack) ≡ 65) × (length (now from) ≡ 65) ⌝ }
+// Row i alone in the tree: the distance of each column is its slack, and the stand is where it is seen from.
+fn begin(cells: &[u64], cols: usize, i: usize, w: &[u64], dist: &mut [u64], from: &mut [usize])
+    requires { ⌜ (length (now w) ≡ 65) × (length (now dist) ≡ 65) × (length (now from) ≡ 65) ⌝ }
     requires { ⌜ (cols ≤ 64) × (i * cols + cols ≤ length (now cells)) ⌝ }
     requires { ⌜ ((k : ℕ) → at (now cells) k ≤ big) ⌝ }
     requires { ⌜ ((j : ℕ) → j < cols → at (now w) j ≤ big) ⌝ }
-    ensures { λ _. ⌜ Begun (now (cells .entry)) cols i (now (w .entry)) (now (slack .exit)) (now (from .exit)) ⌝ }
+    ensures { λ _. ⌜ Begun (now (cells .entry)) cols i (now (w .entry)) (now (dist .exit)) (now (from .exit)) ⌝ }
 {
     let mut j = 0;
     while j < cols {
-        slack[j] = cell(cells, cols, i, j) + w[j];
+        dist[j] = cell(cells, cols, i, j) + w[j];
         from[j] = cols;
         j += 1;
     }
+    dist[cols] = 0;
 }
 
-// The column outside the tree with the least slack; f is one outside it.
-fn nearest(seen: &[usize], slack: &[u64], cols: usize, f: usize) -> usize
-    requires { ⌜ (length (now seen) ≡ 65) × (length (now slack) ≡ 65) ⌝ }
+// The column outside the tree with the least distance; f is one outside it.
+fn nearest(seen: &[usize], dist: &[u64], cols: usize, f: usize) -> usize
+    requires { ⌜ (length (now seen) ≡ 65) × (length (now dist) ≡ 65) ⌝ }
     requires { ⌜ (cols ≤ 64) × (f < cols) × (at (now seen) f ≡ 0) ⌝ }
-    ensures { λ r. ⌜ Nearest (now (seen .entry)) (now (slack .entry)) cols r ⌝ }
+    ensures { λ r. ⌜ Nearest (now (seen .entry)) (now (dist .entry)) cols r ⌝ }
 {
     let mut best = f;
     let mut j = 0;
     while j < cols {
         if seen[j] == 0 {
-            if slack[j] < slack[best] {
+            if dist[j] < dist[best] {
                 best = j;
             }
         }
@@ -65,66 +66,72 @@ fn nearest(seen: &[usize], slack: &[u64], cols: usize, f: usize) -> usize
     best
 }
 
-// The rows of the tree go up by d.
-fn lift_rows(seen: &[usize], col_of: &[usize], u: &mut [u64], rows: usize, d: u64)
-    requires { ⌜ (length (now seen) ≡ 65) × (length (now «col_of») ≡ 32) × (length (now u) ≡ 32) ⌝ }
+// What a price gains until the tree comes to the distance d, where its column joined at the distance k, with the turn s; 0: it did not.
+fn gained(s: usize, d: u64, k: u64) -> u64
+    requires { ⌜ (0 < s → k ≤ d) ⌝ }
+    ensures { λ r. ⌜ r ≡ gain s d k ⌝ }
+{
+    if s == 0 {
+        return 0;
+    }
+    d - k
+}
+
+// The prices of the tree's rows, at the distance d.
+fn raise_rows(seen: &[usize], col_of: &[usize], dist: &[u64], u: &mut [u64], rows: usize, d: u64)
+    requires { ⌜ (length (now seen) ≡ 65) × (length (now «col_of») ≡ 32) × (length (now dist) ≡ 65) × (length (now u) ≡ 32) ⌝ }
     requires { ⌜ (rows ≤ 32) × (d ≤ big) ⌝ }
-    requires { ⌜ ((r : ℕ) → r < rows → at (now «col_of») r ≤ 64) ⌝ }
-    requires { ⌜ ((r : ℕ) → r < rows → at (now u) r ≤ big) ⌝ }
-    ensures { λ _. ⌜ LiftedRows (now (seen .entry)) (now («col_of» .entry)) rows d (now (u .entry)) (now (u .exit)) ⌝ }
+    requires { ⌜ ((r : ℕ) → r < rows → (at (now «col_of») r ≤ 64) × (at (now u) r ≤ big)) ⌝ }
+    requires { ⌜ ((r : ℕ) → r < rows → 0 < at (now seen) (at (now «col_of») r) → at (now dist) (at (now «col_of») r) ≤ d) ⌝ }
+    ensures { λ _. ⌜ RaisedRows (now (seen .entry)) (now («col_of» .entry)) (now (dist .entry)) rows d (now (u .entry)) (now (u .exit)) ⌝ }
 {
     let mut r = 0;
     while r < rows {
-        if seen[col_of[r]] != 0 {
-            u[r] += d;
-        }
+        let x = col_of[r];
+        u[r] += gained(seen[x], d, dist[x]);
         r += 1;
     }
 }
 
-// The columns of the tree go up by d, and the slacks outside it go down by d.
-fn lift_columns(seen: &[usize], w: &mut [u64], slack: &mut [u64], cols: usize, d: u64)
-    requires { ⌜ (length (now seen) ≡ 65) × (length (now w) ≡ 65) × (length (now slack) ≡ 65) ⌝ }
+// The discounts of the tree's columns, at the distance d.
+fn raise_columns(seen: &[usize], dist: &[u64], w: &mut [u64], cols: usize, d: u64)
+    requires { ⌜ (length (now seen) ≡ 65) × (length (now dist) ≡ 65) × (length (now w) ≡ 65) ⌝ }
     requires { ⌜ (cols ≤ 64) × (d ≤ big) ⌝ }
-    requires { ⌜ ((j : ℕ) → j < cols → at (now w) j ≤ big) ⌝ }
-    requires { ⌜ ((j : ℕ) → j < cols → at (now seen) j ≡ 0 → d ≤ at (now slack) j) ⌝ }
-    ensures { λ _. ⌜ LiftedColumns (now (seen .entry)) cols d (now (w .entry)) (now (slack .entry)) (now (w .exit)) (now (slack .exit)) ⌝ }
+    requires { ⌜ ((j : ℕ) → j < cols → (at (now w) j ≤ big) × (0 < at (now seen) j → at (now dist) j ≤ d)) ⌝ }
+    ensures { λ _. ⌜ RaisedColumns (now (seen .entry)) (now (dist .entry)) cols d (now (w .entry)) (now (w .exit)) ⌝ }
 {
     let mut j = 0;
     while j < cols {
-        if seen[j] != 0 {
-            w[j] += d;
-        } else {
-            slack[j] -= d;
-        }
+        w[j] += gained(seen[j], d, dist[j]);
         j += 1;
     }
 }
 
-// The slacks outside the tree are lowered to those of row r, whose column is col.
+// The distances outside the tree are lowered to those by row r, whose column is col, at the distance d.
 fn relax(
     cells: &[u64],
     cols: usize,
     r: usize,
     ur: u64,
     col: usize,
+    d: u64,
     w: &[u64],
     seen: &[usize],
-    slack: &mut [u64],
+    dist: &mut [u64],
     from: &mut [usize],
 )
-    requires { ⌜ (length (now w) ≡ 65) × (length (now seen) ≡ 65) × (length (now slack) ≡ 65) × (length (now from) ≡ 65) ⌝ }
-    requires { ⌜ (cols ≤ 64) × (r * cols + cols ≤ length (now cells)) ⌝ }
+    requires { ⌜ (length (now w) ≡ 65) × (length (now seen) ≡ 65) × (length (now dist) ≡ 65) × (length (now from) ≡ 65) ⌝ }
+    requires { ⌜ (cols ≤ 64) × (r * cols + cols ≤ length (now cells)) × (d ≤ big) ⌝ }
     requires { ⌜ ((k : ℕ) → at (now cells) k ≤ big) ⌝ }
-    requires { ⌜ ((j : ℕ) → j < cols → (at (now w) j ≤ big) × (ur ≤ at (now cells) (r * cols + j) + at (now w) j)) ⌝ }
-    ensures { λ _. ⌜ RelaxedAll (now (cells .entry)) cols r ur col (now (w .entry)) (now (seen .entry)) (now (slack .entry)) (now (from .entry)) (now (slack .exit)) (now (from .exit)) ⌝ }
+    requires { ⌜ ((j : ℕ) → j < cols → (at (now w) j ≤ big) × (at (now seen) j ≡ 0 → ur ≤ at (now cells) (r * cols + j) + at (now w) j)) ⌝ }
+    ensures { λ _. ⌜ Relaxed (now (cells .entry)) cols r ur col d (now (w .entry)) (now (seen .entry)) (now (dist .entry)) (now (from .entry)) (now (dist .exit)) (now (from .exit)) ⌝ }
 {
     let mut j = 0;
     while j < cols {
         if seen[j] == 0 {
-            let s = cell(cells, cols, r, j) + w[j] - ur;
-            if s < slack[j] {
-                slack[j] = s;
+            let s = cell(cells, cols, r, j) + w[j] - ur + d;
+            if s < dist[j] {
+                dist[j] = s;
                 from[j] = col;
             }
         }
@@ -180,31 +187,7 @@ pub fn clear(seen: &mut [usize], cols: usize)
     seen[cols] = 1;
 }
 
-// The tree's prices go up until a column outside it has slack 0: that column.
-fn grow(
-    cols: usize,
-    f: usize,
-    rows: usize,
-    u: &mut [u64],
-    w: &mut [u64],
-    col_of: &[usize],
-    slack: &mut [u64],
-    seen: &[usize],
-) -> usize
-    requires { ⌜ (length (now u) ≡ 32) × (length (now w) ≡ 65) × (length (now «col_of») ≡ 32) × (length (now slack) ≡ 65) × (length (now seen) ≡ 65) ⌝ }
-    requires { ⌜ (cols ≤ 64) × (rows ≤ 32) × (f < cols) × (at (now seen) f ≡ 0) × (at (now slack) f ≤ big) ⌝ }
-    requires { ⌜ ((r : ℕ) → r < rows → (at (now «col_of») r ≤ 64) × (at (now u) r ≤ big)) ⌝ }
-    requires { ⌜ ((j : ℕ) → j < cols → at (now w) j ≤ big) ⌝ }
-    ensures { λ j. ⌜ Grew cols rows (now («col_of» .entry)) (now (seen .entry)) (now (u .entry)) (now (w .entry)) (now (slack .entry)) (now (u .exit)) (now (w .exit)) (now (slack .exit)) j ⌝ }
-{
-    let j = nearest(seen, slack, cols, f);
-    let d = slack[j];
-    lift_rows(seen, col_of, u, rows, d);
-    lift_columns(seen, w, slack, cols, d);
-    j
-}
-
-// The column j joins the tree, as its turn t, and its row r lowers the slacks outside.
+// Column j joins the tree, as its turn t at the distance d, and its row r lowers the distances outside.
 fn join(
     cells: &[u64],
     cols: usize,
@@ -212,19 +195,20 @@ fn join(
     ur: u64,
     j: usize,
     t: usize,
+    d: u64,
     w: &[u64],
     seen: &mut [usize],
-    slack: &mut [u64],
+    dist: &mut [u64],
     from: &mut [usize],
 )
-    requires { ⌜ (length (now w) ≡ 65) × (length (now seen) ≡ 65) × (length (now slack) ≡ 65) × (length (now from) ≡ 65) ⌝ }
-    requires { ⌜ (cols ≤ 64) × (r * cols + cols ≤ length (now cells)) × (j < cols) ⌝ }
+    requires { ⌜ (length (now w) ≡ 65) × (length (now seen) ≡ 65) × (length (now dist) ≡ 65) × (length (now from) ≡ 65) ⌝ }
+    requires { ⌜ (cols ≤ 64) × (r * cols + cols ≤ length (now cells)) × (j < cols) × (0 < t) × (d ≤ big) ⌝ }
     requires { ⌜ ((k : ℕ) → at (now cells) k ≤ big) ⌝ }
-    requires { ⌜ ((x : ℕ) → x < cols → (at (now w) x ≤ big) × (ur ≤ at (now cells) (r * cols + x) + at (now w) x)) ⌝ }
-    ensures { λ _. ⌜ Joined (now (cells .entry)) cols r ur j t (now (w .entry)) (now (seen .entry)) (now (slack .entry)) (now (from .entry)) (now (seen .exit)) (now (slack .exit)) (now (from .exit)) ⌝ }
+    requires { ⌜ ((x : ℕ) → x < cols → (at (now w) x ≤ big) × (at (now seen) x ≡ 0 → ur ≤ at (now cells) (r * cols + x) + at (now w) x)) ⌝ }
+    ensures { λ _. ⌜ Joined (now (cells .entry)) cols r ur j t d (now (w .entry)) (now (seen .entry)) (now (dist .entry)) (now (from .entry)) (now (seen .exit)) (now (dist .exit)) (now (from .exit)) ⌝ }
 {
     seen[j] = t;
-    relax(cells, cols, r, ur, j, w, seen, slack, from);
+    relax(cells, cols, r, ur, j, d, w, seen, dist, from);
 }
 
 // Row i stands alone in the tree; answers a free column.
@@ -237,20 +221,20 @@ fn prepare(
     w: &[u64],
     row_of: &mut [usize],
     col_of: &mut [usize],
-    slack: &mut [u64],
+    dist: &mut [u64],
     from: &mut [usize],
     seen: &mut [usize],
 ) -> usize
-    requires { ⌜ Sizes (now u) (now w) (now «row_of») (now «col_of») × Scratch (now slack) (now from) (now seen) ⌝ }
+    requires { ⌜ Sizes (now u) (now w) (now «row_of») (now «col_of») × Scratch (now dist) (now from) (now seen) ⌝ }
     requires { ⌜ Matrix (now cells) n cols × (i < n) × State (now cells) n cols i (now u) (now w) (now «row_of») (now «col_of») ⌝ }
-    ensures { λ f. ⌜ Growing (now (cells .entry)) n cols i 1 f (now (u .exit)) (now (w .entry)) (now («row_of» .exit)) (now («col_of» .exit)) (now (slack .exit)) (now (from .exit)) (now (seen .exit)) ⌝ }
+    ensures { λ f. ⌜ Growing (now (cells .entry)) n cols i 1 f 0 (now (u .exit)) (now (w .entry)) (now («row_of» .exit)) (now («col_of» .exit)) (now (dist .exit)) (now (from .exit)) (now (seen .exit)) ⌝ }
 {
     let f = free_column(row_of, n, cols);
     u[i] = 0;
     row_of[cols] = i;
     col_of[i] = cols;
     clear(seen, cols);
-    begin(cells, cols, i, w, slack, from);
+    begin(cells, cols, i, w, dist, from);
     f
 }
 
@@ -264,26 +248,29 @@ fn insert(
     w: &mut [u64],
     row_of: &mut [usize],
     col_of: &mut [usize],
-    slack: &mut [u64],
+    dist: &mut [u64],
     from: &mut [usize],
     seen: &mut [usize],
 )
-    requires { ⌜ Sizes (now u) (now w) (now «row_of») (now «col_of») × Scratch (now slack) (now from) (now seen) ⌝ }
+    requires { ⌜ Sizes (now u) (now w) (now «row_of») (now «col_of») × Scratch (now dist) (now from) (now seen) ⌝ }
     requires { ⌜ Matrix (now cells) n cols × (i < n) × State (now cells) n cols i (now u) (now w) (now «row_of») (now «col_of») ⌝ }
     ensures { λ _. ⌜ State (now (cells .entry)) n cols (i + 1) (now (u .exit)) (now (w .exit)) (now («row_of» .exit)) (now («col_of» .exit)) ⌝ }
 {
-    let f = prepare(cells, n, cols, i, u, w, row_of, col_of, slack, from, seen);
+    let f = prepare(cells, n, cols, i, u, w, row_of, col_of, dist, from, seen);
     let mut t = 1;
     loop {
-        let j = grow(cols, f, i + 1, u, w, col_of, slack, seen);
+        let j = nearest(seen, dist, cols, f);
+        let d = dist[j];
         t += 1;
         let r = row_of[j];
         if n <= r {
             seen[j] = t;
+            raise_rows(seen, col_of, dist, u, i + 1, d);
+            raise_columns(seen, dist, w, cols, d);
             augment(row_of, col_of, from, seen, n, cols, j);
             return;
         }
-        join(cells, cols, r, u[r], j, t, w, seen, slack, from);
+        join(cells, cols, r, u[r], j, t, d, w, seen, dist, from);
     }
 }
 
@@ -296,17 +283,17 @@ pub fn solve(
     w: &mut [u64],
     row_of: &mut [usize],
     col_of: &mut [usize],
-    slack: &mut [u64],
+    dist: &mut [u64],
     from: &mut [usize],
     seen: &mut [usize],
 )
-    requires { ⌜ Sizes (now u) (now w) (now «row_of») (now «col_of») × Scratch (now slack) (now from) (now seen) ⌝ }
+    requires { ⌜ Sizes (now u) (now w) (now «row_of») (now «col_of») × Scratch (now dist) (now from) (now seen) ⌝ }
     requires { ⌜ Matrix (now cells) n cols × ((j : ℕ) → j < cols → (at (now «row_of») j ≡ n) × (at (now w) j ≡ 0)) ⌝ }
     ensures { λ _. ⌜ State (now (cells .entry)) n cols n (now (u .exit)) (now (w .exit)) (now («row_of» .exit)) (now («col_of» .exit)) ⌝ }
 {
     let mut i = 0;
     while i < n {
-        insert(cells, n, cols, i, u, w, row_of, col_of, slack, from, seen);
+        insert(cells, n, cols, i, u, w, row_of, col_of, dist, from, seen);
         i += 1;
     }
 }

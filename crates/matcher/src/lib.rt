@@ -58,7 +58,7 @@ pub fn choose(cells: &[u64], n: usize, cols: usize, places: &mut [u32]) -> u64
     let mut w = [0u64; 65];
     let mut row_of = [n; 65];
     let mut col_of = [0usize; 32];
-    let mut slack = [0u64; 65];
+    let mut dist = [0u64; 65];
     let mut from = [0usize; 65];
     let mut seen = [0usize; 65];
     let mut queue = [0usize; 65];
@@ -70,7 +70,7 @@ pub fn choose(cells: &[u64], n: usize, cols: usize, places: &mut [u32]) -> u64
         &mut w,
         &mut row_of,
         &mut col_of,
-        &mut slack,
+        &mut dist,
         &mut from,
         &mut seen,
     );

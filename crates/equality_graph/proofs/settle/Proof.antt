@@ -41,7 +41,7 @@ loop-again c =
     let iv = c .before .before .before .before .before .before .before .before .before .before .before .before .before .before .before .before .before .loop .inv in
     let v = c .before .before .before .before .before .before .before .before .before .before .lower in (
       record { u32 = iv .0 .u32; w65 = iv .0 .w65; ro65 = v .kept .1 .1 .1 .1 .1 .1 .0 ∙ iv .0 .ro65; co32 = v .kept .1 .1 .1 .1 .1 .1 .1 .0 ∙ iv .0 .co32 },
-      record { sl65 = v .kept .1 .1 .1 .1 .1 .1 .1 .1 .0 ∙ iv .1 .sl65; fr65 = v .kept .1 .1 .1 .1 .1 .1 .1 .1 .1 .0 ∙ iv .1 .fr65; se65 = v .kept .1 .1 .1 .1 .1 .1 .1 .1 .1 .1 .0 ∙ iv .1 .se65 },
+      record { di65 = v .kept .1 .1 .1 .1 .1 .1 .1 .1 .0 ∙ iv .1 .di65; fr65 = v .kept .1 .1 .1 .1 .1 .1 .1 .1 .1 .0 ∙ iv .1 .fr65; se65 = v .kept .1 .1 .1 .1 .1 .1 .1 .1 .1 .1 .0 ∙ iv .1 .se65 },
       omega (arith, c .before .before .before .before .before .before .before .before .before .before .before .before .before .before .before .before .loop-test .taken),
       v .ensures,
     )
@@ -53,7 +53,7 @@ same-length-2 : tie.Need-same-length-2 Inv-loop μ-loop
 same-length-2 c = c .before .loop .inv .0 .co32 ∙ sym (c .before .before .before .before .before .before .before .before .before .before .pre .0 .0 .co32)
 
 same-length-3 : tie.Need-same-length-3 Inv-loop μ-loop
-same-length-3 c = c .before .loop .inv .1 .sl65 ∙ sym (c .before .before .before .before .before .before .before .before .before .before .pre .0 .1 .sl65)
+same-length-3 c = c .before .loop .inv .1 .di65 ∙ sym (c .before .before .before .before .before .before .before .before .before .before .pre .0 .1 .di65)
 
 same-length-4 : tie.Need-same-length-4 Inv-loop μ-loop
 same-length-4 c = c .before .loop .inv .1 .fr65 ∙ sym (c .before .before .before .before .before .before .before .before .before .before .pre .0 .1 .fr65)

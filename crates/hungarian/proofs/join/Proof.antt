@@ -1,45 +1,48 @@
+-- hungarian::join meets its contract.
 use borrow.Author.Needs.{needs}
 use Rattle.hungarian.proofs.join.Statement.{statement}
 use Rattle.hungarian.proofs.join.Tie as tie
 use Rattle.hungarian.proofs.join.Reads as reads
 use Rattle.hungarian.proofs.join.Lts as lts
 use Rattle.hungarian.proofs.relax.Reads as relax-reads
-use Prim.Native.Nat.{ℕ, suc, _≤_, _<_, _-_, _+_, _*_}
+use Prim.Native.Nat.{ℕ, _≤_, _<_}
 use mathlib.Core.Path.{_≡_, refl, sym, ap, _∙_}
 use mathlib.Core.Logic.{⊎-elim}
-use borrow.Author.Count.{below-more}
 use native.Mathlib.Omega.{arith}
-use native.Mathlib.Numerals.{add-one}
-use lib.ListN.{length, length-set, set}
-use Rattle.hungarian.specs.Lists.{at, big, at-same, at-other, below-set, beyond-set, below-keep}
-use Rattle.assignment_problem.specs.Insertion.{lift, lift-in, lift-out, Relaxed}
-use mathlib.Core.List.{List}
+use lib.ListN.{length-set, set}
+use Rattle.laws.specs.Bools.{same?}
+use Rattle.hungarian.specs.Lists.{at, at-same, at-other}
 
--- src/lib.rt:178:5
 mul-seen : tie.Need-mul-seen
 mul-seen c = search needs
 
--- src/lib.rt:178:5
 slice-write-seen : tie.Need-slice-write-seen
 slice-write-seen c = search needs
 
--- src/lib.rt:179:5
 relax-requires : tie.Need-relax-requires
-relax-requires c κs = search needs
+relax-requires c κs =
+    let s = c .before .before .before .before .before .before .before .before in
+    let p = s .pre in
+    let se = s .args .seen .now in
+    let j = s .args .j in
+    let t = s .args .t in
+    let was : (x : ℕ) → at (set se j t) x ≡ 0 → at se x ≡ 0 = λ x o. ⊎-elim
+    (λ (e : x ≡ j). absurd (let a : at (set se j t) x ≡ at (set se j t) j = ap (at (set se j t)) e in omega (arith, at-same se j t (omega (arith, p .0 .1, p .1 .0 .0, p .1 .0 .2)), p .1 .0 .3)))
+    (λ ne. sym (at-other se j t x ne) ∙ o)
+    (same? x j) in (
+      (p .0 .0, simp length-set (p .0 .1), p .0 .2, p .0 .3),
+      ((p .1 .0 .0, p .1 .0 .1, p .1 .0 .4), (p .1 .1 .0, (λ x lx. (p .1 .1 .1 x lx .0, (λ o. p .1 .1 .1 x lx .1 (was x o)))))),
+    )
 
--- src/lib.rt:171:1
 same-length : tie.Need-same-length
 same-length c = search needs
 
--- src/lib.rt:171:1
 same-length-2 : tie.Need-same-length-2
 same-length-2 c = search needs
 
--- src/lib.rt:171:1
 same-length-3 : tie.Need-same-length-3
 same-length-3 c = search needs
 
--- src/lib.rt:171:1
 returns : tie.Need-returns
 returns c =
     let b = c .before .before .before .before .before .before .before .before .before .before .before .before .before in

@@ -15,12 +15,12 @@ use Rattle.assignment_problem.specs.Insertion.{lift, lift-in, lift-out, Relaxed
 use mathlib.Core.List.{List}
 
 abbrev Inv-loop : tie.InvT-loop
-Inv-loop seen slack cols f best₀ j₀ best j =
+Inv-loop seen dist cols f best₀ j₀ best j =
     (j ≤ cols) × (best < cols) × (at seen best ≡ 0)
-    × ((k : ℕ) → k < j → at seen k ≡ 0 → at slack best ≤ at slack k)
+    × ((k : ℕ) → k < j → at seen k ≡ 0 → at dist best ≤ at dist k)
 
 abbrev μ-loop : tie.MeasureT-loop
-μ-loop seen slack cols f best₀ j₀ best j = cols - j
+μ-loop seen dist cols f best₀ j₀ best j = cols - j
 
 -- src/lib.rt:56:5
 loop-holds : tie.Need-loop-holds Inv-loop μ-loop
@@ -69,7 +69,7 @@ loop-again c =
       omega arith,
       omega arith,
       x .0 .taken,
-      below-keep (λ k v. at (g .seen .now) k ≡ 0 → at (g .slack .now) (a .loop .j) ≤ v) (g .slack .now) (a .loop .j)
+      below-keep (λ k v. at (g .seen .now) k ≡ 0 → at (g .dist .now) (a .loop .j) ≤ v) (g .dist .now) (a .loop .j)
           (λ k l s. omega (arith, a .loop .inv .3 k l s, x .3 .taken)) (λ s. omega arith),
     ))
     (λ y. ⊎-elim
@@ -77,14 +77,14 @@ loop-again c =
       omega arith,
       a .loop .inv .1,
       a .loop .inv .2,
-      below-keep (λ k v. at (g .seen .now) k ≡ 0 → at (g .slack .now) (a .loop .best) ≤ v) (g .slack .now) (a .loop .j)
+      below-keep (λ k v. at (g .seen .now) k ≡ 0 → at (g .dist .now) (a .loop .best) ≤ v) (g .dist .now) (a .loop .j)
           (a .loop .inv .3) (λ s. omega (arith, x .3 .left)),
     ))
     (λ x. rw (x .1) (
       omega arith,
       a .loop .inv .1,
       a .loop .inv .2,
-      below-keep (λ k v. at (g .seen .now) k ≡ 0 → at (g .slack .now) (a .loop .best) ≤ v) (g .slack .now) (a .loop .j)
+      below-keep (λ k v. at (g .seen .now) k ≡ 0 → at (g .dist .now) (a .loop .best) ≤ v) (g .dist .now) (a .loop .j)
           (a .loop .inv .3) (λ s. absurd (x .0 .left s)),
     ))
     y)

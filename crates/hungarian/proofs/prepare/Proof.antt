@@ -13,8 +13,7 @@ use borrow.Author.Count.{below-more}
 use native.Mathlib.Omega.{arith}
 use native.Mathlib.Numerals.{add-one}
 use lib.ListN.{length, length-set, set}
-use Rattle.hungarian.specs.Lists.{at, big, at-same, at-other, below-set, beyond-set, below-keep}
-use Rattle.assignment_problem.specs.Insertion.{lift, lift-in, lift-out, Relaxed}
+use Rattle.hungarian.specs.Lists.{at, big}
 use mathlib.Core.List.{List}
 use Rattle.hungarian.specs.State.{row-in, prepared}
 
@@ -57,7 +56,7 @@ begin-requires c κs =
     let sz = b .pre .0 .0 in
     let sc = b .pre .0 .1 in
     let mx = b .pre .1 .0 in (
-      (sz .w65, sc .sl65, sc .fr65),
+      (sz .w65, sc .di65, sc .fr65),
       (
         (mx .cols64, omega (arith, row-in (b .args .i) (b .args .n) (b .args .cols) (b .pre .1 .1), mx .whole)),
         (mx .small, b .pre .1 .2 .w-bound big (mx .small)),

@@ -19,10 +19,10 @@ use native.Mathlib.Nat.{le-antisymm}
 use mathlib.Core.Path.{subst}
 
 abbrev Inv-loop : tie.InvT-loop
-Inv-loop cells n cols u₀ w₀ row-of₀ col-of₀ slack₀ from₀ seen₀ i₀ u w row-of col-of slack from seen i = Sizes u w row-of col-of × Scratch slack from seen × (i ≤ n) × State cells n cols i u w row-of col-of
+Inv-loop cells n cols u₀ w₀ row-of₀ col-of₀ dist₀ from₀ seen₀ i₀ u w row-of col-of dist from seen i = Sizes u w row-of col-of × Scratch dist from seen × (i ≤ n) × State cells n cols i u w row-of col-of
 
 abbrev μ-loop : tie.MeasureT-loop
-μ-loop cells n cols u₀ w₀ row-of₀ col-of₀ slack₀ from₀ seen₀ i₀ u w row-of col-of slack from seen i = n - i
+μ-loop cells n cols u₀ w₀ row-of₀ col-of₀ dist₀ from₀ seen₀ i₀ u w row-of col-of dist from seen i = n - i
 
 -- src/lib.rt:225:5
 loop-holds : tie.Need-loop-holds Inv-loop μ-loop
@@ -64,7 +64,7 @@ loop-again c =
     let s = a .before .before .before .before .before .before .before .before .before in
     let lt = c .before .before .before .before .before .before .before .before .before .before .before .before .before .before .before .before .before .before .before .before .before .before .loop-test .taken in (
       record { u32 = c .before .before .before .before .before .before .before .before .before .before .before .before .before .before .insert .kept .1 .1 .1 .1 .0 ∙ a .loop .inv .0 .u32; w65 = c .before .before .before .before .before .before .before .before .before .before .before .before .before .before .insert .kept .1 .1 .1 .1 .1 .0 ∙ a .loop .inv .0 .w65; ro65 = c .before .before .before .before .before .before .before .before .before .before .before .before .before .before .insert .kept .1 .1 .1 .1 .1 .1 .0 ∙ a .loop .inv .0 .ro65; co32 = c .before .before .before .before .before .before .before .before .before .before .before .before .before .before .insert .kept .1 .1 .1 .1 .1 .1 .1 .0 ∙ a .loop .inv .0 .co32 },
-      record { sl65 = c .before .before .before .before .before .before .before .before .before .before .before .before .before .before .insert .kept .1 .1 .1 .1 .1 .1 .1 .1 .0 ∙ a .loop .inv .1 .sl65; fr65 = c .before .before .before .before .before .before .before .before .before .before .before .before .before .before .insert .kept .1 .1 .1 .1 .1 .1 .1 .1 .1 .0 ∙ a .loop .inv .1 .fr65; se65 = c .before .before .before .before .before .before .before .before .before .before .before .before .before .before .insert .kept .1 .1 .1 .1 .1 .1 .1 .1 .1 .1 .0 ∙ a .loop .inv .1 .se65 },
+      record { di65 = c .before .before .before .before .before .before .before .before .before .before .before .before .before .before .insert .kept .1 .1 .1 .1 .1 .1 .1 .1 .0 ∙ a .loop .inv .1 .di65; fr65 = c .before .before .before .before .before .before .before .before .before .before .before .before .before .before .insert .kept .1 .1 .1 .1 .1 .1 .1 .1 .1 .0 ∙ a .loop .inv .1 .fr65; se65 = c .before .before .before .before .before .before .before .before .before .before .before .before .before .before .insert .kept .1 .1 .1 .1 .1 .1 .1 .1 .1 .1 .0 ∙ a .loop .inv .1 .se65 },
       omega (arith, lt),
       c .before .before .before .before .before .before .before .before .before .before .before .before .before .before .insert .ensures,
     )
@@ -102,7 +102,7 @@ same-length-5 : tie.Need-same-length-5 Inv-loop μ-loop
 same-length-5 c =
     let a = c .before in
     let s = a .before .before .before .before .before .before .before .before .before in
-    a .loop .inv .1 .sl65 ∙ sym (s .pre .0 .1 .sl65)
+    a .loop .inv .1 .di65 ∙ sym (s .pre .0 .1 .di65)
 
 -- src/lib.rt:219:1
 same-length-6 : tie.Need-same-length-6 Inv-loop μ-loop

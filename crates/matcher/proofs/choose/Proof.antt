@@ -42,7 +42,7 @@ solve-requires : tie.Need-solve-requires
 solve-requires c κs =
     let s = c .before .before .before .before .before .before .before .before .before in
     let zeros : (v j : ℕ) → j < s .args .cols → getD (replicate 65 v) j 0 ≡ v = λ v j lj. getD-replicate 65 j v 0 (omega (arith, s .pre .0 .cols64)) in (
-      (record { u32 = refl; w65 = refl; ro65 = refl; co32 = refl }, record { sl65 = refl; fr65 = refl; se65 = refl }),
+      (record { u32 = refl; w65 = refl; ro65 = refl; co32 = refl }, record { di65 = refl; fr65 = refl; se65 = refl }),
       (s .pre .0, (λ j lj. (zeros (s .args .n) j lj, zeros 0 j lj))),
     )
 
@@ -72,7 +72,7 @@ settle-requires c κs =
     let s = c .before .before .before .before .before .before .before .before .before .before .before .before .before .before .before .before .before .before .before .before .before .before .before .before in (
       (
         record { u32 = c .before .before .before .before .before .before .before .before .before .before .before .before .before .before .solve .kept .1 .1 .1 .0; w65 = c .before .before .before .before .before .before .before .before .before .before .before .before .before .before .solve .kept .1 .1 .1 .1 .0; ro65 = c .before .before .before .before .before .before .before .before .before .before .before .before .before .before .solve .kept .1 .1 .1 .1 .1 .0; co32 = c .before .before .before .before .before .before .before .before .before .before .before .before .before .before .solve .kept .1 .1 .1 .1 .1 .1 .0 },
-        record { sl65 = refl; fr65 = c .before .before .before .before .before .before .before .before .before .before .before .before .before .before .solve .kept .1 .1 .1 .1 .1 .1 .1 .1 .0; se65 = c .before .before .before .before .before .before .before .before .before .before .before .before .before .before .solve .kept .1 .1 .1 .1 .1 .1 .1 .1 .1 .0 },
+        record { di65 = refl; fr65 = c .before .before .before .before .before .before .before .before .before .before .before .before .before .before .solve .kept .1 .1 .1 .1 .1 .1 .1 .1 .0; se65 = c .before .before .before .before .before .before .before .before .before .before .before .before .before .before .solve .kept .1 .1 .1 .1 .1 .1 .1 .1 .1 .0 },
       ),
       (s .pre .0, c .before .before .before .before .before .before .before .before .before .before .before .before .before .before .solve .ensures),
     )
