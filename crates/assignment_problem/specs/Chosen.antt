@@ -236,6 +236,12 @@ module _ (c : ℕ → ℕ → ℕ) (n m : ℕ) where
     pub chosen-only : (l : List ℕ) → length l ≡ n → Chosen n m c (λ k. getD l k 0) → l ≡ chosen c n m
     chosen-only l size hl = ext-getD 0 l (chosen c n m) (size ∙ sym chosen-length) (λ i li. chosen-one hl chosen-is i (omega arith))
 
+    -- and its table of columns is the recursion's
+    pub chosen-tab : (p : ℕ → ℕ) → Chosen n m c p → tab p n ≡ chosen c n m
+    chosen-tab p hp =
+        ext-getD 0 (tab p n) (chosen c n m) (length-tab p n ∙ sym chosen-length)
+        (λ k lk. let l : k < n = omega (arith, length-tab p n) in getD-tab₀ p n k 0 l ∙ chosen-one hp chosen-is k l)
+
 -- ---- other cells
 
 -- equal cells give the same choice and the same total

@@ -18,18 +18,21 @@ use Rattle.assignment_problem.specs.Choice.{IsChoice}
 use Rattle.assignment_problem.specs.Along.{along-eq}
 use Rattle.assignment_problem.specs.Prices.{Tight, Feasible}
 
--- the k first rows have columns below m
+-- the first k rows have a column each, below m, and the rows that columns below m have are those
 pub record Matched (n m k : ℕ) (ro co : ℕ → ℕ) : Type 0 where
   pub back : (r : ℕ) → r < k → co r < m
   pub back-row : (r : ℕ) → r < k → ro (co r) ≡ r
   pub forth : (j : ℕ) → j < m → ro j < n → ro j < k
   pub forth-col : (j : ℕ) → j < m → ro j < n → co (ro j) ≡ j
 
+-- prices that no cell undercuts, tight where a row has its column, and no discount at a free column
 pub record Priced (n m k : ℕ) (c : ℕ → ℕ → ℕ) (ro co u w : ℕ → ℕ) : Type 0 where
   pub under : (r j : ℕ) → r < k → j < m → u r ≤ c r j + w j
   pub tight : (r : ℕ) → r < k → co r < m → u r ≡ c r (co r) + w (co r)
   pub unused : (j : ℕ) → j < m → n ≤ ro j → w j ≡ 0
 
+-- the alternating tree over t turns: each of its columns but the stand was reached by a tight cell of an earlier one's row; each column outside
+-- has the least slack of the tree's rows
 pub record Tree (n m t : ℕ) (c : ℕ → ℕ → ℕ) (ro u w se sl fr : ℕ → ℕ) : Type 0 where
   pub root : se m ≡ 1
   pub owned : (j : ℕ) → j ≤ m → 0 < se j → ro j < n
@@ -335,17 +338,25 @@ start-tree n m k c ro u w se sl fr kn rm sm sx fm sj = record {
     is-m : (x : ℕ) → x ≤ m → 0 < se x → x ≡ m
     is-m x lx p = ⊎-elim (λ e. e) (λ ne. absurd (let a = sx x (omega arith) in omega arith)) (same? x m)
 
--- ---- along the tree from a free column to the stand: each row moves to the hole
+-- ---- along an alternating path from a free column to the stand: each row moves to the hole before it
 
-pub record Path (n m : ℕ) (c : ℕ → ℕ → ℕ) (ro0 u w se fr : ℕ → ℕ) : Type 0 where
+-- In the equality graph what a column holds, the row r or nothing, may go to column y: the row is tight there, or the column needs no row.
+pub record May (n : ℕ) (c : ℕ → ℕ → ℕ) (u w : ℕ → ℕ) (r y : ℕ) : Type 0 where
+  pub row : r < n → u r ≡ c r y + w y
+  pub none : n ≤ r → w y ≡ 0
+
+-- the columns seen form a tree in the equality graph, over the rows ro0, whose root is the stand; no row before lo is in it
+pub record Path (n m lo : ℕ) (c : ℕ → ℕ → ℕ) (ro0 u w se fr : ℕ → ℕ) : Type 0 where
   pub p-root : se m ≡ 1
+  pub p-stand : ro0 m < n
   pub p-from : (j : ℕ) → j < m → 0 < se j → fr j ≤ m
   pub p-seen : (j : ℕ) → j < m → 0 < se j → 0 < se (fr j)
   pub p-earlier : (j : ℕ) → j < m → 0 < se j → se (fr j) < se j
-  pub p-owned : (j : ℕ) → j < m → 0 < se j → ro0 (fr j) < n
-  pub p-tight : (j : ℕ) → j < m → 0 < se j → u (ro0 (fr j)) ≡ c (ro0 (fr j)) j + w j
+  pub p-later : (j : ℕ) → j < m → 0 < se j → lo ≤ ro0 (fr j)
+  pub p-may : (j : ℕ) → j < m → 0 < se j → May n c u w (ro0 (fr j)) j
 
-pub record Walk (n m k hole : ℕ) (c : ℕ → ℕ → ℕ) (ro0 u w se ro co : ℕ → ℕ) : Type 0 where
+-- the rows behind the hole have moved: all is matched and tight but for the hole
+pub record Walk (n m k lo hole : ℕ) (c : ℕ → ℕ → ℕ) (ro0 co0 u w se fr ro co : ℕ → ℕ) : Type 0 where
   pub matched : Matched n (suc m) k ro co
   pub at : hole ≤ m
   pub seen : 0 < se hole
@@ -354,15 +365,42 @@ pub record Walk (n m k hole : ℕ) (c : ℕ → ℕ → ℕ) (ro0 u w se ro co :
   pub tight : (r : ℕ) → r < k → co r < m → u r ≡ c r (co r) + w (co r)
   pub unused : (j : ℕ) → j < m → (j ≡ hole → ⊥) → n ≤ ro j → w j ≡ 0
   pub old : (x : ℕ) → x ≤ m → se x < se hole → ro x ≡ ro0 x
+  pub fixed : (s : ℕ) → s < lo → s < k → co s ≡ co0 s
+  -- the stand's row is at a column that was seen from the stand
+  pub landed : hole ≡ m → (co (ro0 m) < m) × (0 < se (co (ro0 m))) × (fr (co (ro0 m)) ≡ m)
 
-pub walk-step : {n m k j0 : ℕ} {c : ℕ → ℕ → ℕ} {ro0 u w se fr ro co : ℕ → ℕ} (ro′ co′ : ℕ → ℕ)
-    → Path n m c ro0 u w se fr → Walk n m k j0 c ro0 u w se ro co → k ≤ n → j0 < m
+-- where two columns are free before and after, the matching is as it was
+stay : {n m k : ℕ} {ro co : ℕ → ℕ} (h : Matched n m k ro co) (j0 j1 : ℕ) (ro′ co′ : ℕ → ℕ) → k ≤ n
+    → n ≤ ro j0 → n ≤ ro j1 → n ≤ ro′ j0 → n ≤ ro′ j1
+    → ((x : ℕ) → x < m → (x ≡ j0 → ⊥) → (x ≡ j1 → ⊥) → ro′ x ≡ ro x) → ((s : ℕ) → s < k → co′ s ≡ co s) → Matched n m k ro′ co′
+stay {n} {m} {k} {ro} {co} h j0 j1 ro′ co′ kn f0 f1 g0 g1 rx cx = record {
+  back = λ s ls. omega (arith, cx s ls, h .back s ls);
+  back-row = λ s ls. ap ro′ (cx s ls)
+      ∙ rx (co s) (h .back s ls) (λ e. let a : ro (co s) ≡ ro j0 = ap ro e in omega (arith, h .back-row s ls))
+      (λ e. let a : ro (co s) ≡ ro j1 = ap ro e in omega (arith, h .back-row s ls)) ∙ h .back-row s ls;
+  forth = λ x lx lr. let a = same x lx lr in omega (arith, h .forth x lx (omega arith));
+  forth-col = λ x lx lr.
+      let a : ro′ x ≡ ro x = same x lx lr in
+      let l : ro x < n = omega arith in
+      ap co′ a ∙ cx (ro x) (h .forth x lx l) ∙ h .forth-col x lx l;
+}
+  where
+    same : (x : ℕ) → x < m → ro′ x < n → ro′ x ≡ ro x
+    same x lx lr = rx x lx (λ e. let a : ro′ x ≡ ro′ j0 = ap ro′ e in omega arith) (λ e. let a : ro′ x ≡ ro′ j1 = ap ro′ e in omega arith)
+
+-- what the column fr j0 holds goes to the hole j0
+pub walk-step : {n m k lo j0 : ℕ} {c : ℕ → ℕ → ℕ} {ro0 co0 u w se fr ro co : ℕ → ℕ} (ro′ co′ : ℕ → ℕ)
+    → Path n m lo c ro0 u w se fr → Walk n m k lo j0 c ro0 co0 u w se fr ro co → k ≤ n → j0 < m
     → n ≤ ro′ (fr j0) → ro′ j0 ≡ ro (fr j0) → ((x : ℕ) → x ≤ m → (x ≡ j0 → ⊥) → (x ≡ fr j0 → ⊥) → ro′ x ≡ ro x)
-    → co′ (ro (fr j0)) ≡ j0 → ((s : ℕ) → s < k → (s ≡ ro (fr j0) → ⊥) → co′ s ≡ co s)
-    → Walk n m k (fr j0) c ro0 u w se ro′ co′
-walk-step {n} {m} {k} {j0} {c} {ro0} {u} {w} {se} {fr} {ro} {co} ro′ co′ pa wk kn l0 r1 r0 rx c0 cx = record {
-  matched = move (wk .matched) j0 j1 ro′ co′ kn (omega arith) (wk .free) (omega (arith, a1)) own r1 r0
-      (λ x lx n0 n1. rx x (omega arith) n0 n1) c0 cx;
+    → (ro (fr j0) < n → co′ (ro (fr j0)) ≡ j0) → ((s : ℕ) → s < k → (s ≡ ro (fr j0) → ⊥) → co′ s ≡ co s)
+    → Walk n m k lo (fr j0) c ro0 co0 u w se fr ro′ co′
+walk-step {n} {m} {k} {lo} {j0} {c} {ro0} {co0} {u} {w} {se} {fr} {ro} {co} ro′ co′ pa wk kn l0 r1 r0 rx c0 cx = record {
+  matched = ⊎-elim
+      (λ own. move (wk .matched) j0 j1 ro′ co′ kn (omega arith) (wk .free) (omega (arith, a1)) own r1 r0
+      (λ x lx n0 n1. rx x (omega arith) n0 n1) (c0 own) cx)
+      (λ none. stay (wk .matched) j0 j1 ro′ co′ kn (wk .free) none (omega arith) r1
+      (λ x lx n0 n1. rx x (omega arith) n0 n1) (λ s ls. cx s ls (λ e. omega arith)))
+      (less? (ro (fr j0)) n);
   at = a1;
   seen = pa .p-seen j0 l0 (wk .seen);
   free = r1;
@@ -371,6 +409,11 @@ walk-step {n} {m} {k} {j0} {c} {ro0} {u} {w} {se} {fr} {ro} {co} ro′ co′ pa 
   unused = us;
   old = λ x lx lt. rx x lx (λ e. let a : se x ≡ se j0 = ap se e in omega (arith, e1)) (λ e. let a : se x ≡ se j1 = ap se e in omega arith)
       ∙ wk .old x lx (omega (arith, e1));
+  fixed = λ s ls lk. cx s lk (λ e. omega (arith, o1, pa .p-later j0 l0 (wk .seen))) ∙ wk .fixed s ls lk;
+  landed = λ e.
+      let a : ro (fr j0) ≡ ro0 m = o1 ∙ ap ro0 e in
+      let b : co′ (ro0 m) ≡ j0 = ap co′ (sym a) ∙ c0 (omega (arith, pa .p-stand)) in
+      (omega arith, rw b (wk .seen), rw b e);
 }
   where
     j1 : ℕ
@@ -385,28 +428,28 @@ walk-step {n} {m} {k} {j0} {c} {ro0} {u} {w} {se} {fr} {ro} {co} ro′ co′ pa 
     o1 : ro (fr j0) ≡ ro0 (fr j0)
     o1 = wk .old (fr j0) a1 e1
 
-    own : ro (fr j0) < n
-    own = rw o1 (pa .p-owned j0 l0 (wk .seen))
-
     ti : (r : ℕ) → r < k → co′ r < m → u r ≡ c r (co′ r) + w (co′ r)
     ti r lr lc = ⊎-elim
-        (λ e.
-        let a : co′ r ≡ j0 = ap co′ e ∙ c0 in
+        (λ (e : r ≡ ro (fr j0)).
+        let a : co′ r ≡ j0 = ap co′ e ∙ c0 (omega arith) in
         let b : r ≡ ro0 (fr j0) = e ∙ o1 in
-        rw (a, b) (pa .p-tight j0 l0 (wk .seen)))
+        rw (a, b) (pa .p-may j0 l0 (wk .seen) .row (omega arith)))
         (λ ne.
         let a : co′ r ≡ co r = cx r lr ne in
         rw a (wk .tight r lr (omega arith)))
         (same? r (ro (fr j0)))
 
     us : (j : ℕ) → j < m → (j ≡ fr j0 → ⊥) → n ≤ ro′ j → w j ≡ 0
-    us j lj n1 fj =
-        let n0 : j ≡ j0 → ⊥ = λ e. let a : ro′ j ≡ ro′ j0 = ap ro′ e in omega (arith, own) in
-        wk .unused j lj n0 (let a = rx j (omega arith) n0 n1 in omega arith)
+    us j lj n1 fj = ⊎-elim
+        (λ (e : j ≡ j0).
+        let a : ro′ j ≡ ro′ j0 = ap ro′ e in
+        ap w e ∙ pa .p-may j0 l0 (wk .seen) .none (omega (arith, o1)))
+        (λ n0. wk .unused j lj n0 (let a = rx j (omega arith) n0 n1 in omega arith))
+        (same? j j0)
 
--- the hole has come to the stand: one row more has a column
-pub walk-matched : {n m k : ℕ} {c : ℕ → ℕ → ℕ} {ro0 u w se ro co : ℕ → ℕ} → Walk n m k m c ro0 u w se ro co → k ≤ n → Matched n m k ro co
-walk-matched {n} {m} {k} {c} {ro0} {u} {w} {se} {ro} {co} wk kn = record {
+-- the hole has come to the stand: every row has a column
+pub walk-matched : {n m k lo : ℕ} {c : ℕ → ℕ → ℕ} {ro0 co0 u w se fr ro co : ℕ → ℕ} → Walk n m k lo m c ro0 co0 u w se fr ro co → k ≤ n → Matched n m k ro co
+walk-matched {n} {m} {k} {lo} {c} {ro0} {co0} {u} {w} {se} {fr} {ro} {co} wk kn = record {
   back = λ r lr. ⊎-elim
       (λ e. absurd (let a : ro (co r) ≡ ro m = ap ro e in omega (arith, h .back-row r lr, wk .free)))
       (λ ne. omega (arith, h .back r lr))
@@ -419,10 +462,10 @@ walk-matched {n} {m} {k} {c} {ro0} {u} {w} {se} {ro} {co} wk kn = record {
     h : Matched n (suc m) k ro co
     h = wk .matched
 
-pub walk-priced : {n m k : ℕ} {c : ℕ → ℕ → ℕ} {ro0 u w se ro co : ℕ → ℕ} → Walk n m k m c ro0 u w se ro co → Priced n m k c ro co u w
+pub walk-priced : {n m k lo : ℕ} {c : ℕ → ℕ → ℕ} {ro0 co0 u w se fr ro co : ℕ → ℕ} → Walk n m k lo m c ro0 co0 u w se fr ro co → Priced n m k c ro co u w
 walk-priced wk = record { under = wk .under; tight = wk .tight; unused = λ j lj fj. wk .unused j lj (λ e. omega arith) fj }
 
--- a free column of slack 0 is where the way begins
+-- a free column of slack 0 is where the path begins
 module _ {n m t k : ℕ} {c : ℕ → ℕ → ℕ} {ro co u w se sl fr : ℕ → ℕ} (j1 : ℕ) (se′ : ℕ → ℕ)
     (tr : Tree n m t c ro u w se sl fr) (l1 : j1 < m) (out1 : se j1 ≡ 0) (zero1 : sl j1 ≡ 0) (free1 : n ≤ ro j1)
     (s1 : se′ j1 ≡ suc t) (sx : (x : ℕ) → x ≤ m → (x ≡ j1 → ⊥) → se′ x ≡ se x)
@@ -430,23 +473,30 @@ module _ {n m t k : ℕ} {c : ℕ → ℕ → ℕ} {ro co u w se sl fr : ℕ →
   from-old : (j : ℕ) → j < m → se′ (fr j) ≡ se (fr j)
   from-old j lj = sx (fr j) (tr .from j lj) (λ e. let a : se (fr j) ≡ se j1 = ap se e in omega (arith, tr .from-seen j lj))
 
-  pub way : Path n m c ro u w se′ fr
+  tight-here : (j : ℕ) → j < m → 0 < se′ j → u (ro (fr j)) ≡ c (ro (fr j)) j + w j
+  tight-here j lj p = ⊎-elim
+      (λ e. let a : sl j ≡ sl j1 = ap sl e in omega (arith, tr .link j lj))
+      (λ ne. omega (arith, tr .link j lj, tr .seen-zero j lj (let a = sx j (omega arith) ne in omega arith)))
+      (same? j j1)
+
+  pub way : Path n m 0 c ro u w se′ fr
   way = record {
     p-root = sx m (omega arith) (λ e. omega arith) ∙ tr .root;
+    p-stand = tr .owned m (omega arith) (let r = tr .root in omega arith);
     p-from = λ j lj p. tr .from j lj;
     p-seen = λ j lj p. omega (arith, from-old j lj, tr .from-seen j lj);
     p-earlier = λ j lj p. ⊎-elim
         (λ e. let a : se′ j ≡ se′ j1 = ap se′ e in omega (arith, from-old j lj, tr .turn (fr j) (tr .from j lj)))
         (λ ne. omega (arith, from-old j lj, sx j (omega arith) ne, tr .earlier j lj (let a = sx j (omega arith) ne in omega arith)))
         (same? j j1);
-    p-owned = λ j lj p. tr .owned (fr j) (tr .from j lj) (tr .from-seen j lj);
-    p-tight = λ j lj p. ⊎-elim
-        (λ e. let a : sl j ≡ sl j1 = ap sl e in omega (arith, tr .link j lj))
-        (λ ne. omega (arith, tr .link j lj, tr .seen-zero j lj (let a = sx j (omega arith) ne in omega arith)))
-        (same? j j1);
+    p-later = λ j lj p. omega arith;
+    p-may = λ j lj p. record {
+      row = λ l. tight-here j lj p;
+      none = λ l. absurd (let o = tr .owned (fr j) (tr .from j lj) (tr .from-seen j lj) in omega arith);
+    };
   }
 
-  pub walk-start : Walk n m k j1 c ro u w se′ ro co
+  pub walk-start : Walk n m k 0 j1 c ro co u w se′ fr ro co
   walk-start = record {
     matched = h;
     at = omega arith;
@@ -456,6 +506,8 @@ module _ {n m t k : ℕ} {c : ℕ → ℕ → ℕ} {ro co u w se sl fr : ℕ →
     tight = g .tight;
     unused = λ j lj ne fj. g .unused j lj fj;
     old = λ x lx lt. refl;
+    fixed = λ s ls lk. refl;
+    landed = λ e. absurd (omega arith);
   }
 
 -- some row has no column while a column is free, and the other way round

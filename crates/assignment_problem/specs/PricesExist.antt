@@ -23,23 +23,23 @@ module _ (n m : ℕ) (c : ℕ → ℕ → ℕ) (B : ℕ) (nm : n ≤ m) (cells :
     pub low : (r : ℕ) → r < k → u r ≤ B
 
   -- along the way
-  walk-all : (k : ℕ) → k ≤ n → (ro0 u w se fr : ℕ → ℕ) → Path n m c ro0 u w se fr → ((r : ℕ) → r < k → u r ≤ B)
-      → (fuel : ℕ) (hole : ℕ) (ro co : ℕ → ℕ) → se hole ≤ fuel → Walk n m k hole c ro0 u w se ro co → Placed k
-  walk-all k kn ro0 u w se fr pa lo zero hole ro co le wk = absurd (omega (arith, wk .seen))
-  walk-all k kn ro0 u w se fr pa lo (suc fuel) hole ro co le wk = ⊎-elim
+  walk-all : (k : ℕ) → k ≤ n → (ro0 co0 u w se fr : ℕ → ℕ) → Path n m 0 c ro0 u w se fr → ((r : ℕ) → r < k → u r ≤ B)
+      → (fuel : ℕ) (hole : ℕ) (ro co : ℕ → ℕ) → se hole ≤ fuel → Walk n m k 0 hole c ro0 co0 u w se fr ro co → Placed k
+  walk-all k kn ro0 co0 u w se fr pa lo zero hole ro co le wk = absurd (omega (arith, wk .seen))
+  walk-all k kn ro0 co0 u w se fr pa lo (suc fuel) hole ro co le wk = ⊎-elim
       (λ (e : hole ≡ m).
-      let wm : Walk n m k m c ro0 u w se ro co = rw e at wk in
+      let wm : Walk n m k 0 m c ro0 co0 u w se fr ro co = rw e at wk in
       record { ro = ro; co = co; u = u; w = w; matched = walk-matched wm kn; priced = walk-priced wm; low = lo })
       (λ ne.
       let lh : hole < m = omega (arith, wk .at) in
       let lt : se (fr hole) < se hole = pa .p-earlier hole lh (wk .seen) in
       let far : hole ≡ fr hole → ⊥ = λ e. let a : se hole ≡ se (fr hole) = ap se e in omega arith in
-      walk-all k kn ro0 u w se fr pa lo fuel (fr hole) (upd (upd ro hole (ro (fr hole))) (fr hole) n) (upd co (ro (fr hole)) hole) (omega arith)
+      walk-all k kn ro0 co0 u w se fr pa lo fuel (fr hole) (upd (upd ro hole (ro (fr hole))) (fr hole) n) (upd co (ro (fr hole)) hole) (omega arith)
       (walk-step (upd (upd ro hole (ro (fr hole))) (fr hole) n) (upd co (ro (fr hole)) hole) pa wk kn lh
       (let e = upd-same (upd ro hole (ro (fr hole))) (fr hole) n (fr hole) refl in omega arith)
       (upd-other (upd ro hole (ro (fr hole))) (fr hole) n hole far ∙ upd-same ro hole (ro (fr hole)) hole refl)
       (λ x lx n0 n1. upd-other (upd ro hole (ro (fr hole))) (fr hole) n x n1 ∙ upd-other ro hole (ro (fr hole)) x n0)
-      (upd-same co (ro (fr hole)) hole (ro (fr hole)) refl)
+      (λ l. upd-same co (ro (fr hole)) hole (ro (fr hole)) refl)
       (λ s ls ns. upd-other co (ro (fr hole)) hole s ns)))
       (same? hole m)
 
@@ -110,7 +110,7 @@ module _ (n m : ℕ) (c : ℕ → ℕ → ℕ) (B : ℕ) (nm : n ≤ m) (cells :
           le)
           (λ fj.
           let se′ : ℕ → ℕ = upd se j (suc t) in
-          walk-all (suc k) kn ro u w se′ fr
+          walk-all (suc k) kn ro co u w se′ fr
           (way j se′ tr lj oj zj fj (upd-same se j (suc t) j refl) (λ x lx nx. upd-other se j (suc t) x nx) h g)
           (λ r lr. omega (arith, g .under r f lr lf, cells r f (omega arith) lf, g .unused f lf ff))
           (suc t) j ro co (let e = upd-same se j (suc t) j refl in omega arith)

@@ -1,6 +1,6 @@
 -- Lists by index: a table of f 0 .. f (n - 1), rows of such tables, and the indices that pass a test. A buffer that was filled from its front is
 -- a table followed by what it held past it: tab f n ++ drop n entry. Assumes nothing.
-use mathlib.Core.Path.{_≡_, refl, sym, ap, ap₂, _∙_}
+use mathlib.Core.Path.{_≡_, refl, sym, ap, ap₂, _∙_, subst}
 use mathlib.Core.Bool.{Bool, true, false, cond}
 use mathlib.Core.List.{List, [], _∷_, _++_, append-assoc, append-nil}
 use mathlib.Core.Logic.{⊎-elim}
@@ -151,6 +151,26 @@ module _ {A : Type 0} where
       ∙ getD-append-add (tabs f w n) (tab (f n) w ++ r) k d ∙ getD-tab (f n) w k r d l))
       (λ ne. getD-tabs f w n i k (tab (f n) w ++ r) d (omega arith) l)
       (same? i n)
+
+module _ {A : Type 0} where
+  -- what holds of every f i k holds of every cell
+  pub tabs-every : (P : A → Type 0) (f : ℕ → ℕ → A) (w n : ℕ) (d : A) → ((i : ℕ) → i < n → (k : ℕ) → k < w → P (f i k))
+      → (k : ℕ) → k < n * w → P (getD (tabs f w n) k d)
+  unfolding tabs
+  tabs-every P f w zero d h k l = absurd (omega arith)
+  tabs-every P f w (suc n) d h k l =
+      let size : length (tabs f w n) ≡ n * w = length-tabs f w n in
+      ⊎-elim
+      (λ (lt : k < n * w).
+      subst P (sym (List·getD-append (tabs f w n) (tab (f n) w) d k (omega arith))) (tabs-every P f w n d (λ i li. h i (omega arith)) k lt))
+      (λ (ge : n * w ≤ k).
+      let j : k - n * w < w = omega (arith, suc-mul n w) in
+      let e : length (tabs f w n) + (k - n * w) ≡ k = omega arith in
+      subst P
+      (sym (ap (λ (x : ℕ). getD (tabs f w n ++ tab (f n) w) x d) (sym e) ∙ getD-append-add (tabs f w n) (tab (f n) w) (k - n * w) d
+      ∙ getD-tab₀ (f n) w (k - n * w) d j))
+      (h n (omega arith) (k - n * w) j))
+      (less? k (n * w))
 
 -- ---- the indices that pass, in a list
 

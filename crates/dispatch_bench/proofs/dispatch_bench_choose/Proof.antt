@@ -1,0 +1,48 @@
+-- dispatch_bench::dispatch_bench_choose meets its contract.
+use borrow.Author.Needs.{needs}
+use Rattle.dispatch_bench.proofs.dispatch_bench_choose.Statement.{statement}
+use Rattle.dispatch_bench.proofs.dispatch_bench_choose.Tie as tie
+use Rattle.dispatch_bench.proofs.dispatch_bench_choose.Reads as reads
+use Rattle.dispatch_bench.proofs.dispatch_bench_choose.Lts as lts
+use Rattle.matcher.proofs.assign.Reads as assign-reads
+use mathlib.Core.Path.{_≡_, sym, ap, _∙_}
+use Rattle.matcher.specs.Promise.{numberOf, totalOr}
+
+assign-requires : tie.Need-assign-requires
+assign-requires c κs = search needs
+
+enum-known-least : tie.Need-enum-known-least
+enum-known-least c = search needs
+
+enum-told : tie.Need-enum-told
+enum-told c = search needs
+
+same-length : tie.Need-same-length
+same-length c = search needs
+
+returns : tie.Need-returns
+returns c =
+    let a = c .before .before .before .before .before .assign .ensures in
+    let e = sym (c .before .least .given .1) ∙ a .0 in
+    (ap numberOf e, (a .1, ap (totalOr (c .before .before .before .before .before .before .before .before .before .args .total .now)) e))
+
+same-length-2 : tie.Need-same-length-2
+same-length-2 c = search needs
+
+returns-2 : tie.Need-returns-2
+returns-2 c =
+    let a = c .before .before .before .before .assign .ensures in
+    let e = sym (c .enum-told .given .1) ∙ a .0 in
+    (ap numberOf e, (a .1, ap (totalOr (c .before .before .before .before .before .before .before .before .args .total .now)) e))
+
+pub dispatch-bench-choose-spec : {M : Type 1} → statement M
+dispatch-bench-choose-spec =
+    tie.close
+    (tie.spec
+    assign-requires
+    enum-known-least
+    enum-told
+    same-length
+    returns
+    same-length-2
+    returns-2)

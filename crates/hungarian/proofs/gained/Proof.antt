@@ -1,0 +1,23 @@
+-- hungarian::gained meets its contract.
+use borrow.Author.Needs.{needs}
+use native.Mathlib.Omega.{arith}
+use Rattle.hungarian.proofs.gained.Statement.{statement}
+use Rattle.hungarian.proofs.gained.Tie as tie
+use Rattle.hungarian.proofs.gained.Reads as reads
+use Rattle.hungarian.proofs.gained.Lts as lts
+use Prim.Native.Nat.{ℕ, _+_, _-_, _*_, _≤_, _<_}
+use mathlib.Core.Path.{_≡_, refl, sym, ap, _∙_}
+use lib.ListN.{length, length-set, set}
+use Rattle.hungarian.specs.Lists.{at, big, gain-in, gain-out}
+
+returns : tie.Need-returns
+returns c = sym (gain-out (c .before .args .s) (c .before .args .d) (c .before .args .k) (c .if1 .taken))
+
+sub-result : tie.Need-sub-result
+sub-result c = omega (arith, c .before .pre (omega (arith, c .if1 .left)))
+
+returns-2 : tie.Need-returns-2
+returns-2 c = sym (gain-in (c .before .args .s) (c .before .args .d) (c .before .args .k) (omega (arith, c .if1 .left)))
+
+pub gained-spec : {M : Type 1} → statement M
+gained-spec = tie.close (tie.spec returns sub-result returns-2)

@@ -1,0 +1,3 @@
+-- The matcher's promise.
+pub mod Promise
+pub mod Fits

@@ -1,0 +1,23 @@
+-- matcher_answers::product meets its contract.
+use borrow.Author.Needs.{needs}
+use native.Mathlib.Nat.{mul-le-mul}
+use native.Mathlib.Omega.{arith}
+use Rattle.matcher_answers.proofs.product.Statement.{statement}
+use Rattle.matcher_answers.proofs.product.Tie as tie
+use Rattle.matcher_answers.proofs.product.Reads as reads
+use Rattle.matcher_answers.proofs.product.Lts as lts
+
+mul-result : tie.Need-mul-result
+mul-result c = let g = c .before .before .args in omega (arith, mul-le-mul {n₁ = g .a} {m₁ = g .b} {n₂ = 65536} {m₂ = 65536} (omega arith) (omega arith))
+
+returns : tie.Need-returns
+returns c = search needs
+
+returns-2 : tie.Need-returns-2
+returns-2 c = search needs
+
+returns-3 : tie.Need-returns-3
+returns-3 c = search needs
+
+pub product-spec : {M : Type 1} → statement M
+product-spec = tie.close (tie.spec mul-result returns returns-2 returns-3)
