@@ -5,7 +5,6 @@ ghost use Rattle.layout.specs.Offsets.{Small, none, endOf};
 ghost use Rattle.layout.specs.Records.{from, sheetOf, limitOf};
 ghost use Rattle.layout.specs.Refusals.{pastEnd, isUnknown};
 ghost use Rattle.layout.specs.Verdict.{bodyRefusal, recordRefusal, tailVerdict, recordsVerdict, verdict};
-
 use components::Aboard;
 use components::Car;
 use components::Demand;
@@ -68,7 +67,11 @@ fn record_refusal(s: &[u8], c: Counts) -> u32
     let kind = Kind::of_code(code);
     let short = past_end(s, at + 22 + len as u32);
     let wrong = len != layout::body_length(kind);
-    let late = pick(c.out_of_order(code), 6, pick(c.is_full(kind), 7, body_refusal(s, c, kind)));
+    let late = pick(
+        c.out_of_order(code),
+        6,
+        pick(c.is_full(kind), 7, body_refusal(s, c, kind)),
+    );
     pick(short, 2, pick(is_unknown(kind), 4, pick(wrong, 5, late)))
 }
 

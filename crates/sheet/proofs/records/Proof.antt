@@ -42,10 +42,11 @@ loop-again c =
     ∙ ap (next (l .c))
     (c .before .of-code .ensures
     ∙ ap kindOf (c .before .before .field .ensures .is ∙ ap (λ (x : ℕ). fieldAt s (x + 0) 6) (d .end-of .ensures))) in
-    rw k
-    (next-small (l .c) (kindOf (kindAt s (l .c))) (l .inv .0) (clean s (l .c) f .has-room) (omega arith),
-    omega (arith, next-demands (l .c) (kindOf (kindAt s (l .c)))),
-    l .inv .2 ∙ verdict-on s (l .left) (l .c) (d .before .before .loop-test .taken) f)
+    rw k (
+      next-small (l .c) (kindOf (kindAt s (l .c))) (l .inv .0) (clean s (l .c) f .has-room) (omega arith),
+      omega (arith, next-demands (l .c) (kindOf (kindAt s (l .c)))),
+      l .inv .2 ∙ verdict-on s (l .left) (l .c) (d .before .before .loop-test .taken) f,
+    )
 
 returns-2 : tie.Need-returns-2 Inv-loop μ-loop
 returns-2 c = c .tail .ensures ∙ sym (c .before .before .loop .inv .2 ∙ verdict-end _ _ _ (c .before .loop-test .left))

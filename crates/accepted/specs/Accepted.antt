@@ -1,0 +1,720 @@
+-- The verdict "accepted" makes a sound sheet. Assumes nothing.
+use Prim.Native.Nat.{ℕ, zero, suc, _+_, _-_, _*_, _/_, _%_, _≤_, _<_}
+use mathlib.Core.Path.{_≡_, refl, sym, ap, _∙_, subst}
+use mathlib.Core.Bool.{Bool, true, false, not, _&&_, _||_, cond, true≢false}
+use mathlib.Core.List.{List}
+use mathlib.Core.Logic.{_⊎_, inl, inr, ⊎-elim, _≢_}
+use native.Mathlib.Numerals.{add-one}
+use native.Mathlib.Omega.{arith}
+use lib.Dec.{eqb, ltb, leb}
+use lib.Ieee.{Float}
+use lib.ListN.{length}
+use borrow.Author.Tests.{eq-eqb, ne-eqb, eqb-true, eqb-false, ltb-true, ltb-false, leb-false, not-true, not-false}
+use Rattle.fp.specs.Ranges.{isPosition, isSpeed, isMass, isThreshold, isTickRate}
+use Rattle.mask.specs.Mask.{pastStops}
+use Rattle.laws.specs.Bools.{which, never, either, either-right, neither-left, neither-right, both-left, both-right, not-both, same?, less?}
+use Rattle.laws.specs.Folds.{any, any-some, any-at, any-none, count, count-above, nth, nth-is}
+use Rattle.bits.specs.Field.{fieldAt}
+use Rattle.laws.specs.Counts.{pigeons}
+use Rattle.components.specs.declared.Kind.{Kind}
+use Rattle.components.specs.declared.Kind.the-variants.{Policy, Stop, Line, Car, Aboard, Waiting, Demand, Unknown}
+use Rattle.components.specs.declared.Phase.{Phase}
+use Rattle.components.specs.declared.Phase.the-variants.{Idle, MovingToStop, Repositioning, DoorOpening, Loading, DoorClosing, Stopped}
+use Rattle.components.specs.declared.Phase.the-variants as phases
+use Rattle.components.specs.declared.Threshold.the-variants.{Absent, At}
+use Rattle.components.specs.Codes.{kindOf, phaseOf}
+use Rattle.components.specs.Cars.{isMoving, movingTarget}
+use Rattle.layout.specs.declared.Counts.{Counts}
+use Rattle.layout.specs.declared.Reading.{Reading}
+use Rattle.layout.specs.declared.Reading.the-variants.{Refused, Accepted}
+use Rattle.layout.specs.Offsets.{isFull, none, next, endOf, lastKind, stopsFrom, linesFrom, carsFrom, aboardsFrom, waitsFrom, demandsFrom, Small}
+use Rattle.layout.specs.Records.{Fields, from, flag, double, policyOf, stopOf, lineOf, carOf, aboardOf, waitingOf, demandOf, sheetOf, limitOf}
+use Rattle.layout.specs.Refusals.{kindAt, refusal6, isUnknown, seen, hasStop, hasLine, hasCar, hasDemand, lastStop, presentZero, unusedWeights, loadWeighed, unusedStop, phaseAt, refusal8Policy, refusal11Policy, refusal12, refusal15, refusal9Stop, refusal11Stop, refusal9Line, refusal10Line, refusal8Car, refusal9Car, refusal10Car, refusal11Car, refusal13, refusal8Aboard, refusal9Aboard, refusal10Aboard, refusal8Waiting, refusal9Waiting, refusal10Waiting, refusal11Waiting, refusal14, refusal9Demand, refusal10Demand}
+use Rattle.layout.specs.Verdict.{policyRefusal, stopRefusal, lineRefusal, carRefusal, aboardRefusal, waitingRefusal, demandRefusal, bodyRefusal, recordRefusal, tailFits, tailVerdict, recordsVerdict, verdict}
+use Rattle.layout.specs.VerdictLaws.{pick-none, Clean, clean}
+use Rattle.accepted.specs.Sound.{Found, Distinct, isThresholdOr, SoundPolicy, SoundStop, SoundLine, SoundCar, SoundWaiting, SoundSheet, Sound}
+
+-- ---- the records that were read
+
+abbrev pub counts : ℕ → ℕ → ℕ → ℕ → ℕ → ℕ → ℕ → Counts
+counts p s l k a w d = record { policies = p; stops = s; lines = l; cars = k; aboards = a; waits = w; demands = d }
+
+-- of the record of kind k after those counted, no condition from 7 on holds
+pub record Read (s : List ℕ) (c : Counts) (k : Kind) : Type 0 where
+  pub has-room : isFull c k ≡ false
+  pub body : bodyRefusal s c k (from s (endOf c)) ≡ 0
+
+-- each record with the counts before it: those of its kind that stand before, and all of the lower kinds
+pub record Records (s : List ℕ) (c : Counts) : Type 0 where
+  pub policies : (i : ℕ) → i < c .policies → Read s (counts i 0 0 0 0 0 0) Policy
+  pub stops : (i : ℕ) → i < c .stops → Read s (counts (c .policies) i 0 0 0 0 0) Stop
+  pub lines : (i : ℕ) → i < c .lines → Read s (counts (c .policies) (c .stops) i 0 0 0 0) Line
+  pub cars : (i : ℕ) → i < c .cars → Read s (counts (c .policies) (c .stops) (c .lines) i 0 0 0) Car
+  pub aboards : (i : ℕ) → i < c .aboards → Read s (counts (c .policies) (c .stops) (c .lines) (c .cars) i 0 0) Aboard
+  pub waits : (i : ℕ) → i < c .waits → Read s (counts (c .policies) (c .stops) (c .lines) (c .cars) (c .aboards) i 0) Waiting
+  pub demands : (i : ℕ) → i < c .demands → Read s (counts (c .policies) (c .stops) (c .lines) (c .cars) (c .aboards) (c .waits) i) Demand
+
+-- ---- one record more
+
+-- a code that is given a kind is that kind's
+by-code : {A : Type 0} (P : A → Type 0) (n m : ℕ) (k rest : A) → (n ≡ m → P k) → P rest → P (cond (eqb n m) k rest)
+by-code P n m k rest here there =
+    ⊎-elim (λ (e : eqb n m ≡ true). rw e (here (eqb-true n m e))) (λ (e : eqb n m ≡ false). rw e there) (which (eqb n m))
+
+pub by-kind : (P : Kind → Type 0) (n : ℕ) → (n ≡ 1 → P Policy) → (n ≡ 2 → P Stop) → (n ≡ 3 → P Line) → (n ≡ 4 → P Car) → (n ≡ 5 → P Aboard)
+    → (n ≡ 6 → P Waiting) → (n ≡ 7 → P Demand) → P Unknown → P (kindOf n)
+unfolding kindOf
+by-kind P n p s l k a w d u =
+    by-code P n 1 Policy _ p
+    (by-code P n 2 Stop _ s
+    (by-code P n 3 Line _ l
+    (by-code P n 4 Car _ k
+    (by-code P n 5 Aboard _ a
+    (by-code P n 6 Waiting _ w
+    (by-code P n 7 Demand _ d u))))))
+
+-- the kind of the last record bounds which kinds there are
+peel : (x v rest m : ℕ) → cond (ltb 0 x) v rest ≤ m → m < v → (x ≡ 0) × (rest ≤ m)
+peel x v rest m h l =
+    ⊎-elim
+    (λ (e : ltb 0 x ≡ true). absurd (let g : v ≤ m = subst (λ b. cond b v rest ≤ m) e h in omega arith))
+    (λ (e : ltb 0 x ≡ false). (let z = ltb-false 0 x e in omega arith, subst (λ b. cond b v rest ≤ m) e h))
+    (which (ltb 0 x))
+
+record Last (c : Counts) (m : ℕ) : Type 0 where
+  pub stops : m < 2 → c .stops ≡ 0
+  pub lines : m < 3 → c .lines ≡ 0
+  pub cars : m < 4 → c .cars ≡ 0
+  pub aboards : m < 5 → c .aboards ≡ 0
+  pub waits : m < 6 → c .waits ≡ 0
+  pub demands : m < 7 → c .demands ≡ 0
+
+last : (c : Counts) (m : ℕ) → lastKind c ≤ m → Last c m
+unfolding lastKind
+last c m h =
+    let d : m < 7 → _ = λ l. peel (c .demands) 7 _ m h l in
+    let w : m < 6 → _ = λ l. peel (c .waits) 6 _ m (d (omega arith) .1) l in
+    let a : m < 5 → _ = λ l. peel (c .aboards) 5 _ m (w (omega arith) .1) l in
+    let k : m < 4 → _ = λ l. peel (c .cars) 4 _ m (a (omega arith) .1) l in
+    let n : m < 3 → _ = λ l. peel (c .lines) 3 _ m (k (omega arith) .1) l in
+    let s : m < 2 → _ = λ l. peel (c .stops) 2 _ m (n (omega arith) .1) l in
+    record {
+      stops = λ l. s l .0;
+      lines = λ l. n l .0;
+      cars = λ l. k l .0;
+      aboards = λ l. a l .0;
+      waits = λ l. w l .0;
+      demands = λ l. d l .0;
+    }
+
+grown : {P : ℕ → Type 0} {n : ℕ} → ((i : ℕ) → i < n → P i) → P n → (i : ℕ) → i < n + 1 → P i
+grown {P} {n} h e i l = ⊎-elim (λ (q : i ≡ n). subst P (sym q) e) (λ q. h i (omega arith)) (same? i n)
+
+above-zero : (n : ℕ) → eqb n 0 ≡ false → 0 < n
+above-zero n e = let h = eqb-false n 0 e in ⊎-elim (λ (l : 0 < n). l) (λ (l : n ≤ 0). absurd (h (omega arith))) (less? 0 n)
+
+gone : {n i : ℕ} → n ≡ 0 → i < n → ⊥
+gone e l = absurd (omega arith)
+
+same-counts : {p s l k a w d p′ s′ l′ k′ a′ w′ d′ : ℕ} → p ≡ p′ → s ≡ s′ → l ≡ l′ → k ≡ k′ → a ≡ a′ → w ≡ w′ → d ≡ d′
+    → counts p s l k a w d ≡ counts p′ s′ l′ k′ a′ w′ d′
+same-counts e1 e2 e3 e4 e5 e6 e7 = cc
+
+module _ (s : List ℕ) (c : Counts) (m : ℕ) (h : Records s c) (e : Last c m) where
+  with-policy : m ≡ 1 → Read s c Policy → Records s (next c Policy)
+  with-policy q r =
+      let a = leb-false 1 (c .policies) (r .has-room) in
+      let s0 = e .stops (omega arith) in
+      let l0 = e .lines (omega arith) in
+      let k0 = e .cars (omega arith) in
+      let a0 = e .aboards (omega arith) in
+      let w0 = e .waits (omega arith) in
+      let d0 = e .demands (omega arith) in
+      record {
+        policies = grown (h .policies) (subst (λ x. Read s x Policy) (same-counts refl s0 l0 k0 a0 w0 d0) r);
+        stops = λ i l. absurd (gone s0 l);
+        lines = λ i l. absurd (gone l0 l);
+        cars = λ i l. absurd (gone k0 l);
+        aboards = λ i l. absurd (gone a0 l);
+        waits = λ i l. absurd (gone w0 l);
+        demands = λ i l. absurd (gone d0 l);
+      }
+
+  with-stop : m ≡ 2 → Read s c Stop → Records s (next c Stop)
+  with-stop q r =
+      let l0 = e .lines (omega arith) in
+      let k0 = e .cars (omega arith) in
+      let a0 = e .aboards (omega arith) in
+      let w0 = e .waits (omega arith) in
+      let d0 = e .demands (omega arith) in
+      record {
+        policies = h .policies;
+        stops = grown (h .stops) (subst (λ x. Read s x Stop) (same-counts refl refl l0 k0 a0 w0 d0) r);
+        lines = λ i l. absurd (gone l0 l);
+        cars = λ i l. absurd (gone k0 l);
+        aboards = λ i l. absurd (gone a0 l);
+        waits = λ i l. absurd (gone w0 l);
+        demands = λ i l. absurd (gone d0 l);
+      }
+
+  with-line : m ≡ 3 → Read s c Line → Records s (next c Line)
+  with-line q r =
+      let k0 = e .cars (omega arith) in
+      let a0 = e .aboards (omega arith) in
+      let w0 = e .waits (omega arith) in
+      let d0 = e .demands (omega arith) in
+      record {
+        policies = h .policies;
+        stops = h .stops;
+        lines = grown (h .lines) (subst (λ x. Read s x Line) (same-counts refl refl refl k0 a0 w0 d0) r);
+        cars = λ i l. absurd (gone k0 l);
+        aboards = λ i l. absurd (gone a0 l);
+        waits = λ i l. absurd (gone w0 l);
+        demands = λ i l. absurd (gone d0 l);
+      }
+
+  with-car : m ≡ 4 → Read s c Car → Records s (next c Car)
+  with-car q r =
+      let a0 = e .aboards (omega arith) in
+      let w0 = e .waits (omega arith) in
+      let d0 = e .demands (omega arith) in
+      record {
+        policies = h .policies;
+        stops = h .stops;
+        lines = h .lines;
+        cars = grown (h .cars) (subst (λ x. Read s x Car) (same-counts refl refl refl refl a0 w0 d0) r);
+        aboards = λ i l. absurd (gone a0 l);
+        waits = λ i l. absurd (gone w0 l);
+        demands = λ i l. absurd (gone d0 l);
+      }
+
+  with-aboard : m ≡ 5 → Read s c Aboard → Records s (next c Aboard)
+  with-aboard q r =
+      let w0 = e .waits (omega arith) in
+      let d0 = e .demands (omega arith) in
+      record {
+        policies = h .policies;
+        stops = h .stops;
+        lines = h .lines;
+        cars = h .cars;
+        aboards = grown (h .aboards) (subst (λ x. Read s x Aboard) (same-counts refl refl refl refl refl w0 d0) r);
+        waits = λ i l. absurd (gone w0 l);
+        demands = λ i l. absurd (gone d0 l);
+      }
+
+  with-waiting : m ≡ 6 → Read s c Waiting → Records s (next c Waiting)
+  with-waiting q r =
+      let d0 = e .demands (omega arith) in
+      record {
+        policies = h .policies;
+        stops = h .stops;
+        lines = h .lines;
+        cars = h .cars;
+        aboards = h .aboards;
+        waits = grown (h .waits) (subst (λ x. Read s x Waiting) (same-counts refl refl refl refl refl refl d0) r);
+        demands = λ i l. absurd (gone d0 l);
+      }
+
+  with-demand : Read s c Demand → Records s (next c Demand)
+  with-demand r =
+      record {
+        policies = h .policies;
+        stops = h .stops;
+        lines = h .lines;
+        cars = h .cars;
+        aboards = h .aboards;
+        waits = h .waits;
+        demands = grown (h .demands) r;
+      }
+
+one-more : (s : List ℕ) (c : Counts) → Records s c → Clean s c → Records s (next c (kindOf (kindAt s c)))
+unfolding refusal6
+one-more s c h r =
+    let m = kindAt s c in
+    let e = last c m (ltb-false m (lastKind c) (neither-left (ltb m (lastKind c)) _ (r .in-order))) in
+    by-kind (λ k. Read s c k → Records s (next c k)) m
+    (λ q. with-policy s c m h e q) (λ q. with-stop s c m h e q) (λ q. with-line s c m h e q) (λ q. with-car s c m h e q)
+    (λ q. with-aboard s c m h e q) (λ q. with-waiting s c m h e q) (λ q. with-demand s c m h e) (λ _. h)
+    (record { has-room = r .has-room; body = r .body })
+
+-- the first record is a policy
+with-first : (s : List ℕ) (c : Counts) → Clean s c → 0 < next c (kindOf (kindAt s c)) .policies
+unfolding refusal6
+with-first s c r =
+    let m = kindAt s c in
+    let z = neither-right (ltb m (lastKind c)) (eqb (c .policies) 0 && not (eqb m 1)) (r .in-order) in
+    let other : m ≢ 1 → 0 < c .policies = λ ne.
+    ⊎-elim
+    (λ (t : eqb (c .policies) 0 ≡ true). absurd (not-both (rw (t, ne-eqb m 1 ne)) z))
+    (λ (t : eqb (c .policies) 0 ≡ false). above-zero (c .policies) t)
+    (which (eqb (c .policies) 0)) in
+    by-kind (λ k. isUnknown k ≡ false → 0 < next c k .policies) m
+    (λ q _. omega arith)
+    (λ q _. other (λ x. absurd (omega arith)))
+    (λ q _. other (λ x. absurd (omega arith)))
+    (λ q _. other (λ x. absurd (omega arith)))
+    (λ q _. other (λ x. absurd (omega arith)))
+    (λ q _. other (λ x. absurd (omega arith)))
+    (λ q _. other (λ x. absurd (omega arith)))
+    (λ u. never (sym u))
+    (r .known)
+
+-- ---- all records
+
+pub record Whole (s : List ℕ) (c : Counts) : Type 0 where
+  pub records : Records s c
+  pub first : 0 < c .policies
+  pub tail : tailFits s c ≡ true
+
+accepts : Reading → Bool
+accepts (Refused n o) = false
+accepts (Accepted c) = true
+
+refused≢accepted : {n o : ℕ} {c : Counts} → Refused n o ≡ Accepted c → ⊥
+unfolding accepts
+refused≢accepted e = true≢false (sym (ap accepts e))
+
+accepted-inj : {c d : Counts} → Accepted c ≡ Accepted d → c ≡ d
+accepted-inj e = cc
+
+at-tail : (s : List ℕ) (c d : Counts) → Records s c → 0 < c .policies → tailVerdict s c ≡ Accepted d → Whole s d
+unfolding tailVerdict
+at-tail s c d h f e =
+    ⊎-elim
+    (λ (t : tailFits s c ≡ true).
+    subst (Whole s) (accepted-inj (sym (ap (λ b. cond b (Accepted c) (Refused 16 (endOf c))) t) ∙ e)) (record { records = h; first = f; tail = t }))
+    (λ (t : tailFits s c ≡ false).
+    absurd (refused≢accepted (sym (ap (λ b. cond b (Accepted c) (Refused 16 (endOf c))) t) ∙ e)))
+    (which (tailFits s c))
+
+-- no record was refused
+pub on : (s : List ℕ) (n : ℕ) (c d : Counts) → recordsVerdict s (suc n) c ≡ Accepted d
+    → Clean s c × (recordsVerdict s n (next c (kindOf (kindAt s c))) ≡ Accepted d)
+unfolding recordsVerdict
+on s n c d e =
+    let r : Bool → Reading = λ b. cond b (recordsVerdict s n (next c (kindOf (kindAt s c)))) (Refused (recordRefusal s c) (endOf c)) in
+    ⊎-elim
+    (λ (t : eqb (recordRefusal s c) 0 ≡ true). (clean s c (eqb-true (recordRefusal s c) 0 t), sym (ap r t) ∙ e))
+    (λ (t : eqb (recordRefusal s c) 0 ≡ false). absurd (refused≢accepted (sym (ap r t) ∙ e)))
+    (which (eqb (recordRefusal s c) 0))
+
+from-here : (s : List ℕ) (n : ℕ) (c d : Counts) → Records s c → (0 < c .policies) ⊎ (0 < n) → recordsVerdict s n c ≡ Accepted d → Whole s d
+unfolding recordsVerdict
+from-here s zero c d h f e = at-tail s c d h (⊎-elim (λ x. x) (λ x. absurd (omega arith)) f) e
+from-here s (suc n) c d h f e =
+    let (r, v) = on s n c d e in
+    from-here s n (next c (kindOf (kindAt s c))) d (one-more s c h r) (inl (with-first s c r)) v
+
+pub record Headed (s : List ℕ) (c : Counts) : Type 0 where
+  pub three : 3 ≤ length s
+  pub some : 0 < fieldAt s 8 16
+  pub rest : recordsVerdict s (fieldAt s 8 16) none ≡ Accepted c
+
+choice : {A : Type 0} (b : Bool) (x y z : A) → cond b x y ≡ z → (x ≡ z → ⊥) → (b ≡ false) × (y ≡ z)
+choice true x y z e h = absurd (h e)
+choice false x y z e h = (refl, e)
+
+pub headed : (s : List ℕ) (c : Counts) → verdict s ≡ Accepted c → Headed s c
+unfolding verdict
+headed s c e =
+    let a = choice (ltb (length s) 3) _ _ (Accepted c) e refused≢accepted in
+    let b = choice (not (eqb (fieldAt s 0 8) 1)) _ _ (Accepted c) (a .1) refused≢accepted in
+    let d = choice (eqb (fieldAt s 8 16) 0) _ _ (Accepted c) (b .1) refused≢accepted in
+    record {
+      three = ltb-false (length s) 3 (a .0);
+      some = above-zero (fieldAt s 8 16) (d .0);
+      rest = d .1;
+    }
+
+pub whole : (s : List ℕ) (c : Counts) → verdict s ≡ Accepted c → Whole s c
+whole s c e =
+    let h = headed s c e in
+    from-here s (fieldAt s 8 16) none c
+    (record {
+      policies = λ i l. absurd (omega arith);
+      stops = λ i l. absurd (omega arith);
+      lines = λ i l. absurd (omega arith);
+      cars = λ i l. absurd (omega arith);
+      aboards = λ i l. absurd (omega arith);
+      waits = λ i l. absurd (omega arith);
+      demands = λ i l. absurd (omega arith);
+    })
+    (inr (h .some)) (h .rest)
+
+-- ---- what the conditions leave of each record
+
+module _ (f : Fields) where
+  sound-policy : (s : List ℕ) (c : Counts) → policyRefusal s c f ≡ 0 → SoundPolicy (policyOf f) × (0 < f 24 16)
+  unfolding policyRefusal refusal8Policy refusal11Policy refusal12 refusal15 policyOf
+  sound-policy s c e =
+      let a = pick-none (refusal8Policy f) 8 _ (omega arith) e in
+      let b = pick-none (refusal11Policy f) 11 _ (omega arith) (a .1) in
+      let d = pick-none (refusal12 f) 12 _ (omega arith) (b .1) in
+      let g = pick-none (refusal15 f) 15 0 (omega arith) (d .1) in
+      let r0 = not-false _ (b .0) in
+      let r1 = both-right (isTickRate (double f 40)) _ r0 in
+      let r2 = both-right (isMass (double f 106)) _ r1 in
+      let r3 = both-right (isMass (double f 170)) _ r2 in
+      let r4 = both-right (isMass (double f 234)) _ r3 in
+      let r5 = both-right (isMass (double f 298)) _ r4 in (
+        record {
+          strategy = λ q. not-both (ap (λ k. unusedWeights k f) q) (a .0);
+          rate = both-left (isTickRate (double f 40)) _ r0;
+          w0 = both-left (isMass (double f 106)) _ r1;
+          w1 = both-left (isMass (double f 170)) _ r2;
+          w2 = both-left (isMass (double f 234)) _ r3;
+          w3 = both-left (isMass (double f 298)) _ r4;
+          w4 = both-left (isMass (double f 362)) _ r5;
+          w5 = both-right (isMass (double f 362)) _ r5;
+          unloaded = λ q. sym (ap (λ k. loadWeighed k f) q) ∙ g .0;
+        },
+        above-zero (f 24 16) (d .0),
+      )
+
+  record StopFacts (s : List ℕ) (c : Counts) : Type 0 where
+    pub sound : SoundStop (stopOf f)
+    pub above : lastStop s c < f 22 32
+
+  stop-facts : (s : List ℕ) (c : Counts) → stopRefusal s c f ≡ 0 → StopFacts s c
+  unfolding stopRefusal refusal9Stop refusal11Stop stopOf
+  stop-facts s c e =
+      let a = pick-none (refusal9Stop s c f) 9 _ (omega arith) e in
+      let b = pick-none (refusal11Stop f) 11 0 (omega arith) (a .1) in
+      record {
+        sound = record {
+          id = above-zero (f 22 32) (neither-left (eqb (f 22 32) 0) _ (a .0));
+          position = not-false _ (b .0);
+        };
+        above = leb-false (f 22 32) (lastStop s c) (neither-right (eqb (f 22 32) 0) _ (a .0));
+      }
+
+  record LineFacts (s : List ℕ) (c : Counts) : Type 0 where
+    pub id : 0 < f 22 32
+    pub fresh : hasLine s c (f 22 32) ≡ false
+    pub serves : pastStops (f 54 64) (c .stops) ≡ false
+
+  line-facts : (s : List ℕ) (c : Counts) → lineRefusal s c f ≡ 0 → LineFacts s c
+  unfolding lineRefusal refusal9Line refusal10Line
+  line-facts s c e =
+      let a = pick-none (refusal9Line s c f) 9 _ (omega arith) e in
+      let b = pick-none (refusal10Line c f) 10 0 (omega arith) (a .1) in
+      record {
+        id = above-zero (f 22 32) (neither-left (eqb (f 22 32) 0) _ (a .0));
+        fresh = neither-right (eqb (f 22 32) 0) _ (a .0);
+        serves = b .0;
+      }
+
+  record CarFacts (s : List ℕ) (c : Counts) : Type 0 where
+    pub id : 0 < f 22 32
+    pub fresh : hasCar s c (f 22 32) ≡ false
+    pub line : hasLine s c (f 54 32) ≡ true
+    pub phase : unusedStop (phaseAt f) (not (eqb (f 89 32) 0)) ≡ false
+    pub moving : (isMoving (phaseAt f) && eqb (f 89 32) 0) ≡ false
+    pub position : isPosition (double f 159) ≡ true
+    pub speed : isSpeed (double f 223) ≡ true
+    pub capacity : isMass (double f 287) ≡ true
+    pub load : isMass (double f 351) ≡ true
+    pub bypassup : isThreshold (double f 416) ≡ true
+    pub bypassdown : isThreshold (double f 481) ≡ true
+    pub ticks : 2 * f 545 32 + f 577 32 ≤ 4294967295
+    pub restricted : pastStops (f 609 64) (c .stops) ≡ false
+    pub calls : pastStops (f 673 64) (c .stops) ≡ false
+
+  car-facts : (s : List ℕ) (c : Counts) → carRefusal s c f ≡ 0 → CarFacts s c
+  unfolding carRefusal refusal8Car refusal9Car refusal10Car refusal11Car refusal13
+  car-facts s c e =
+      let r8 = pick-none (refusal8Car f) 8 _ (omega arith) e in
+      let r9 = pick-none (refusal9Car s c f) 9 _ (omega arith) (r8 .1) in
+      let r10 = pick-none (refusal10Car s c f) 10 _ (omega arith) (r9 .1) in
+      let r11 = pick-none (refusal11Car f) 11 _ (omega arith) (r10 .1) in
+      let r13 = pick-none (refusal13 f) 13 0 (omega arith) (r11 .1) in
+      let i1 = neither-right (eqb (f 22 32) 0) _ (r9 .0) in
+      let i2 = neither-right (eqb (f 54 32) 0) _ i1 in
+      let i3 = neither-right (isMoving (phaseAt f) && eqb (f 89 32) 0) _ i2 in
+      let m = neither-right (not (hasLine s c (f 54 32))) _ (r10 .0) in
+      let d0 = not-false _ (r11 .0) in
+      let d1 = both-right (isPosition (double f 159)) _ d0 in
+      let d2 = both-right (isSpeed (double f 223)) _ d1 in
+      let d3 = both-right (isMass (double f 287)) _ d2 in
+      let d4 = both-right (isMass (double f 351)) _ d3 in
+      record {
+        id = above-zero (f 22 32) (neither-left (eqb (f 22 32) 0) _ (r9 .0));
+        fresh = neither-right (presentZero f 121) _ i3;
+        line = not-false _ (neither-left (not (hasLine s c (f 54 32))) _ (r10 .0));
+        phase = neither-left (unusedStop (phaseAt f) (not (eqb (f 89 32) 0))) _ (r8 .0);
+        moving = neither-left (isMoving (phaseAt f) && eqb (f 89 32) 0) _ i2;
+        position = both-left (isPosition (double f 159)) _ d0;
+        speed = both-left (isSpeed (double f 223)) _ d1;
+        capacity = both-left (isMass (double f 287)) _ d2;
+        load = both-left (isMass (double f 351)) _ d3;
+        bypassup = both-left (isThreshold (double f 416)) _ d4;
+        bypassdown = both-right (isThreshold (double f 416)) _ d4;
+        ticks = ltb-false 4294967295 (2 * f 545 32 + f 577 32) (r13 .0);
+        restricted = neither-left (pastStops (f 609 64) (c .stops)) _ m;
+        calls = neither-right (pastStops (f 609 64) (c .stops)) _ m;
+      }
+
+  aboard-car : (s : List ℕ) (c : Counts) → aboardRefusal s c f ≡ 0 → hasCar s c (f 22 32) ≡ true
+  unfolding aboardRefusal refusal10Aboard
+  aboard-car s c e =
+      let a = pick-none (refusal8Aboard f) 8 _ (omega arith) e in
+      let b = pick-none (refusal9Aboard f) 9 _ (omega arith) (a .1) in
+      not-false _ (pick-none (refusal10Aboard s c f) 10 0 (omega arith) (b .1) .0)
+
+  record WaitingFacts (s : List ℕ) (c : Counts) : Type 0 where
+    pub stop : hasStop s c (f 22 32) ≡ true
+    pub weight : isMass (double f 120) ≡ true
+    pub wait : f 184 64 ≤ 9007199254740992
+
+  waiting-facts : (s : List ℕ) (c : Counts) → waitingRefusal s c f ≡ 0 → WaitingFacts s c
+  unfolding waitingRefusal refusal10Waiting refusal11Waiting refusal14
+  waiting-facts s c e =
+      let a = pick-none (refusal8Waiting f) 8 _ (omega arith) e in
+      let b = pick-none (refusal9Waiting f) 9 _ (omega arith) (a .1) in
+      let d = pick-none (refusal10Waiting s c f) 10 _ (omega arith) (b .1) in
+      let g = pick-none (refusal11Waiting f) 11 _ (omega arith) (d .1) in
+      let h = pick-none (refusal14 f) 14 0 (omega arith) (g .1) in
+      record { stop = not-false _ (d .0); weight = not-false _ (g .0); wait = ltb-false 9007199254740992 (f 184 64) (h .0) }
+
+  record DemandFacts (s : List ℕ) (c : Counts) : Type 0 where
+    pub fresh : hasDemand s c (f 22 32) ≡ false
+    pub stop : hasStop s c (f 22 32) ≡ true
+
+  demand-facts : (s : List ℕ) (c : Counts) → demandRefusal s c f ≡ 0 → DemandFacts s c
+  unfolding demandRefusal refusal9Demand refusal10Demand
+  demand-facts s c e =
+      let a = pick-none (refusal9Demand s c f) 9 _ (omega arith) e in
+      let b = pick-none (refusal10Demand s c f) 10 0 (omega arith) (a .1) in
+      record { fresh = neither-right (eqb (f 22 32) 0) _ (a .0); stop = not-false _ (b .0) }
+
+-- ---- ids
+
+found : (s : List ℕ) (base len n id : ℕ) → seen s base len n id ≡ true → Found (λ i. fieldAt s (base + len * i + 22) 32) n id
+unfolding seen
+found s base len n id h =
+    let (k, l, q) = any-some (λ i. eqb (fieldAt s (base + len * i + 22) 32) id) n h in (k, l, eqb-true (fieldAt s (base + len * k + 22) 32) id q)
+
+-- ids that were fresh, each of those before it, are distinct
+distinct : (ids : ℕ → ℕ) (n : ℕ) → ((i : ℕ) → i < n → any (λ k. eqb (ids k) (ids i)) i ≡ false) → Distinct ids n
+distinct ids n h a b la lb e =
+    ⊎-elim (λ q. q)
+    (λ ne.
+    ⊎-elim
+    (λ (l : a < b). absurd (eqb-false (ids a) (ids b) (any-none (λ k. eqb (ids k) (ids b)) b (h b lb) a l) e))
+    (λ (l : b ≤ a). absurd (eqb-false (ids b) (ids a) (any-none (λ k. eqb (ids k) (ids a)) a (h a la) b (omega arith)) (sym e)))
+    (less? a b))
+    (same? a b)
+
+-- each above the one before it: rising
+all-rising : (ids : ℕ → ℕ) (n : ℕ) → ((i : ℕ) → suc i < n → ids i < ids (suc i)) → (a b : ℕ) → a < b → b < n → ids a < ids b
+all-rising ids n h a zero l m = absurd (omega arith)
+all-rising ids n h a (suc b) l m =
+    ⊎-elim
+    (λ (e : a ≡ b). subst (λ x. ids x < ids (suc b)) (sym e) (h b m))
+    (λ ne. omega (arith, all-rising ids n h a b (omega arith) (omega arith), h b m))
+    (same? a b)
+
+count-all : (n : ℕ) → count (λ k. true) n ≡ n
+unfolding count
+count-all zero = refl
+count-all (suc n) = omega (arith, count-all n)
+
+-- each has a place of its own among the stops: there are no more of them
+no-more : (ids stops : ℕ → ℕ) (n m : ℕ) → Distinct ids n → ((i : ℕ) → i < n → Found stops m (ids i)) → n ≤ m
+no-more ids stops n m one h =
+    let at : ℕ → ℕ → Bool = λ i j. eqb (stops j) (ids i) in
+    let place : ℕ → ℕ = λ i. nth (at i) m 0 in
+    let is : (i : ℕ) → i < n → (place i < m) × (stops (place i) ≡ ids i) = λ i l.
+    let (k, b, q) = h i l in
+    let r = nth-is (at i) m 0 (omega (arith, count-above (at i) k m b (eq-eqb (stops k) (ids i) q))) in
+    (r .below, eqb-true (stops (place i)) (ids i) (r .passes)) in
+    omega (
+      arith,
+      count-all n,
+      pigeons (λ k. true) place n m (λ a l _. is a l .0)
+          (λ a b la lb _ _ q. one a b la lb (sym (is a la .1) ∙ ap stops q ∙ is b lb .1)),
+    )
+
+up-to : (n m : ℕ) → ((i : ℕ) → i < n → i < m) → n ≤ m
+up-to zero m h = omega arith
+up-to (suc n) m h = h n (omega arith)
+
+threshold-or : (b : Bool) (x : Float) → isThreshold x ≡ true → isThresholdOr (cond b (At x) Absent) ≡ true
+threshold-or true x h = h
+threshold-or false x h = refl
+
+moving-target : (n id : ℕ) → isMoving (phaseOf n id) ≡ true → movingTarget (phaseOf n id) ≡ id
+unfolding phaseOf
+moving-target n id =
+    let P : Phase → Type 0 = λ p. isMoving p ≡ true → movingTarget p ≡ id in
+    by-code P n 0 Idle _ (λ _ h. never h)
+    (by-code P n 1 (MovingToStop id) _ (λ _ h. refl)
+    (by-code P n 2 (Repositioning id) _ (λ _ h. refl)
+    (by-code P n 3 DoorOpening _ (λ _ h. never h)
+    (by-code P n 4 Loading _ (λ _ h. never h)
+    (by-code P n 5 DoorClosing _ (λ _ h. never h)
+    (by-code P n 6 Stopped phases.Unknown (λ _ h. never h) (λ h. never h)))))))
+
+-- ---- the sheet
+
+body-at : {s : List ℕ} {c : Counts} {k : Kind} → Read s c k → (at : ℕ) → endOf c ≡ at → bodyRefusal s c k (from s at) ≡ 0
+body-at {s} {c} {k} r at e = subst (λ x. bodyRefusal s c k (from s x) ≡ 0) e (r .body)
+
+module _ (s : List ℕ) (c : Counts) (h : Records s c) where
+  the-stop : (j : ℕ) → j < c .stops → StopFacts (from s (stopsFrom c + 118 * j)) s (counts (c .policies) j 0 0 0 0 0)
+  the-stop j l =
+      let at = stopsFrom c + 118 * j in stop-facts (from s at) s (counts (c .policies) j 0 0 0 0 0) (body-at (h .stops j l) at (omega arith))
+
+  the-line : (i : ℕ) → i < c .lines → LineFacts (from s (linesFrom c + 118 * i)) s (counts (c .policies) (c .stops) i 0 0 0 0)
+  the-line i l =
+      let at = linesFrom c + 118 * i in
+      line-facts (from s at) s (counts (c .policies) (c .stops) i 0 0 0 0) (body-at (h .lines i l) at (omega arith))
+
+  the-car : (i : ℕ) → i < c .cars → CarFacts (from s (carsFrom c + 737 * i)) s (counts (c .policies) (c .stops) (c .lines) i 0 0 0)
+  the-car i l =
+      let at = carsFrom c + 737 * i in
+      car-facts (from s at) s (counts (c .policies) (c .stops) (c .lines) i 0 0 0) (body-at (h .cars i l) at (omega arith))
+
+  the-aboard : (i : ℕ) → i < c .aboards → hasCar s c (from s (aboardsFrom c + 87 * i) 22 32) ≡ true
+  the-aboard i l =
+      let at = aboardsFrom c + 87 * i in
+      aboard-car (from s at) s (counts (c .policies) (c .stops) (c .lines) (c .cars) i 0 0) (body-at (h .aboards i l) at (omega arith))
+
+  the-waiting : (i : ℕ) → i < c .waits
+      → WaitingFacts (from s (waitsFrom c + 248 * i)) s (counts (c .policies) (c .stops) (c .lines) (c .cars) (c .aboards) i 0)
+  the-waiting i l =
+      let at = waitsFrom c + 248 * i in
+      waiting-facts (from s at) s (counts (c .policies) (c .stops) (c .lines) (c .cars) (c .aboards) i 0) (body-at (h .waits i l) at (omega arith))
+
+  the-demand : (i : ℕ) → i < c .demands
+      → DemandFacts (from s (demandsFrom c + 71 * i)) s (counts (c .policies) (c .stops) (c .lines) (c .cars) (c .aboards) (c .waits) i)
+  the-demand i l =
+      let at = demandsFrom c + 71 * i in
+      demand-facts (from s at) s (counts (c .policies) (c .stops) (c .lines) (c .cars) (c .aboards) (c .waits) i)
+      (body-at (h .demands i l) at (omega arith))
+
+  abbrev stop-ids : ℕ → ℕ
+  stop-ids j = fieldAt s (stopsFrom c + 118 * j + 22) 32
+
+  abbrev line-ids : ℕ → ℕ
+  line-ids i = fieldAt s (linesFrom c + 118 * i + 22) 32
+
+  abbrev car-ids : ℕ → ℕ
+  car-ids i = fieldAt s (carsFrom c + 737 * i + 22) 32
+
+  abbrev demand-ids : ℕ → ℕ
+  demand-ids i = fieldAt s (demandsFrom c + 71 * i + 22) 32
+
+  stops-rise : (i : ℕ) → suc i < c .stops → stop-ids i < stop-ids (suc i)
+  unfolding lastStop
+  stops-rise i l =
+      let f = the-stop (suc i) l .above in
+      let e : suc i - 1 ≡ i = omega arith in
+      let g : eqb (suc i) 0 ≡ false = ne-eqb (suc i) 0 (λ q. absurd (omega arith)) in
+      let z : lastStop s (counts (c .policies) (suc i) 0 0 0 0 0) ≡ stop-ids i = rw (g, e) in
+      omega arith
+
+  distinct-lines : Distinct line-ids (c .lines)
+  unfolding seen
+  distinct-lines = distinct line-ids (c .lines) (λ i l. the-line i l .fresh)
+
+  distinct-cars : Distinct car-ids (c .cars)
+  unfolding seen
+  distinct-cars = distinct car-ids (c .cars) (λ i l. the-car i l .fresh)
+
+  distinct-demands : Distinct demand-ids (c .demands)
+  unfolding seen
+  distinct-demands = distinct demand-ids (c .demands) (λ i l. the-demand i l .fresh)
+
+  demand-found : (i : ℕ) → i < c .demands → Found stop-ids (c .stops) (demand-ids i)
+  demand-found i l = found s (stopsFrom c) 118 (c .stops) (demand-ids i) (the-demand i l .stop)
+
+  few-demands : c .demands ≤ c .stops
+  few-demands = no-more demand-ids stop-ids (c .demands) (c .stops) distinct-demands demand-found
+
+  small : Small c
+  small =
+      record {
+        policies = up-to (c .policies) 1 (λ i l. leb-false 1 i (h .policies i l .has-room));
+        stops = up-to (c .stops) 64 (λ i l. leb-false 64 i (h .stops i l .has-room));
+        lines = up-to (c .lines) 8 (λ i l. leb-false 8 i (h .lines i l .has-room));
+        cars = up-to (c .cars) 32 (λ i l. leb-false 32 i (h .cars i l .has-room));
+        aboards = up-to (c .aboards) 512 (λ i l. leb-false 512 i (h .aboards i l .has-room));
+        waits = up-to (c .waits) 512 (λ i l. leb-false 512 i (h .waits i l .has-room));
+        demands = let few = few-demands in let most = up-to (c .stops) 64 (λ i l. leb-false 64 i (h .stops i l .has-room)) in omega arith;
+      }
+
+  sound-line : (i : ℕ) → i < c .lines → SoundLine (sheetOf s c) (sheetOf s c .line i)
+  unfolding sheetOf lineOf
+  sound-line i l = let f = the-line i l in record { id = f .id; serves = f .serves }
+
+  sound-car : (i : ℕ) → i < c .cars → SoundCar (sheetOf s c) (sheetOf s c .car i)
+  unfolding sheetOf lineOf carOf
+  sound-car i l =
+      let g = from s (carsFrom c + 737 * i) in
+      let f = the-car i l in
+      record {
+        id = f .id;
+        line = found s (linesFrom c) 118 (c .lines) (g 54 32) (f .line);
+        phase = λ q. not-both (ap (λ k. unusedStop k (not (eqb (g 89 32) 0))) q) (f .phase);
+        moving = λ q.
+            above-zero (movingTarget (phaseAt g))
+            (ap (λ x. eqb x 0) (moving-target (g 86 3) (g 89 32) q) ∙ sym (ap (λ b. b && eqb (g 89 32) 0) q) ∙ f .moving);
+        position = f .position;
+        speed = f .speed;
+        capacity = f .capacity;
+        load = f .load;
+        bypassup = threshold-or (flag g 415) (double g 416) (f .bypassup);
+        bypassdown = threshold-or (flag g 480) (double g 481) (f .bypassdown);
+        ticks = let t = f .ticks in omega arith;
+        restricted = f .restricted;
+        calls = f .calls;
+      }
+
+  sound-waiting : (r : ℕ) → r < c .waits → SoundWaiting (sheetOf s c) (sheetOf s c .waiting r)
+  unfolding sheetOf stopOf waitingOf
+  sound-waiting r l =
+      let f = the-waiting r l in
+      record {
+        stop = found s (stopsFrom c) 118 (c .stops) (from s (waitsFrom c + 248 * r) 22 32) (f .stop);
+        weight = f .weight;
+        wait = f .wait;
+      }
+
+  sound-sheet : SoundPolicy (policyOf (from s 24)) → SoundSheet (sheetOf s c)
+  unfolding sheetOf stopOf lineOf carOf aboardOf waitingOf demandOf
+  sound-sheet p =
+      let m = small in
+      record {
+        most-stops = m .stops;
+        most-lines = m .lines;
+        most-cars = m .cars;
+        most-aboards = m .aboards;
+        most-waits = m .waits;
+        most-demands = few-demands;
+        policy = p;
+        stop = λ j l. the-stop j l .sound;
+        rising = all-rising stop-ids (c .stops) stops-rise;
+        line = sound-line;
+        line-ids = distinct-lines;
+        car = sound-car;
+        car-ids = distinct-cars;
+        aboard = λ r l. found s (carsFrom c) 737 (c .cars) (from s (aboardsFrom c + 87 * r) 22 32) (the-aboard r l);
+        waiting = sound-waiting;
+        demand = demand-found;
+        demand-stops = distinct-demands;
+      }
+
+pub accepted : (s : List ℕ) (c : Counts) → verdict s ≡ Accepted c → Sound s c
+unfolding limitOf tailFits
+accepted s c e =
+    let w = whole s c e in
+    let p = sound-policy (from s 24) s (counts 0 0 0 0 0 0 0) (w .records .policies 0 (w .first) .body) in
+    let m = small s c (w .records) in
+    record {
+      small = m;
+      one-policy = let f = w .first in let g = m .policies in omega arith;
+      limit = p .1;
+      whole = eqb-true (length s) ((endOf c + 7) / 8) (both-left _ _ (w .tail));
+      sheet = sound-sheet s c (w .records) (p .0);
+    }

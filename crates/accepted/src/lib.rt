@@ -1,0 +1,1 @@
+// What an accepted sheet says: see specs/. There is no code here.
