@@ -1,0 +1,14 @@
+-- ranking::scan_rank meets its contract.
+use Rattle.ranking.specs.Ranking.{scanBy}
+use borrow.Author.Needs.{needs}
+use Rattle.ranking.proofs.scan_rank.Statement.{statement}
+use Rattle.ranking.proofs.scan_rank.Tie as tie
+
+returns : tie.Need-returns
+unfolding scanBy
+returns c = rw (c .rank .ensures, c .before .pair-is-useful .ensures, c .before .before .has .ensures)
+
+pub scan-rank-spec : {M : Type 1} → statement M
+scan-rank-spec =
+    tie.close
+    (tie.spec (λ c. search needs) (λ c. search needs) (λ c κs. search needs) (λ c κs. search needs) (λ c κs. search needs) returns)

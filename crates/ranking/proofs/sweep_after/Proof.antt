@@ -1,0 +1,37 @@
+-- ranking::sweep_after meets its contract.
+use Rattle.ranking.specs.Ranking.{sweepBy}
+use Rattle.scan.specs.Scan.{preparedBy}
+use Rattle.sweep.specs.declared.Sweep.{Sweep}
+use borrow.Author.Needs.{needs}
+use mathlib.Core.Path.{sym, ap, _∙_}
+use Rattle.ranking.proofs.sweep_after.Statement.{statement}
+use Rattle.ranking.proofs.sweep_after.Tie as tie
+
+returns : tie.Need-returns
+unfolding sweepBy
+returns c = rw (c .enum-told .given .1) (c .before .before .of .ensures)
+
+returns-2 : tie.Need-returns-2
+unfolding sweepBy
+returns-2 c = rw (c .enum-told2 .given .1) (c .before .before .of .ensures)
+
+returns-3 : tie.Need-returns-3
+unfolding sweepBy
+returns-3 c =
+    let a = c .before .before .before .before .before .before .before .args in
+    rw (c .before .before .before .enum-told3 .given .1, c .before .if1 .taken)
+    (c .prepare .ensures ∙ ap (λ (w : Sweep). preparedBy w (a .car .position) (a .demand) (a .xs .now) (a .n)) (c .before .before .before .before .before .of .ensures))
+
+returns-4 : tie.Need-returns-4
+unfolding sweepBy
+returns-4 c = rw (c .before .before .enum-told3 .given .1, c .if1 .left) (c .before .before .before .before .of .ensures)
+
+returns-5 : tie.Need-returns-5
+unfolding sweepBy
+returns-5 c = rw (c .enum-told4 .given .1) (c .before .before .of .ensures)
+
+pub sweep-after-spec : {M : Type 1} → statement M
+sweep-after-spec =
+    tie.close
+    (tie.spec (λ c κs. search needs) (λ c. search needs) (λ c. search needs) (λ c. search needs) (λ c κs. search needs) (λ c. search needs)
+    returns returns-2 returns-3 returns-4 returns-5)

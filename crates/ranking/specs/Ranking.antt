@@ -1,0 +1,44 @@
+-- Ranks and cells over what the code holds. Assumes nothing.
+use Prim.Native.Nat.{ℕ}
+use mathlib.Core.Bool.{Bool, true, false, not, _&&_, cond}
+use mathlib.Core.List.{List}
+use lib.Dec.{eqb}
+use lib.ListN.{getD}
+use lib.Ieee.{Float, nan}
+use Rattle.mask.specs.Mask.{has}
+use Rattle.scale.specs.Scale.{sentinel}
+use Rattle.components.specs.declared.Car.{Car}
+use Rattle.components.specs.declared.Strategy.{Strategy}
+use Rattle.components.specs.declared.Rank.{Rank}
+use Rattle.components.specs.declared.Rank.the-variants.{Never}
+use Rattle.manifest.specs.declared.Waiters.{Waiters}
+use Rattle.sweep.specs.declared.Sweep.{Sweep}
+use Rattle.sweep.specs.Sweeps.{sweepOf}
+use Rattle.scan.specs.Scan.{preparedBy, rankOf}
+use Rattle.dispatch.specs.Pairs.{usefulBy}
+use Rattle.etd.specs.Pairs.{rankBy as etdBy}
+use Rattle.rsr.specs.Pairs.{rankBy as rsrBy}
+use Rattle.assignment.specs.Cells.{byStrategy, rankCell}
+use Rattle.ranking.specs.declared.Row.{Row}
+
+unfoldable pub scanBy : Row → List Float → Waiters → List Float → ℕ → Rank
+scanBy row dests v xs j =
+    rankOf (row .sweep) (usefulBy (row .car) (row .goal) (row .riders) dests v (has (row .riders .exits) j) (getD xs j nan) false) (row .car .position) (getD xs j nan)
+
+unfoldable pub rankBy : Row → List Float → Waiters → List Float → ℕ → ℕ → Rank
+rankBy row dests v xs n j =
+    byStrategy (row .policy .strategy)
+    (etdBy (row .policy) (row .car) (row .goal) (row .riders) dests v (row .demand) xs n j)
+    (rsrBy (row .policy) (row .car) (row .goal) (row .riders) dests v xs j)
+    (scanBy row dests v xs j)
+    Never
+
+unfoldable pub cellBy : Row → List Float → Waiters → List Float → ℕ → ℕ → ℕ
+cellBy row dests v xs n j = cond (has (row .kept) j) (rankCell (rankBy row dests v xs n j)) sentinel
+
+-- a mask of pending stops that is not empty
+unfoldable pub sweepBy : Strategy → Car → ℕ → ℕ → List Float → ℕ → Sweep
+sweepBy strategy car pending demand xs n =
+    byStrategy strategy (sweepOf car) (sweepOf car)
+    (cond (car .listed && not (eqb pending 0)) (preparedBy (sweepOf car) (car .position) demand xs n) (sweepOf car))
+    (sweepOf car)

@@ -1,0 +1,102 @@
+// The rank of a pair by the sheet's strategy, its cell, and a row of cells.
+ghost use mathlib.Core.Path.{_≡_};
+ghost use Prim.Native.Nat.{_<_, _≤_};
+ghost use lib.ListN.{length, getD};
+ghost use Rattle.laws.specs.Tables.{tab};
+ghost use Rattle.assignment.specs.Cells.{rankCell};
+ghost use Rattle.ranking.specs.Ranking.{scanBy, rankBy, cellBy, sweepBy};
+
+use components::Car;
+use components::Place;
+use components::Policy;
+use components::Rank;
+use components::Strategy;
+use manifest::Waiters;
+use riders::Riders;
+use sweep::Sweep;
+
+// What a row's cells share: the policy, the car with its sweep, where it moves to, its riders, the demand stops, and the stops that it is ranked for.
+pub struct Row {
+    pub policy: Policy,
+    pub car: Car,
+    pub sweep: Sweep,
+    pub goal: Place,
+    pub riders: Riders,
+    pub demand: u64,
+    pub kept: u64,
+}
+
+// scan.rs's rank of stop j.
+fn scan_rank<'a>(row: Row, dests: &'a [f64], waiters: Waiters, xs: &'a [f64], j: usize) -> Rank
+    requires { ⌜ (row .riders .count ≤ length (now dests)) × (j < 64) × (j < length (now xs)) ⌝ }
+    ensures { λ r. ⌜ r ≡ scanBy row (now (dests .entry)) waiters (now (xs .entry)) j ⌝ }
+{
+    let car = row.car;
+    let goal = row.goal;
+    let riders = row.riders;
+    let sweep = row.sweep;
+    let p = xs[j];
+    let here = mask::has(riders.exits, j);
+    let useful = dispatch::pair_is_useful(car, goal, riders, dests, waiters, here, p, false);
+    scan::rank(sweep, useful, car.position, p)
+}
+
+// The rank of stop j, by the strategy.
+pub fn rank<'a>(row: Row, dests: &'a [f64], waiters: Waiters, xs: &'a [f64], n: usize, j: usize) -> Rank
+    requires { ⌜ (row .riders .count ≤ length (now dests)) × (n ≤ 64) × (n ≤ length (now xs)) × (j < n) ⌝ }
+    ensures { λ r. ⌜ r ≡ rankBy row (now (dests .entry)) waiters (now (xs .entry)) n j ⌝ }
+{
+    let policy = row.policy;
+    let car = row.car;
+    let goal = row.goal;
+    let riders = row.riders;
+    let strategy = policy.strategy;
+    match strategy {
+        Strategy::Etd => etd::rank(policy, car, goal, riders, dests, waiters, row.demand, xs, n, j),
+        Strategy::Rsr => rsr::rank(policy, car, goal, riders, dests, waiters, xs, j),
+        Strategy::Scan => scan_rank(row, dests, waiters, xs, j),
+        Strategy::Unknown => Rank::Never,
+    }
+}
+
+// The cell of a rank.
+fn rank_cell(rank: Rank) -> u64
+    ensures { λ r. ⌜ r ≡ rankCell rank ⌝ }
+{
+    match rank {
+        Rank::Never => scale::SENTINEL,
+        Rank::Cost(x) => scale::scale_cost(x).cell,
+    }
+}
+
+// The cell of stop j.
+pub fn cell<'a>(row: Row, dests: &'a [f64], waiters: Waiters, xs: &'a [f64], n: usize, j: usize) -> u64
+    requires { ⌜ (row .riders .count ≤ length (now dests)) × (n ≤ 64) × (n ≤ length (now xs)) × (j < n) ⌝ }
+    ensures { λ r. ⌜ r ≡ cellBy row (now (dests .entry)) waiters (now (xs .entry)) n j ⌝ }
+{
+    if mask::has(row.kept, j) {
+        rank_cell(rank(row, dests, waiters, xs, n, j))
+    } else {
+        scale::SENTINEL
+    }
+}
+
+// The car's sweep after the pass: prepare_car under SCAN, for an idle car and with a pending stop.
+pub fn sweep_after(strategy: Strategy, car: Car, pending: u64, demand: u64, xs: &[f64], n: usize) -> Sweep
+    requires { ⌜ (n ≤ 64) × (n ≤ length (now xs)) ⌝ }
+    ensures { λ r. ⌜ r ≡ sweepBy strategy car pending demand (now (xs .entry)) n ⌝ }
+{
+    let sweep = Sweep::of(car);
+    match strategy {
+        Strategy::Etd => sweep,
+        Strategy::Rsr => sweep,
+        Strategy::Scan => {
+            if car.listed & (pending != 0) {
+                scan::prepare(sweep, car.position, demand, xs, n)
+            } else {
+                sweep
+            }
+        }
+        Strategy::Unknown => sweep,
+    }
+}
