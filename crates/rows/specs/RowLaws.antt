@@ -1,0 +1,83 @@
+-- A row of the matrix, from what the code holds. Assumes nothing.
+use Prim.Native.Nat.{ℕ, _+_, _≤_, _<_}
+use mathlib.Core.Path.{_≡_, refl, sym, ap, _∙_}
+use mathlib.Core.Bool.{Bool, true, false, cond}
+use mathlib.Core.List.{List, _++_}
+use mathlib.Core.Logic.{⊎-elim}
+use native.Mathlib.Omega.{arith}
+use lib.ListN.{length, getD, drop, set, length-set}
+use lib.Seq.{getD-set-same, getD-set-other}
+use lib.Ieee.{Float, nan}
+use Rattle.laws.specs.Bools.{same?}
+use Rattle.laws.specs.Folds.{count, count-le, count-yes, count-no}
+use Rattle.laws.specs.Tables.{filtered, filtered-take, filtered-skip}
+use Rattle.mask.specs.Mask.{has}
+use Rattle.scale.specs.Scale.{sentinel}
+use Rattle.manifest.specs.declared.Waiters.{Waiters}
+use Rattle.ranking.specs.declared.Row.{Row}
+use Rattle.ranking.specs.Ranking.{cellBy}
+
+-- past the last stop there is nobody
+abbrev pub nobody : Waiters
+nobody = record { someone = false; call = false; waitsum = nan; squares = nan; up = nan; down = nan; level = nan }
+
+-- the cell of column k, whose stop is listed
+unfoldable pub rowCell : Row → List Float → List Waiters → List Float → ℕ → List ℕ → ℕ → ℕ
+rowCell row dests waiters xs n stops k = cellBy row dests (getD waiters (getD stops k 0) nobody) xs n (getD stops k 0)
+
+-- ---- the stops of a mask, listed
+
+pub record Listed (mask : ℕ) (entry : List ℕ) (m : ℕ) (exit : List ℕ) : Type 0 where
+  pub counted : m ≡ count (has mask) 64
+  pub held : exit ≡ filtered (has mask) 64 ++ drop m entry
+
+-- a listing that has come to stop j
+pub record Listing (mask : ℕ) (entry : List ℕ) (j m : ℕ) (now : List ℕ) : Type 0 where
+  pub below : j ≤ 64
+  pub size : length now ≡ length entry
+  pub counted : m ≡ count (has mask) j
+  pub held : now ≡ filtered (has mask) j ++ drop m entry
+
+pub listing-take : (mask j m : ℕ) (entry now : List ℕ) → Listing mask entry j m now → j < 64 → length entry ≡ 64 → has mask j ≡ true → Listing mask entry (j + 1) (m + 1) (set now m j)
+listing-take mask j m entry now l lj e t =
+    let few = count-le (has mask) j in
+    record {
+      below = omega arith;
+      size = simp length-set (l .size);
+      counted = count-yes (has mask) j t (l .counted);
+      held = filtered-take (has mask) j m entry now t (l .counted) (omega (arith, l .counted)) (l .held);
+    }
+
+pub listing-skip : (mask j m : ℕ) (entry now : List ℕ) → Listing mask entry j m now → j < 64 → has mask j ≡ false → Listing mask entry (j + 1) m now
+listing-skip mask j m entry now l lj t =
+    record { below = omega arith; size = l .size; counted = count-no (has mask) j t (l .counted); held = filtered-skip (has mask) j m entry now t (l .held) }
+
+-- ---- spare cells
+
+pub record Spared (m : ℕ) (entry exit : List ℕ) : Type 0 where
+  pub size : length exit ≡ length entry
+  pub before : (k : ℕ) → k < m → getD exit k 0 ≡ getD entry k 0
+  pub spare : (k : ℕ) → m ≤ k → k < length entry → getD exit k 0 ≡ sentinel
+
+-- a filling that has come to column k
+pub record Sparing (m : ℕ) (entry : List ℕ) (k : ℕ) (now : List ℕ) : Type 0 where
+  pub from : m ≤ k
+  pub below : k ≤ length entry
+  pub size : length now ≡ length entry
+  pub kept : (j : ℕ) → j < m → getD now j 0 ≡ getD entry j 0
+  pub spare : (j : ℕ) → m ≤ j → j < k → getD now j 0 ≡ sentinel
+
+pub sparing-next : (m k : ℕ) (entry now : List ℕ) → Sparing m entry k now → k < length entry → Sparing m entry (k + 1) (set now k sentinel)
+sparing-next m k entry now h l =
+    let room : k < length now = omega (arith, h .size) in
+    record {
+      from = omega (arith, h .from);
+      below = omega arith;
+      size = simp length-set (h .size);
+      kept = λ j lj. getD-set-other now k j sentinel 0 (λ e. absurd (omega (arith, h .from))) ∙ h .kept j lj;
+      spare = λ j a b.
+          ⊎-elim
+          (λ (e : j ≡ k). rw e (getD-set-same now k sentinel 0 room))
+          (λ ne. getD-set-other now k j sentinel 0 ne ∙ h .spare j a (omega arith))
+          (same? j k);
+    }

@@ -1,0 +1,88 @@
+// Rows of the matrix.
+ghost use mathlib.Core.Path.{_≡_};
+ghost use Prim.Native.Nat.{_<_, _≤_};
+ghost use lib.ListN.{length, getD};
+ghost use Rattle.layout.specs.Offsets.{Small};
+ghost use Rattle.layout.specs.Records.{sheetOf};
+ghost use Rattle.manifest.specs.Stops.{HoldsStops};
+ghost use Rattle.assignment.specs.Pending.{pending};
+ghost use Rattle.assignment.specs.Demand3.{Rising};
+ghost use Rattle.pending.specs.Masks.{stopMask};
+ghost use Rattle.rows.specs.KeptLaws.{keptOf};
+
+ghost use mathlib.Core.Bool.{true};
+ghost use mathlib.Core.List.{_++_};
+ghost use Prim.Native.Nat.{ℕ};
+ghost use lib.ListN.{drop};
+ghost use Rattle.laws.specs.Folds.{count};
+ghost use Rattle.laws.specs.Tables.{tab, filtered};
+ghost use Rattle.mask.specs.Mask.{has};
+ghost use Rattle.scale.specs.Scale.{sentinel};
+ghost use Rattle.manifest.specs.Holds.{HoldsAboard};
+ghost use Rattle.manifest.specs.Stops.{HoldsDemand, DistinctStops};
+ghost use Rattle.dispatch.specs.RidersLaws.{HoldsRiders};
+ghost use Rattle.ranking.specs.Ranking.{cellBy};
+ghost use Rattle.ranking.specs.RankingLaws.{HoldsRow};
+ghost use Rattle.rows.specs.RowLaws.{Listed, rowCell, Spared};
+
+use components::Car;
+use components::Policy;
+use layout::Counts;
+use manifest::Waiters;
+use ranking::Row;
+
+// The stops that a car is ranked for.
+pub fn kept_by<'a>(s: &'a [u8], c: Counts, car: Car, stops: u64, ids: &'a [u32], xs: &'a [f64], limit: u32) -> u64
+    requires { ⌜ Small c × (length (now xs) ≡ 64) × HoldsStops (sheetOf (now s) c) (now ids) (now xs) (c .stops) × Rising (sheetOf (now s) c) ⌝ }
+    requires { ⌜ stops ≡ stopMask (sheetOf (now s) c) (pending (sheetOf (now s) c)) ⌝ }
+    ensures { λ r. ⌜ r ≡ stopMask (sheetOf (now (s .entry)) c) (keptOf (sheetOf (now (s .entry)) c) car limit) ⌝ }
+{
+    let mut ds = [0.0f64; 64];
+    candidates::fill_distances(xs, car.position, &mut ds);
+    let serves = pending::line_stops(s, c, false, car.line);
+    let viable = candidates::viable_stops(stops, car.restricted, serves);
+    candidates::kept_stops(viable, &ds, limit)
+}
+
+// The stops of a mask in order, and how many they are.
+pub fn list_stops(mask: u64, stops: &mut [usize]) -> usize
+    requires { ⌜ length (now stops) ≡ 64 ⌝ }
+    ensures { λ r. ⌜ Listed mask (now (stops .entry)) r (now (stops .exit)) ⌝ }
+{
+    let mut m: usize = 0;
+    let mut j: usize = 0;
+    while j < 64 {
+        if mask::has(mask, j) {
+            stops[m] = j;
+            m += 1;
+        }
+        j += 1;
+    }
+    m
+}
+
+// The cells of the first m columns, whose stops are listed.
+fn fill_row<'a>(row: Row, dests: &'a [f64], waiters: [Waiters; 64], xs: &'a [f64], n: usize, stops: &'a [usize], m: usize, out: &mut [u64])
+    requires { ⌜ (row .riders .count ≤ length (now dests)) × (n ≤ 64) × (n ≤ length (now xs)) × (m ≤ length (now stops)) × (m ≤ length (now out)) × ((k : ℕ) → k < m → getD (now stops) k 0 < n) ⌝ }
+    ensures { λ _. ⌜ (length (now (out .exit)) ≡ length (now (out .entry))) × (now (out .exit) ≡ tab (rowCell row (now (dests .entry)) waiters (now (xs .entry)) n (now (stops .entry))) m ++ drop m (now (out .entry))) ⌝ }
+{
+    let mut k: usize = 0;
+    while k < m {
+        let j = stops[k];
+        let v = waiters[j];
+        out[k] = ranking::cell(row, dests, v, xs, n, j);
+        k += 1;
+    }
+}
+
+// The spare cells, from column m on.
+fn fill_spare(out: &mut [u64], m: usize)
+    requires { ⌜ m ≤ length (now out) ⌝ }
+    ensures { λ _. ⌜ Spared m (now (out .entry)) (now (out .exit)) ⌝ }
+{
+    let mut k = m;
+    while k < out.len() {
+        out[k] = scale::SENTINEL;
+        k += 1;
+    }
+}
