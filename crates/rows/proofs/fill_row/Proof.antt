@@ -1,85 +1,51 @@
+-- rows::fill_row meets its contract.
+use Prim.Native.Nat.{ℕ, _≤_, _-_}
+use Rattle.laws.specs.Tables.{tab, tab-next}
+use Rattle.rows.specs.RowLaws.{rowCell}
 use borrow.Author.Needs.{needs}
+use lib.ListN.{length, drop, length-set}
+use mathlib.Core.List.{List, _++_}
+use mathlib.Core.Path.{_≡_, refl, ap, _∙_}
 use native.Mathlib.Omega.{arith}
 use Rattle.rows.proofs.fill_row.Statement.{statement}
 use Rattle.rows.proofs.fill_row.Tie as tie
-use Rattle.rows.proofs.fill_row.Reads as reads
-use Rattle.rows.proofs.fill_row.Lts as lts
-use Rattle.ranking.proofs.cell.Reads as cell-reads
 
 abbrev Inv-loop : tie.InvT-loop
-Inv-loop row dests xs n stops m out₀ waiters k₀ out k = ?
+Inv-loop row dests xs n stops m out₀ waiters k₀ out k = (k ≤ m) × (length out ≡ length out₀) × (out ≡ tab (rowCell row dests waiters xs n stops) k ++ drop k out₀)
 
 abbrev μ-loop : tie.MeasureT-loop
-μ-loop row dests xs n stops m out₀ waiters k₀ out k = ?
+μ-loop row dests xs n stops m out₀ waiters k₀ out k = m - k
 
--- src/lib.rt:70:5
 loop-holds : tie.Need-loop-holds Inv-loop μ-loop
-loop-holds c = ?
+unfolding tab
+loop-holds c = (omega arith, refl, refl)
 
--- src/lib.rt:71:17
-mul-j : tie.Need-mul-j Inv-loop μ-loop
-mul-j c = search needs
-
--- src/lib.rt:71:17
-shared-slice-read-j : tie.Need-shared-slice-read-j Inv-loop μ-loop
-shared-slice-read-j c = search needs
-
--- src/lib.rt:72:17
 mul-v : tie.Need-mul-v Inv-loop μ-loop
-mul-v c = search needs
+mul-v c = let p = c .before .before .before .before .before .before .before .pre in omega (arith, p .5 (c .before .before .loop .k) (c .before .loop-test .taken))
 
--- src/lib.rt:72:17
 array-copy-out-v : tie.Need-array-copy-out-v Inv-loop μ-loop
-array-copy-out-v c = search needs
+array-copy-out-v c = let p = c .before .before .before .before .before .before .before .pre in omega (arith, p .5 (c .before .before .loop .k) (c .before .loop-test .taken))
 
--- src/lib.rt:73:18
 cell-requires : tie.Need-cell-requires Inv-loop μ-loop
-cell-requires c κs = search needs
+cell-requires c κs = let p = c .before .before .before .before .before .before .before .before .pre in (p .0, p .1, p .2, p .5 (c .before .before .before .loop .k) (c .before .before .loop-test .taken))
 
--- src/lib.rt:73:9
-mul-out : tie.Need-mul-out Inv-loop μ-loop
-mul-out c = search needs
-
--- src/lib.rt:73:9
-slice-write-out : tie.Need-slice-write-out Inv-loop μ-loop
-slice-write-out c = search needs
-
--- src/lib.rt:74:9
-add-k : tie.Need-add-k Inv-loop μ-loop
-add-k c = search needs
-
--- src/lib.rt:70:5
-loop-less : tie.Need-loop-less Inv-loop μ-loop
-loop-less c = ?
-
--- src/lib.rt:70:5
 loop-again : tie.Need-loop-again Inv-loop μ-loop
-loop-again c = ?
+unfolding rowCell
+loop-again c =
+    let l = c .before .before .before .before .loop in
+    let a = c .before .before .before .before .before .before .before .before .before .args in
+    (omega arith, simp length-set (l .inv .1),
+    tab-next (rowCell (a .row) (a .dests .now) (a .t3) (a .xs .now) (a .n) (a .stops .now)) (a .out .now) (l .out) (l .k) (c .cell .result) (omega arith) (l .inv .2) (c .cell .ensures))
 
--- src/lib.rt:65:1
-same-length : tie.Need-same-length Inv-loop μ-loop
-same-length c = search needs
-
--- src/lib.rt:65:1
 returns : tie.Need-returns Inv-loop μ-loop
-returns c = ?
+returns c =
+    let l = c .before .loop in
+    let a = c .before .before .before .before .before .before .args in
+    let e : l .k ≡ a .m = omega arith in
+    (l .inv .1, l .inv .2 ∙ ap (λ (n : ℕ). tab (rowCell (a .row) (a .dests .now) (a .t3) (a .xs .now) (a .n) (a .stops .now)) n ++ drop n (a .out .now)) e)
 
 pub fill-row-spec : {M : Type 1} → statement M
 fill-row-spec =
     tie.close
-    (tie.spec
-    Inv-loop
-    μ-loop
-    loop-holds
-    mul-j
-    shared-slice-read-j
-    mul-v
-    array-copy-out-v
-    cell-requires
-    mul-out
-    slice-write-out
-    add-k
-    loop-less
-    loop-again
-    same-length
-    returns)
+    (tie.spec Inv-loop μ-loop loop-holds (λ c. search needs) (λ c. search needs) mul-v array-copy-out-v cell-requires (λ c. search needs)
+    (λ c. search needs) (λ c. search needs) (λ c. search needs) loop-again (λ c. search needs) returns)

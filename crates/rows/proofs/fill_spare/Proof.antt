@@ -1,59 +1,46 @@
+-- rows::fill_spare meets its contract.
+use Prim.Native.Nat.{ℕ, _-_}
+use Rattle.rows.specs.RowLaws.{Sparing, sparing-next}
 use borrow.Author.Needs.{needs}
+use lib.ListN.{length}
+use mathlib.Core.Path.{_≡_, refl}
 use native.Mathlib.Omega.{arith}
 use Rattle.rows.proofs.fill_spare.Statement.{statement}
 use Rattle.rows.proofs.fill_spare.Tie as tie
-use Rattle.rows.proofs.fill_spare.Reads as reads
-use Rattle.rows.proofs.fill_spare.Lts as lts
 
 abbrev Inv-loop : tie.InvT-loop
-Inv-loop out₀ m k₀ out k = ?
+Inv-loop out₀ m k₀ out k = Sparing m out₀ k out
 
 abbrev μ-loop : tie.MeasureT-loop
-μ-loop out₀ m k₀ out k = ?
+μ-loop out₀ m k₀ out k = length out₀ - k
 
--- src/lib.rt:84:5
 loop-holds : tie.Need-loop-holds Inv-loop μ-loop
-loop-holds c = ?
+loop-holds c = record { from = omega arith; below = c .pre; size = refl; kept = λ j l. refl; spare = λ j a b. absurd (omega arith) }
 
--- src/lib.rt:85:9
 mul-out : tie.Need-mul-out Inv-loop μ-loop
-mul-out c = search needs
+mul-out c = omega (arith, c .before .loop .inv .size)
 
--- src/lib.rt:85:9
 slice-write-out : tie.Need-slice-write-out Inv-loop μ-loop
-slice-write-out c = search needs
+slice-write-out c = omega (arith, c .before .loop .inv .size)
 
--- src/lib.rt:86:9
-add-k : tie.Need-add-k Inv-loop μ-loop
-add-k c = search needs
-
--- src/lib.rt:84:5
 loop-less : tie.Need-loop-less Inv-loop μ-loop
-loop-less c = ?
+loop-less c = omega (arith, c .before .loop .inv .size)
 
--- src/lib.rt:84:5
 loop-again : tie.Need-loop-again Inv-loop μ-loop
-loop-again c = ?
+loop-again c =
+    let l = c .before .loop in
+    let a = c .before .before .args in
+    sparing-next (a .m) (l .k) (a .out .now) (l .out) (l .inv) (omega (arith, l .inv .size))
 
--- src/lib.rt:79:1
 same-length : tie.Need-same-length Inv-loop μ-loop
-same-length c = search needs
+same-length c = c .before .loop .inv .size
 
--- src/lib.rt:79:1
 returns : tie.Need-returns Inv-loop μ-loop
-returns c = ?
+returns c =
+    let l = c .before .loop .inv in
+    record { size = l .size; before = l .kept; spare = λ k a b. l .spare k a (omega (arith, l .size)) }
 
 pub fill-spare-spec : {M : Type 1} → statement M
 fill-spare-spec =
     tie.close
-    (tie.spec
-    Inv-loop
-    μ-loop
-    loop-holds
-    mul-out
-    slice-write-out
-    add-k
-    loop-less
-    loop-again
-    same-length
-    returns)
+    (tie.spec Inv-loop μ-loop loop-holds mul-out slice-write-out (λ c. search needs) loop-less loop-again same-length returns)
