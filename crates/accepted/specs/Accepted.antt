@@ -277,15 +277,22 @@ refused≢accepted e = true≢false (sym (ap accepts e))
 accepted-inj : {c d : Counts} → Accepted c ≡ Accepted d → c ≡ d
 accepted-inj e = cc
 
-at-tail : (s : List ℕ) (c d : Counts) → Records s c → 0 < c .policies → tailVerdict s c ≡ Accepted d → Whole s d
+tail-end : (s : List ℕ) (c d : Counts) → tailVerdict s c ≡ Accepted d → (tailFits s c ≡ true) × (c ≡ d)
 unfolding tailVerdict
-at-tail s c d h f e =
+tail-end s c d e =
+    let r : Bool → Reading = λ b. cond b (Accepted c) (Refused 16 (endOf c)) in
     ⊎-elim
-    (λ (t : tailFits s c ≡ true).
-    subst (Whole s) (accepted-inj (sym (ap (λ b. cond b (Accepted c) (Refused 16 (endOf c))) t) ∙ e)) (record { records = h; first = f; tail = t }))
-    (λ (t : tailFits s c ≡ false).
-    absurd (refused≢accepted (sym (ap (λ b. cond b (Accepted c) (Refused 16 (endOf c))) t) ∙ e)))
+    (λ (t : tailFits s c ≡ true). (t, accepted-inj (sym (ap r t) ∙ e)))
+    (λ (t : tailFits s c ≡ false). absurd (refused≢accepted (sym (ap r t) ∙ e)))
     (which (tailFits s c))
+
+-- no record is left
+pub at-end : (s : List ℕ) (c d : Counts) → recordsVerdict s 0 c ≡ Accepted d → c ≡ d
+unfolding recordsVerdict
+at-end s c d e = tail-end s c d e .1
+
+at-tail : (s : List ℕ) (c d : Counts) → Records s c → 0 < c .policies → tailVerdict s c ≡ Accepted d → Whole s d
+at-tail s c d h f e = let r = tail-end s c d e in subst (Whole s) (r .1) (record { records = h; first = f; tail = r .0 })
 
 -- no record was refused
 pub on : (s : List ℕ) (n : ℕ) (c d : Counts) → recordsVerdict s (suc n) c ≡ Accepted d
