@@ -1,4 +1,5 @@
--- What an accepted sheet says: Sound has the statement, Accepted its proof; SameSheet has what the limit leaves as it is.
+-- What an accepted sheet says: Sound has the statement, Accepted its proof. SameSheet: what the limit leaves as it is. First: how many bytes count.
 pub mod Sound
 pub mod Accepted
 pub mod SameSheet
+pub mod First
