@@ -227,7 +227,7 @@ module _ (s : List ℕ) (c : Counts) (m : ℕ) (h : Records s c) (e : Last c m) 
         demands = grown (h .demands) r;
       }
 
-one-more : (s : List ℕ) (c : Counts) → Records s c → Clean s c → Records s (next c (kindOf (kindAt s c)))
+pub one-more : (s : List ℕ) (c : Counts) → Records s c → Clean s c → Records s (next c (kindOf (kindAt s c)))
 unfolding refusal6
 one-more s c h r =
     let m = kindAt s c in
@@ -277,15 +277,22 @@ refused≢accepted e = true≢false (sym (ap accepts e))
 accepted-inj : {c d : Counts} → Accepted c ≡ Accepted d → c ≡ d
 accepted-inj e = cc
 
-at-tail : (s : List ℕ) (c d : Counts) → Records s c → 0 < c .policies → tailVerdict s c ≡ Accepted d → Whole s d
+tail-end : (s : List ℕ) (c d : Counts) → tailVerdict s c ≡ Accepted d → (tailFits s c ≡ true) × (c ≡ d)
 unfolding tailVerdict
-at-tail s c d h f e =
+tail-end s c d e =
+    let r : Bool → Reading = λ b. cond b (Accepted c) (Refused 16 (endOf c)) in
     ⊎-elim
-    (λ (t : tailFits s c ≡ true).
-    subst (Whole s) (accepted-inj (sym (ap (λ b. cond b (Accepted c) (Refused 16 (endOf c))) t) ∙ e)) (record { records = h; first = f; tail = t }))
-    (λ (t : tailFits s c ≡ false).
-    absurd (refused≢accepted (sym (ap (λ b. cond b (Accepted c) (Refused 16 (endOf c))) t) ∙ e)))
+    (λ (t : tailFits s c ≡ true). (t, accepted-inj (sym (ap r t) ∙ e)))
+    (λ (t : tailFits s c ≡ false). absurd (refused≢accepted (sym (ap r t) ∙ e)))
     (which (tailFits s c))
+
+-- no record is left
+pub at-end : (s : List ℕ) (c d : Counts) → recordsVerdict s 0 c ≡ Accepted d → c ≡ d
+unfolding recordsVerdict
+at-end s c d e = tail-end s c d e .1
+
+at-tail : (s : List ℕ) (c d : Counts) → Records s c → 0 < c .policies → tailVerdict s c ≡ Accepted d → Whole s d
+at-tail s c d h f e = let r = tail-end s c d e in subst (Whole s) (r .1) (record { records = h; first = f; tail = r .0 })
 
 -- no record was refused
 pub on : (s : List ℕ) (n : ℕ) (c d : Counts) → recordsVerdict s (suc n) c ≡ Accepted d
@@ -326,11 +333,9 @@ headed s c e =
       rest = d .1;
     }
 
-pub whole : (s : List ℕ) (c : Counts) → verdict s ≡ Accepted c → Whole s c
-whole s c e =
-    let h = headed s c e in
-    from-here s (fieldAt s 8 16) none c
-    (record {
+pub no-records : (s : List ℕ) → Records s none
+no-records s =
+    record {
       policies = λ i l. absurd (omega arith);
       stops = λ i l. absurd (omega arith);
       lines = λ i l. absurd (omega arith);
@@ -338,8 +343,10 @@ whole s c e =
       aboards = λ i l. absurd (omega arith);
       waits = λ i l. absurd (omega arith);
       demands = λ i l. absurd (omega arith);
-    })
-    (inr (h .some)) (h .rest)
+    }
+
+pub whole : (s : List ℕ) (c : Counts) → verdict s ≡ Accepted c → Whole s c
+whole s c e = let h = headed s c e in from-here s (fieldAt s 8 16) none c (no-records s) (inr (h .some)) (h .rest)
 
 -- ---- what the conditions leave of each record
 
@@ -629,10 +636,10 @@ module _ (s : List ℕ) (c : Counts) (h : Records s c) where
   demand-found : (i : ℕ) → i < c .demands → Found stop-ids (c .stops) (demand-ids i)
   demand-found i l = found s (stopsFrom c) 118 (c .stops) (demand-ids i) (the-demand i l .stop)
 
-  few-demands : c .demands ≤ c .stops
+  pub few-demands : c .demands ≤ c .stops
   few-demands = no-more demand-ids stop-ids (c .demands) (c .stops) distinct-demands demand-found
 
-  small : Small c
+  pub small : Small c
   small =
       record {
         policies = up-to (c .policies) 1 (λ i l. leb-false 1 i (h .policies i l .has-room));

@@ -11,6 +11,9 @@ pub struct Has {
     pub choose: bool,
 }
 
+/// What stands in the offset before it is lent.
+pub const KEPT: u64 = 0xa5a5_a5a5_a5a5;
+
 /// What a pass is lent, and what it leaves there.
 #[derive(Clone, Debug, PartialEq)]
 pub struct Lent {
@@ -35,18 +38,18 @@ impl Lent {
             stops: 0xa2a2_a2a2_a2a2,
             total: 0xa3a3_a3a3_a3a3,
             ranked: 0xa4a4_a4a4_a4a4,
-            offset: 0xa5a5_a5a5_a5a5,
+            offset: KEPT,
         }
     }
 }
 
 pub trait Bench {
     fn has(&self) -> Has;
-    /// 0 where the sheet is accepted, else the refusal's number with its offset.
+    /// 0 where the sheet is accepted, else the refusal's number; and what stands in the offset, which held KEPT.
     fn read(&mut self, sheet: &[u8]) -> (u32, u64);
     /// 0 for a pass, else the refusal's number.
     fn pass(&mut self, sheet: &[u8], lent: &mut Lent) -> u32;
-    /// 0 for a choice, with its columns and total; anything else for none.
+    /// 1 for a choice, with its columns and total; 0 for none.
     fn choose(
         &mut self,
         cars: usize,
@@ -127,7 +130,7 @@ impl Bench for Linked {
     }
 
     fn read(&mut self, sheet: &[u8]) -> (u32, u64) {
-        let mut offset = 0;
+        let mut offset = KEPT;
         let number = unsafe { self.read.unwrap()(sheet.as_ptr(), sheet.len(), &mut offset) };
         (number, offset)
     }

@@ -7,7 +7,7 @@ use sheetgen::shrink::shrink;
 use sheetgen::{Refusal, Sheet, describe, read};
 
 use crate::answer::{Answer, Pass, answer};
-use crate::bench::{Bench, Has, Lent};
+use crate::bench::{Bench, Has, KEPT, Lent};
 use crate::choice;
 use crate::rust_pass::Rust;
 
@@ -91,6 +91,9 @@ impl<'a> Comparison<'a> {
             }
             if expected.0 != 0 && found.1 != expected.1 {
                 return differ("read: offset", expected, found);
+            }
+            if expected.0 == 0 && found.1 != KEPT {
+                return differ("read: an accepted sheet writes the offset", KEPT, found.1);
             }
         }
         let right = match refusal {
@@ -223,13 +226,13 @@ impl<'a> Comparison<'a> {
             .bench
             .choose(m.cars, m.columns, &m.cells, &mut chosen, &mut total);
         match right {
-            None if answer == 0 => differ("choose: none", "none", "a choice"),
+            None if answer != 0 => differ("choose: none", 0, answer),
             None if (&chosen, total) != (&fresh.0, fresh.1) => plain(
                 "choose: none writes",
                 "an answer of none changed a lent buffer",
             ),
             None => None,
-            Some(_) if answer != 0 => differ("choose: choice", "a choice", "none"),
+            Some(_) if answer != 1 => differ("choose: choice", 1, answer),
             Some((columns, sum)) => {
                 let n = columns.len();
                 if chosen[..n] != columns[..] {

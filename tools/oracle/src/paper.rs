@@ -6,7 +6,7 @@ use sheetgen::sheet::{ETD, NO_LIMIT, RSR, SCAN, mask_bit};
 use sheetgen::{Car, Sheet, Waiting, bits, read};
 
 use crate::answer::SENTINEL;
-use crate::bench::{Bench, Has, Lent};
+use crate::bench::{Bench, Has, KEPT, Lent};
 use crate::choice;
 
 macro_rules! faults {
@@ -723,7 +723,7 @@ impl Bench for Paper {
     }
 
     fn read(&mut self, sheet: &[u8]) -> (u32, u64) {
-        self.refusal(sheet).unwrap_or((0, 0))
+        self.refusal(sheet).unwrap_or((0, KEPT))
     }
 
     fn pass(&mut self, bytes: &[u8], lent: &mut Lent) -> u32 {
@@ -797,7 +797,7 @@ impl Bench for Paper {
             seen.iter_mut().for_each(|c| *c = (*c).min(SENTINEL as u64));
         }
         if choice::expected(cars, columns, &seen, chosen.len()).is_none() {
-            return 1;
+            return 0;
         }
         let found = self.chosen(cars, columns, &seen);
         *total = 0;
@@ -805,6 +805,6 @@ impl Bench for Paper {
             chosen[i] = found[i] as u32;
             *total += seen[i * columns + found[i]];
         }
-        0
+        1
     }
 }

@@ -1,0 +1,233 @@
+-- A byte list has the verdict of its first 65,536 bytes, so a program with a buffer of that size answers for every input: what was read without a
+-- refusal ends by bit 208,658, and a record has at most 65,557 bits. Assumes nothing.
+use Prim.Native.Nat.{ℕ, zero, suc, _+_, _-_, _*_, _/_, _%_, _^_, _≤_, _<_}
+use mathlib.Core.Path.{_≡_, refl, sym, ap, ap₂, _∙_, subst, fun-ext}
+use mathlib.Core.Bool.{Bool, true, false, not, _&&_, _||_, cond}
+use mathlib.Core.List.{List}
+use mathlib.Core.Logic.{⊎-elim, _≢_}
+use native.Mathlib.Omega.{arith}
+use lib.Dec.{eqb, ltb, leb}
+use lib.ListN.{length, take}
+use lib.Seq.{length-take-le, take-all}
+use borrow.Author.Tests.{eqb-true, eqb-false, eq-eqb, ne-eqb, le-ltb, leb-true}
+use Rattle.laws.specs.Bools.{which, less?}
+use Rattle.laws.specs.Folds.{any, any-cong}
+use Rattle.bits.specs.Field.{fieldAt, field-take, field-lt}
+use Rattle.components.specs.declared.Kind.{Kind}
+use Rattle.components.specs.declared.Kind.the-variants.{Policy, Stop, Line, Car, Aboard, Waiting, Demand, Unknown}
+use Rattle.components.specs.declared.Strategy.{Strategy}
+use Rattle.components.specs.declared.Strategy.the-variants.{Etd, Rsr, Scan}
+use Rattle.components.specs.declared.Strategy.the-variants as strategy
+use Rattle.components.specs.Codes.{kindOf, strategyOf}
+use Rattle.layout.specs.declared.Counts.{Counts}
+use Rattle.layout.specs.declared.Reading.{Reading}
+use Rattle.layout.specs.declared.Reading.the-variants.{Refused, Accepted}
+use Rattle.layout.specs.Offsets.{none, next, endOf, isFull, stopsFrom, linesFrom, carsFrom, demandsFrom}
+use Rattle.layout.specs.Records.{Fields, from, double}
+use Rattle.layout.specs.Refusals.{kindAt, lengthAt, seen, hasStop, hasLine, hasCar, hasDemand, lastStop, isUnknown, unusedWeights, loadWeighed, refusal2, refusal5, refusal6, refusal8Policy, refusal11Policy, refusal12, refusal15, refusal9Stop, refusal11Stop, refusal9Line, refusal10Line, refusal8Car, refusal9Car, refusal10Car, refusal11Car, refusal13, refusal8Aboard, refusal9Aboard, refusal10Aboard, refusal8Waiting, refusal9Waiting, refusal10Waiting, refusal11Waiting, refusal14, refusal9Demand, refusal10Demand}
+use Rattle.layout.specs.Verdict.{pick, policyRefusal, stopRefusal, lineRefusal, carRefusal, aboardRefusal, waitingRefusal, demandRefusal, bodyRefusal, recordRefusal, tailFits, tailVerdict, recordsVerdict, verdict}
+use Rattle.layout.specs.VerdictLaws.{clean}
+use Rattle.accepted.specs.Accepted.{Records, one-more, small, few-demands, no-records}
+
+-- ---- a record is read within its 737 bits
+
+abbrev clip : Fields → Fields
+clip f o w = cond (leb (o + w) 737) (f o w) 0
+
+clip-same : (f g : Fields) → ((o w : ℕ) → o + w ≤ 737 → f o w ≡ g o w) → clip f ≡ clip g
+clip-same f g h = fun-ext λ o. fun-ext λ w. by-test (leb (o + w) 737) (f o w) (g o w) (λ e. h o w (leb-true (o + w) 737 e))
+  where
+    by-test : (b : Bool) (x y : ℕ) → (b ≡ true → x ≡ y) → cond b x 0 ≡ cond b y 0
+    by-test true x y h = h refl
+    by-test false x y h = refl
+
+module _ (s : List ℕ) (c : Counts) (f : Fields) where
+  unused-clip : (k : Strategy) → unusedWeights k f ≡ unusedWeights k (clip f)
+  unused-clip Etd = refl
+  unused-clip Rsr = refl
+  unused-clip Scan = refl
+  unused-clip strategy.Unknown = refl
+
+  load-clip : (k : Strategy) → loadWeighed k f ≡ loadWeighed k (clip f)
+  load-clip Etd = refl
+  load-clip Rsr = refl
+  load-clip Scan = refl
+  load-clip strategy.Unknown = refl
+
+  policy-clip : policyRefusal s c f ≡ policyRefusal s c (clip f)
+  unfolding policyRefusal refusal8Policy refusal11Policy refusal12 refusal15
+  policy-clip =
+      ap₂ (λ (a b : Bool). pick a 8 (pick (refusal11Policy f) 11 (pick (refusal12 f) 12 (pick b 15 0))))
+      (unused-clip (strategyOf (f 22 2))) (load-clip (strategyOf (f 22 2)))
+
+  stop-clip : stopRefusal s c f ≡ stopRefusal s c (clip f)
+  unfolding stopRefusal refusal9Stop refusal11Stop
+  stop-clip = refl
+
+  line-clip : lineRefusal s c f ≡ lineRefusal s c (clip f)
+  unfolding lineRefusal refusal9Line refusal10Line
+  line-clip = refl
+
+  car-clip : carRefusal s c f ≡ carRefusal s c (clip f)
+  unfolding carRefusal refusal8Car refusal9Car refusal10Car refusal11Car refusal13
+  car-clip = refl
+
+  aboard-clip : aboardRefusal s c f ≡ aboardRefusal s c (clip f)
+  unfolding aboardRefusal refusal8Aboard refusal9Aboard refusal10Aboard
+  aboard-clip = refl
+
+  waiting-clip : waitingRefusal s c f ≡ waitingRefusal s c (clip f)
+  unfolding waitingRefusal refusal8Waiting refusal9Waiting refusal10Waiting refusal11Waiting refusal14
+  waiting-clip = refl
+
+  demand-clip : demandRefusal s c f ≡ demandRefusal s c (clip f)
+  unfolding demandRefusal refusal9Demand refusal10Demand
+  demand-clip = refl
+
+  body-clip : (k : Kind) → bodyRefusal s c k f ≡ bodyRefusal s c k (clip f)
+  body-clip Policy = policy-clip
+  body-clip Stop = stop-clip
+  body-clip Line = line-clip
+  body-clip Car = car-clip
+  body-clip Aboard = aboard-clip
+  body-clip Waiting = waiting-clip
+  body-clip Demand = demand-clip
+  body-clip Unknown = refl
+
+-- ---- the first 65,536 bytes of a longer list
+
+module _ (s : List ℕ) (long : 65536 < length s) where
+  abbrev start : List ℕ
+  start = take 65536 s
+
+  start-length : length start ≡ 65536
+  start-length = length-take-le 65536 s (omega arith)
+
+  field-same : (at w : ℕ) → at + w ≤ 524288 → fieldAt s at w ≡ fieldAt start at w
+  field-same at w h = sym (field-take s 65536 at w (omega arith))
+
+  seen-same : (base len n id : ℕ) → ((i : ℕ) → i < n → base + len * i + 22 + 32 ≤ 524288) → seen s base len n id ≡ seen start base len n id
+  unfolding seen
+  seen-same base len n id h =
+      any-cong (λ i. eqb (fieldAt s (base + len * i + 22) 32) id) (λ i. eqb (fieldAt start (base + len * i + 22) 32) id) n
+      (λ i l. ap (λ x. eqb x id) (field-same (base + len * i + 22) 32 (h i l)))
+
+  -- what was read so far ends by bit 208,658
+  module _ (c : Counts) (near : endOf c ≤ 208658) where
+    stops-same : (id : ℕ) → hasStop s c id ≡ hasStop start c id
+    stops-same id = seen-same (stopsFrom c) 118 (c .stops) id (λ i l. omega arith)
+
+    lines-same : (id : ℕ) → hasLine s c id ≡ hasLine start c id
+    lines-same id = seen-same (linesFrom c) 118 (c .lines) id (λ i l. omega arith)
+
+    cars-same : (id : ℕ) → hasCar s c id ≡ hasCar start c id
+    cars-same id = seen-same (carsFrom c) 737 (c .cars) id (λ i l. omega arith)
+
+    demands-same : (id : ℕ) → hasDemand s c id ≡ hasDemand start c id
+    demands-same id = seen-same (demandsFrom c) 71 (c .demands) id (λ i l. omega arith)
+
+    last-same : lastStop s c ≡ lastStop start c
+    unfolding lastStop
+    last-same = ap (λ x. cond (eqb (c .stops) 0) 0 x) (field-same (stopsFrom c + 118 * (c .stops - 1) + 22) 32 (omega arith))
+
+    module _ (f : Fields) where
+      policy-look : policyRefusal s c f ≡ policyRefusal start c f
+      unfolding policyRefusal
+      policy-look = refl
+
+      stop-look : stopRefusal s c f ≡ stopRefusal start c f
+      unfolding stopRefusal refusal9Stop
+      stop-look = rw last-same
+
+      line-look : lineRefusal s c f ≡ lineRefusal start c f
+      unfolding lineRefusal refusal9Line
+      line-look = rw (lines-same (f 22 32))
+
+      car-look : carRefusal s c f ≡ carRefusal start c f
+      unfolding carRefusal refusal9Car refusal10Car
+      car-look = rw (cars-same (f 22 32), lines-same (f 54 32))
+
+      aboard-look : aboardRefusal s c f ≡ aboardRefusal start c f
+      unfolding aboardRefusal refusal10Aboard
+      aboard-look = rw (cars-same (f 22 32))
+
+      waiting-look : waitingRefusal s c f ≡ waitingRefusal start c f
+      unfolding waitingRefusal refusal10Waiting
+      waiting-look = rw (stops-same (f 22 32))
+
+      demand-look : demandRefusal s c f ≡ demandRefusal start c f
+      unfolding demandRefusal refusal9Demand refusal10Demand
+      demand-look = rw (demands-same (f 22 32), stops-same (f 22 32))
+
+      body-look : (k : Kind) → bodyRefusal s c k f ≡ bodyRefusal start c k f
+      body-look Policy = policy-look
+      body-look Stop = stop-look
+      body-look Line = line-look
+      body-look Car = car-look
+      body-look Aboard = aboard-look
+      body-look Waiting = waiting-look
+      body-look Demand = demand-look
+      body-look Unknown = refl
+
+    body-same : (k : Kind) → bodyRefusal s c k (from s (endOf c)) ≡ bodyRefusal start c k (from start (endOf c))
+    body-same k =
+        body-clip s c (from s (endOf c)) k
+        ∙ ap (bodyRefusal s c k) (clip-same (from s (endOf c)) (from start (endOf c)) (λ o w h. field-same (endOf c + o) w (omega arith)))
+        ∙ sym (body-clip s c (from start (endOf c)) k) ∙ body-look (from start (endOf c)) k
+
+    kind-same : kindAt s c ≡ kindAt start c
+    kind-same = field-same (endOf c + 0) 6 (omega arith)
+
+    length-same : lengthAt s c ≡ lengthAt start c
+    length-same = field-same (endOf c + 6) 16 (omega arith)
+
+    -- a record's length is below 65,536: it ends before bit 524,288
+    end-same : refusal2 s c ≡ refusal2 start c
+    unfolding refusal2
+    end-same =
+        let a = field-lt s (endOf c + 6) 16 in
+        let b = field-lt start (endOf c + 6) 16 in
+        let e = start-length in
+        le-ltb (8 * length s) (endOf c + 22 + lengthAt s c) (omega arith)
+        ∙ sym (le-ltb (8 * length start) (endOf c + 22 + lengthAt start c) (omega arith))
+
+    record-same : recordRefusal s c ≡ recordRefusal start c
+    unfolding recordRefusal
+    record-same = rw (end-same, length-same, kind-same, body-same (kindOf (kindAt start c)))
+
+    tail-same : tailVerdict s c ≡ tailVerdict start c
+    unfolding tailVerdict tailFits
+    tail-same =
+        let e = start-length in
+        rw (ne-eqb (length s) ((endOf c + 7) / 8) (λ q. absurd (omega arith)), ne-eqb (length start) ((endOf c + 7) / 8) (λ q. absurd (omega arith)))
+
+  ends-near : (c : Counts) → Records s c → endOf c ≤ 208658
+  ends-near c h = let m = small s c h in let d = few-demands s c h in omega arith
+
+  records-same : (n : ℕ) (c : Counts) → Records s c → recordsVerdict s n c ≡ recordsVerdict start n c
+  unfolding recordsVerdict
+  records-same zero c h = tail-same c (ends-near c h)
+  records-same (suc n) c h =
+      let near = ends-near c h in
+      ⊎-elim
+      (λ (e : eqb (recordRefusal s c) 0 ≡ true).
+      let q = eqb-true (recordRefusal s c) 0 e in
+      rw (e, ← record-same c near, e, ← kind-same c near) (records-same n (next c (kindOf (kindAt s c))) (one-more s c h (clean s c q))))
+      (λ (e : eqb (recordRefusal s c) 0 ≡ false). rw (← record-same c near, e))
+      (which (eqb (recordRefusal s c) 0))
+
+  long-same : verdict s ≡ verdict start
+  unfolding verdict
+  long-same =
+      let e = start-length in
+      rw (
+        le-ltb (length s) 3 (omega arith),
+        le-ltb (length start) 3 (omega arith),
+        field-same 0 8 (omega arith),
+        field-same 8 16 (omega arith),
+        records-same (fieldAt start 8 16) none (no-records s),
+      )
+
+pub first-bytes : (s : List ℕ) → verdict s ≡ verdict (take 65536 s)
+first-bytes s =
+    ⊎-elim (λ (l : 65536 < length s). long-same s l) (λ (l : length s ≤ 65536). ap verdict (sym (take-all 65536 s l))) (less? 65536 (length s))

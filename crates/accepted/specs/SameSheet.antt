@@ -1,0 +1,90 @@
+-- The limit is bytes 6 and 7, whole. Two accepted byte lists that agree everywhere else have the same counts and the same sheet. Assumes nothing.
+use Prim.Native.Nat.{ℕ, zero, suc, _+_, _*_, _≤_, _<_}
+use mathlib.Core.Path.{_≡_, refl, sym, ap, _∙_, subst, fun-ext}
+use mathlib.Core.List.{List}
+use mathlib.Core.Logic.{⊎-elim, _≢_}
+use native.Mathlib.Omega.{arith}
+use lib.ListN.{getD}
+use Rattle.laws.specs.Bools.{less?}
+use Rattle.bits.specs.Field.{fieldAt, field-ext}
+use Rattle.components.specs.Codes.{kindOf}
+use Rattle.layout.specs.declared.Counts.{Counts}
+use Rattle.layout.specs.declared.Reading.the-variants.{Accepted}
+use Rattle.layout.specs.Offsets.{none, next, endOf, stopsFrom, linesFrom, carsFrom, aboardsFrom, waitsFrom, demandsFrom}
+use Rattle.layout.specs.Records.{from, policyOf, stopOf, lineOf, carOf, aboardOf, waitingOf, demandOf, sheetOf}
+use Rattle.layout.specs.Refusals.{kindAt}
+use Rattle.layout.specs.Verdict.{recordsVerdict, verdict}
+use Rattle.accepted.specs.Accepted.{on, headed, at-end, accepted}
+
+-- "agree in every bit but the policy's limit"
+abbrev pub AgreeButLimit : List ℕ → List ℕ → Type 0
+AgreeButLimit s t = (k : ℕ) → k ≢ 6 → k ≢ 7 → getD s k 0 ≡ getD t k 0
+
+module _ (s t : List ℕ) (agree : AgreeButLimit s t) where
+  early : (at w : ℕ) → at + w ≤ 48 → fieldAt s at w ≡ fieldAt t at w
+  early at w h = field-ext s t at w (λ k l m. agree k (omega arith) (omega arith))
+
+  late : (at w : ℕ) → 64 ≤ at → fieldAt s at w ≡ fieldAt t at w
+  late at w h = field-ext s t at w (λ k l m. agree k (omega arith) (omega arith))
+
+  past : (at : ℕ) → 64 ≤ at → from s at ≡ from t at
+  past at h = fun-ext λ o. fun-ext λ w. late (at + o) w (omega arith)
+
+  -- a record starts at bit 24, or past the limit
+  kind-same : (c : Counts) → kindAt s c ≡ kindAt t c
+  kind-same c =
+      ⊎-elim
+      (λ (l : endOf c < 64).
+      let p : c .policies ≡ 0 = omega arith in
+      let r : c .stops + c .lines + c .cars + c .aboards + c .waits + c .demands ≡ 0 = omega arith in
+      early (endOf c + 0) 6 (omega arith))
+      (λ (l : 64 ≤ endOf c). late (endOf c + 0) 6 (omega arith))
+      (less? (endOf c) 64)
+
+  counts-from : (n : ℕ) (c d e : Counts) → recordsVerdict s n c ≡ Accepted d → recordsVerdict t n c ≡ Accepted e → d ≡ e
+  counts-from zero c d e p q = sym (at-end s c d p) ∙ at-end t c e q
+  counts-from (suc n) c d e p q =
+      counts-from n (next c (kindOf (kindAt s c))) d e (on s n c d p .1)
+      (subst (λ k. recordsVerdict t n (next c (kindOf k)) ≡ Accepted e) (sym (kind-same c)) (on t n c e q .1))
+
+  pub counts-same : (c d : Counts) → verdict s ≡ Accepted c → verdict t ≡ Accepted d → c ≡ d
+  counts-same c d p q =
+      counts-from (fieldAt s 8 16) none c d (headed s c p .rest)
+      (subst (λ n. recordsVerdict t n none ≡ Accepted d) (sym (early 8 16 (omega arith))) (headed t d q .rest))
+
+  policy-same : policyOf (from s 24) ≡ policyOf (from t 24)
+  unfolding policyOf
+  policy-same =
+      cc (
+        early 46 2 (omega arith),
+        late 64 64 (omega arith),
+        late 128 2 (omega arith),
+        late 130 64 (omega arith),
+        late 194 64 (omega arith),
+        late 258 64 (omega arith),
+        late 322 64 (omega arith),
+        late 386 64 (omega arith),
+        late 450 64 (omega arith),
+      )
+
+  by-counts : (c : Counts) → c .policies ≡ 1 → sheetOf s c ≡ sheetOf t c
+  unfolding sheetOf
+  by-counts c one =
+      λ i. record {
+        policy = policy-same i;
+        stops = c .stops;
+        stop = λ j. stopOf (past (stopsFrom c + 118 * j) (omega arith) i);
+        lines = c .lines;
+        line = λ j. lineOf (past (linesFrom c + 118 * j) (omega arith) i);
+        cars = c .cars;
+        car = λ j. carOf (past (carsFrom c + 737 * j) (omega arith) i);
+        aboards = c .aboards;
+        aboard = λ j. aboardOf (past (aboardsFrom c + 87 * j) (omega arith) i);
+        waits = c .waits;
+        waiting = λ j. waitingOf (past (waitsFrom c + 248 * j) (omega arith) i);
+        demands = c .demands;
+        demand = λ j. demandOf (past (demandsFrom c + 71 * j) (omega arith) i);
+      }
+
+  pub sheet-same : (c d : Counts) → verdict s ≡ Accepted c → verdict t ≡ Accepted d → sheetOf s c ≡ sheetOf t d
+  sheet-same c d p q = by-counts c (accepted s c p .one-policy) ∙ ap (sheetOf t) (counts-same c d p q)

@@ -1,0 +1,14 @@
+-- What the functions of the C interface answer for each case, and leave in what they are lent. Assumes nothing.
+use Prim.Native.Nat.{ℕ}
+use Rattle.layout.specs.declared.Reading.{Reading}
+use Rattle.layout.specs.declared.Reading.the-variants.{Refused, Accepted}
+
+-- document 01's number of a refusal; 0 is none
+abbrev pub readingNumber : Reading → ℕ
+readingNumber (Refused number offset) = number
+readingNumber (Accepted c) = 0
+
+-- what stands in the lent offset, which held this before
+abbrev pub readingOffset : Reading → ℕ → ℕ
+readingOffset (Refused number offset) before = offset
+readingOffset (Accepted c) before = before
