@@ -2,6 +2,9 @@
 ghost use mathlib.Core.Path.{_≡_};
 ghost use Prim.Native.Nat.{ℕ, suc, _+_, _*_, _<_, _≤_};
 ghost use lib.ListN.{length};
+ghost use Rattle.laws.specs.Tables.{tab};
+ghost use Rattle.assignment_problem.specs.Choice.{cellAt};
+ghost use Rattle.assignment_problem.specs.Recursion.{chosen};
 ghost use Rattle.hungarian.specs.Lists.{at, big};
 ghost use Rattle.hungarian.specs.State.{Sizes, Scratch, Matrix, State, unseen};
 ghost use Rattle.equality_graph.specs.Settled.{MayIs, Ready, Search, VisitedAll, ExpandedAll, Reached, Settled};
@@ -195,7 +198,7 @@ fn lower(
     }
 }
 
-// Each row in turn goes to the lowest column that leaves the total least.
+// Each row in turn goes to the lowest column that leaves the total least: the columns are those of the choice that is asked for.
 pub fn settle(
     cells: &[u64],
     n: usize,
@@ -210,7 +213,7 @@ pub fn settle(
 )
     requires { ⌜ Sizes (now u) (now w) (now «row_of») (now «col_of») × Scratch (now queue) (now from) (now seen) ⌝ }
     requires { ⌜ Matrix (now cells) n cols × State (now cells) n cols n (now u) (now w) (now «row_of») (now «col_of») ⌝ }
-    ensures { λ _. ⌜ Settled (now (cells .entry)) n cols n (now (u .entry)) (now (w .entry)) (now («row_of» .exit)) (now («col_of» .exit)) ⌝ }
+    ensures { λ _. ⌜ tab (at (now («col_of» .exit))) n ≡ chosen (cellAt (now (cells .entry)) cols) n cols ⌝ }
 {
     let mut i = 0;
     while i < n {

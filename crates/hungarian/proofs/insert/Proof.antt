@@ -3,15 +3,7 @@ use borrow.Author.Needs.{needs}
 use native.Mathlib.Omega.{arith}
 use Rattle.hungarian.proofs.insert.Statement.{statement}
 use Rattle.hungarian.proofs.insert.Tie as tie
-use Rattle.hungarian.proofs.insert.Reads as reads
-use Rattle.hungarian.proofs.insert.Lts as lts
-use Rattle.hungarian.proofs.augment.Reads as augment-reads
-use Rattle.hungarian.proofs.join.Reads as join-reads
-use Rattle.hungarian.proofs.nearest.Reads as nearest-reads
-use Rattle.hungarian.proofs.prepare.Reads as prepare-reads
-use Rattle.hungarian.proofs.raise_columns.Reads as raise-columns-reads
-use Rattle.hungarian.proofs.raise_rows.Reads as raise-rows-reads
-use Prim.Native.Nat.{ℕ, _+_, _≤_, _<_}
+use Prim.Native.Nat.{ℕ, _+_, _≤_}
 use mathlib.Core.Path.{_≡_, refl, sym, _∙_}
 use mathlib.Core.List.{List}
 use lib.ListN.{length-set, set}
