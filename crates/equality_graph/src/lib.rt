@@ -1,4 +1,9 @@
 // Lowest columns among the least choices: for each row in turn, searches of the equality graph for the lowest column that it can have.
+//
+// In that graph a row may go to a column where its price is tight, and a free column may be filled by leaving another without a discount free.
+// Row i steps onto the stand; each lower column that it may go to is tried, lowest first, and the search follows what the columns hold until it
+// comes to row i's own column. Then the rows move along the path, and row i has the lower column. What one search has seen in vain, the next
+// ones pass over. Lists are those of the crate hungarian; queue has the columns seen, in order.
 ghost use mathlib.Core.Path.{_≡_};
 ghost use Prim.Native.Nat.{ℕ, suc, _+_, _*_, _<_, _≤_};
 ghost use lib.ListN.{length};

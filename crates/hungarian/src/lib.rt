@@ -1,4 +1,11 @@
 // The least total by the Hungarian method: rows are put in one by one, each by an augmenting path in the equality graph, with prices.
+//
+// There are n rows, at most 32, and cols columns, at most 64; column cols is the stand, for the row that has no column yet.
+//   u, w             the price of each row, the discount of each column: u[r] is at most its cell and w[j] together
+//   row_of, col_of   the row of each column, n where it is free, and the column of each row
+//   seen             the turn at which a column joined the alternating tree, 0 outside it; the stand is the root, with turn 1
+//   dist, from       the distance of each column from the root, and the tree column whose row it is reached from
+// The prices of the tree are raised once, when it reaches a free column.
 ghost use mathlib.Core.Path.{_≡_};
 ghost use Prim.Native.Nat.{ℕ, _+_, _*_, _-_, _^_, _<_, _≤_};
 ghost use lib.ListN.{length, getD};
