@@ -1,7 +1,7 @@
 -- Sums along a choice: at most the sum over all columns, and all of it where nothing stands on the columns not chosen. Assumes nothing.
-use mathlib.Core.Path.{_≡_, refl, sym, ap, _∙_}
+use mathlib.Core.Path.{_≡_, sym, ap, _∙_}
 use mathlib.Core.Logic.{⊎-elim}
-use Prim.Native.Nat.{ℕ, zero, suc, _+_, _≤_, _<_}
+use Prim.Native.Nat.{ℕ, zero, suc, _≤_, _<_}
 use native.Mathlib.Omega.{arith}
 use Rattle.laws.specs.Bools.{same?}
 use Rattle.laws.specs.Sums.{sum, sum-cong, sum-zero, upd, upd-same, upd-other, sum-upd}

@@ -7,9 +7,9 @@
 --   chosen-same                             equal cells give the same choice and total
 --   leastTotal-mono                         a matrix that is nowhere larger has a least total that is no larger
 use mathlib.Core.Path.{_≡_, refl, sym, ap, ap₂, _∙_, subst}
-use mathlib.Core.Bool.{Bool, true, false, cond, _||_}
+use mathlib.Core.Bool.{Bool, true, false, cond}
 use mathlib.Core.List.{List, [], _∷_}
-use mathlib.Core.Logic.{_⊎_, inl, inr, ⊎-elim}
+use mathlib.Core.Logic.{_⊎_, ⊎-elim}
 use Prim.Native.Nat.{ℕ, zero, suc, _+_, _≤_, _<_}
 use native.Mathlib.Omega.{arith}
 use native.Mathlib.Nat.{add-zero}
@@ -241,6 +241,17 @@ module _ (c : ℕ → ℕ → ℕ) (n m : ℕ) where
     chosen-tab p hp =
         ext-getD 0 (tab p n) (chosen c n m) (length-tab p n ∙ sym chosen-length)
         (λ k lk. let l : k < n = omega (arith, length-tab p n) in getD-tab₀ p n k 0 l ∙ chosen-one hp chosen-is k l)
+
+    -- a function whose table is the recursion's list has its columns, in range, and its total
+    pub tab-column : (p : ℕ → ℕ) → tab p n ≡ chosen c n m → (i : ℕ) → i < n → p i ≡ columnOf c n m i
+    tab-column p e i l = sym (getD-tab₀ p n i 0 l) ∙ ap (λ (x : List ℕ). getD x i 0) e
+
+    pub tab-within : (p : ℕ → ℕ) → tab p n ≡ chosen c n m → (i : ℕ) → i < n → p i < m
+    tab-within p e i l = omega (arith, tab-column p e i l, chosen-choice .within i l)
+
+    pub tab-total : (p : ℕ → ℕ) → tab p n ≡ chosen c n m → total n c p ≡ leastTotal c n m
+    unfolding total
+    tab-total p e = sum-cong n (λ i l. ap (c i) (tab-column p e i l)) ∙ sym chosen-total
 
 -- ---- other cells
 

@@ -7,16 +7,16 @@
 -- Assumes nothing.
 use mathlib.Core.Path.{_≡_, refl, sym, ap, _∙_}
 use mathlib.Core.Bool.{cond}
-use mathlib.Core.Logic.{_⊎_, inl, inr, ⊎-elim}
-use Prim.Native.Nat.{ℕ, zero, suc, _+_, _-_, _≤_, _<_}
+use mathlib.Core.Logic.{_⊎_, ⊎-elim}
+use Prim.Native.Nat.{ℕ, suc, _+_, _-_, _≤_, _<_}
 use native.Mathlib.Omega.{arith}
 use lib.Dec.{eqb}
 use borrow.Author.Tests.{eq-eqb, ne-eqb}
 use Rattle.laws.specs.Bools.{same?, less?}
-use Rattle.laws.specs.Sums.{sum, sum-one}
+use Rattle.laws.specs.Sums.{sum-one}
 use Rattle.assignment_problem.specs.Choice.{IsChoice}
 use Rattle.assignment_problem.specs.Along.{along-eq}
-use Rattle.assignment_problem.specs.Prices.{Tight, Feasible}
+use Rattle.assignment_problem.specs.Prices.{Tight}
 
 -- the first k rows have a column each, below m, and the rows that columns below m have are those
 pub record Matched (n m k : ℕ) (ro co : ℕ → ℕ) : Type 0 where

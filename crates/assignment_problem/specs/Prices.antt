@@ -1,8 +1,8 @@
 -- Prices of rows (u) and discounts of columns (w), whole numbers of at least 0, and what they show of a choice: weak duality and complementary
 -- slackness. Assumes nothing.
-use mathlib.Core.Path.{_≡_, refl, sym, ap, _∙_}
+use mathlib.Core.Path.{_≡_, sym}
 use mathlib.Core.Logic.{⊎-elim}
-use Prim.Native.Nat.{ℕ, zero, suc, _+_, _≤_, _<_}
+use Prim.Native.Nat.{ℕ, _+_, _≤_, _<_}
 use native.Mathlib.Omega.{arith}
 use Rattle.laws.specs.Bools.{same?}
 use Rattle.laws.specs.Sums.{sum, sum-mono, sum-cong, sum-add, sum-lt, sum-upd, upd, upd-other}

@@ -1,6 +1,6 @@
 -- The choice by plain recursion: the first car is given each free column in turn and the remaining cars are passed to the recursion; the least
 -- wins, and ties go to the lowest column. Assumes nothing.
-use mathlib.Core.Bool.{Bool, true, false, cond, _||_}
+use mathlib.Core.Bool.{Bool, false, cond, _||_}
 use mathlib.Core.List.{List, [], _∷_}
 use Prim.Native.Nat.{ℕ, zero, suc, _+_}
 use lib.Dec.{eqb, ltb}

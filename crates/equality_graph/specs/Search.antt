@@ -7,8 +7,7 @@ use mathlib.Core.Path.{_≡_, refl, sym, ap, _∙_}
 use mathlib.Core.Logic.{⊎-elim}
 use Prim.Native.Nat.{ℕ, zero, suc, _+_, _≤_, _<_}
 use native.Mathlib.Omega.{arith}
-use Rattle.laws.specs.Bools.{same?, less?}
-use Rattle.assignment_problem.specs.Choice.{IsChoice, total}
+use Rattle.laws.specs.Bools.{same?}
 use Rattle.assignment_problem.specs.Insertion.{Matched, Priced, May, Path, Walk}
 use Rattle.equality_graph.specs.Unreachable.{Shut}
 

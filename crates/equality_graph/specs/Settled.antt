@@ -3,18 +3,18 @@ use mathlib.Core.Path.{_≡_, refl, sym, ap, _∙_, subst}
 use mathlib.Core.Bool.{Bool, true, false}
 use mathlib.Core.List.{List}
 use mathlib.Core.Logic.{⊎-elim}
-use Prim.Native.Nat.{ℕ, zero, suc, _+_, _*_, _≤_, _<_}
+use Prim.Native.Nat.{ℕ, suc, _+_, _≤_, _<_}
 use native.Mathlib.Omega.{arith}
 use lib.ListN.{length, set, length-set}
 use lib.Dec.{eqb}
 use borrow.Author.Tests.{eqb-true, eqb-false}
-use Rattle.laws.specs.Bools.{same?, less?}
+use Rattle.laws.specs.Bools.{same?}
 use Rattle.assignment_problem.specs.Choice.{IsChoice, total, Chosen, cellAt}
 use Rattle.assignment_problem.specs.Prices.{tight-least}
 use Rattle.assignment_problem.specs.Insertion.{Matched, Priced, May, Path, Walk, matched-choice, priced-tight, walk-matched, walk-priced}
 use Rattle.hungarian.specs.Lists.{at, big, at-same, at-other, Going, Gone}
 use Rattle.hungarian.specs.State.{Sizes, Scratch, Matrix, State, Cleared, unseen, unseen-less, unseen-most}
-use Rattle.equality_graph.specs.Unreachable.{Shut, low}
+use Rattle.equality_graph.specs.Unreachable.{low}
 use Rattle.equality_graph.specs.Search.{Front, front-start, front-top, front-next, front-shut, front-push, front-path, front-walk}
 
 abbrev pub MayIn : (cells : List ℕ) (n cols : ℕ) (u w : List ℕ) (r y : ℕ) → Type 0

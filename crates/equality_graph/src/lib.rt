@@ -1,7 +1,15 @@
 // Lowest columns among the least choices: for each row in turn, searches of the equality graph for the lowest column that it can have.
+//
+// In that graph a row may go to a column where its price is tight, and a free column may be filled by leaving another without a discount free.
+// Row i steps onto the stand; each lower column that it may go to is tried, lowest first, and the search follows what the columns hold until it
+// comes to row i's own column. Then the rows move along the path, and row i has the lower column. What one search has seen in vain, the next
+// ones pass over. Lists are those of the crate hungarian; queue has the columns seen, in order.
 ghost use mathlib.Core.Path.{_≡_};
 ghost use Prim.Native.Nat.{ℕ, suc, _+_, _*_, _<_, _≤_};
 ghost use lib.ListN.{length};
+ghost use Rattle.laws.specs.Tables.{tab};
+ghost use Rattle.assignment_problem.specs.Choice.{cellAt};
+ghost use Rattle.assignment_problem.specs.Recursion.{chosen};
 ghost use Rattle.hungarian.specs.Lists.{at, big};
 ghost use Rattle.hungarian.specs.State.{Sizes, Scratch, Matrix, State, unseen};
 ghost use Rattle.equality_graph.specs.Settled.{MayIs, Ready, Search, VisitedAll, ExpandedAll, Reached, Settled};
@@ -195,7 +203,7 @@ fn lower(
     }
 }
 
-// Each row in turn goes to the lowest column that leaves the total least.
+// Each row in turn goes to the lowest column that leaves the total least: the columns are those of the choice that is asked for.
 pub fn settle(
     cells: &[u64],
     n: usize,
@@ -210,7 +218,7 @@ pub fn settle(
 )
     requires { ⌜ Sizes (now u) (now w) (now «row_of») (now «col_of») × Scratch (now queue) (now from) (now seen) ⌝ }
     requires { ⌜ Matrix (now cells) n cols × State (now cells) n cols n (now u) (now w) (now «row_of») (now «col_of») ⌝ }
-    ensures { λ _. ⌜ Settled (now (cells .entry)) n cols n (now (u .entry)) (now (w .entry)) (now («row_of» .exit)) (now («col_of» .exit)) ⌝ }
+    ensures { λ _. ⌜ tab (at (now («col_of» .exit))) n ≡ chosen (cellAt (now (cells .entry)) cols) n cols ⌝ }
 {
     let mut i = 0;
     while i < n {

@@ -7,12 +7,15 @@ use Prim.Native.Nat.{ℕ, zero, suc, _+_, _-_, _*_, _≤_, _<_}
 use native.Mathlib.Nat.{suc-mul, mul-le-mul-right}
 use native.Mathlib.Omega.{arith}
 use lib.Dec.{eqb}
-use lib.ListN.{length, getD, set}
+use lib.ListN.{length, set}
 use borrow.Author.Tests.{eq-eqb, ne-eqb}
 use Rattle.laws.specs.Bools.{same?, less?}
-use Rattle.laws.specs.Sums.{sum, sum-mono, sum-lt}
-use Rattle.assignment_problem.specs.Choice.{cellAt}
-use Rattle.assignment_problem.specs.Insertion.{lift, lift-in, lift-out, Matched, Priced, Tree, Path, Walk, lift-priced, lift-tree, mark, start-matched, start-priced, start-tree, way, walk-start, walk-matched, walk-priced, some-free}
+use Rattle.laws.specs.Sums.{sum, sum-lt}
+use Rattle.assignment_problem.specs.Choice.{IsChoice, total, cellAt}
+use Rattle.assignment_problem.specs.Recursion.{leastTotal, columnOf}
+use Rattle.assignment_problem.specs.Chosen.{chosen-choice, chosen-total, chosen-least}
+use Rattle.assignment_problem.specs.Prices.{tight-least}
+use Rattle.assignment_problem.specs.Insertion.{lift, lift-in, lift-out, Matched, Priced, Tree, Path, Walk, lift-priced, lift-tree, mark, start-matched, start-priced, start-tree, way, walk-start, walk-matched, walk-priced, some-free, matched-choice, priced-tight}
 use Rattle.assignment_problem.specs.Insertion as Step
 use Rattle.hungarian.specs.Lists.{at, big, at-same, at-other, gain, gain-in, gain-out, left, left-in, left-out, Begun, Nearest, RaisedRows, RaisedColumns, FreeColumn, Relaxed, Going, Gone}
 
@@ -446,6 +449,19 @@ prepared {cells} {n} {cols} {i} {f} {u} {w} {ro} {co} di fr se mx li sz st fc cl
         (λ lt. lt)
         (λ ge. absurd (some-free (st .matched) (omega (arith, mx .wide)) (λ j lj. fc .before j (omega arith))))
         (less? f cols)
+
+-- every row has a column: the total is the least
+pub state-least : {cells : List ℕ} {n cols : ℕ} {u w ro co : List ℕ} → n ≤ cols → State cells n cols n u w ro co
+    → total n (cellAt cells cols) (at co) ≡ leastTotal (cellAt cells cols) n cols
+state-least {cells} {n} {cols} {u} {w} {ro} {co} wide st =
+    let c : ℕ → ℕ → ℕ = cellAt cells cols in
+    let ch : IsChoice n cols (at co) = matched-choice (st .matched) in
+    omega (
+      arith,
+      tight-least ch (priced-tight (st .matched) (st .priced)) (st .priced .under) (columnOf c n cols) (chosen-choice c n cols wide),
+      chosen-total c n cols wide,
+      chosen-least c n cols wide (at co) ch,
+    )
 
 -- no row has a column
 pub state-none : (cells : List ℕ) (n cols : ℕ) (u w ro co : List ℕ) → ((j : ℕ) → j < cols → (at ro j ≡ n) × (at w j ≡ 0)) → State cells n cols 0 u w ro co

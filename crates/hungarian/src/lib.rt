@@ -1,8 +1,16 @@
 // The least total by the Hungarian method: rows are put in one by one, each by an augmenting path in the equality graph, with prices.
+//
+// There are n rows, at most 32, and cols columns, at most 64; column cols is the stand, for the row that has no column yet.
+//   u, w             the price of each row, the discount of each column: u[r] is at most its cell and w[j] together
+//   row_of, col_of   the row of each column, n where it is free, and the column of each row
+//   seen             the turn at which a column joined the alternating tree, 0 outside it; the stand is the root, with turn 1
+//   dist, from       the distance of each column from the root, and the tree column whose row it is reached from
+// The prices of the tree are raised once, when it reaches a free column.
 ghost use mathlib.Core.Path.{_≡_};
 ghost use Prim.Native.Nat.{ℕ, _+_, _*_, _-_, _^_, _<_, _≤_};
 ghost use lib.ListN.{length, getD};
-ghost use Rattle.assignment_problem.specs.Choice.{cellAt};
+ghost use Rattle.assignment_problem.specs.Choice.{cellAt, total};
+ghost use Rattle.assignment_problem.specs.Recursion.{leastTotal};
 ghost use Rattle.hungarian.specs.Lists.{at, big, gain, Begun, Nearest, RaisedRows, RaisedColumns, FreeColumn, Relaxed, Put, Going, Gone};
 ghost use Rattle.hungarian.specs.State.{Sizes, Scratch, Matrix, State, Growing, Cleared, Joined};
 
@@ -274,7 +282,8 @@ fn insert(
     }
 }
 
-// Every row gets a column.
+// Every row gets a column, and their total is the least. Of least choices it may be any; the prices with which it is tight are named in State,
+// and none is larger than the largest cell.
 pub fn solve(
     cells: &[u64],
     n: usize,
@@ -289,7 +298,8 @@ pub fn solve(
 )
     requires { ⌜ Sizes (now u) (now w) (now «row_of») (now «col_of») × Scratch (now dist) (now from) (now seen) ⌝ }
     requires { ⌜ Matrix (now cells) n cols × ((j : ℕ) → j < cols → (at (now «row_of») j ≡ n) × (at (now w) j ≡ 0)) ⌝ }
-    ensures { λ _. ⌜ State (now (cells .entry)) n cols n (now (u .exit)) (now (w .exit)) (now («row_of» .exit)) (now («col_of» .exit)) ⌝ }
+    ensures prices { λ _. ⌜ State (now (cells .entry)) n cols n (now (u .exit)) (now (w .exit)) (now («row_of» .exit)) (now («col_of» .exit)) ⌝ }
+    ensures least { λ _. ⌜ total n (cellAt (now (cells .entry)) cols) (at (now («col_of» .exit))) ≡ leastTotal (cellAt (now (cells .entry)) cols) n cols ⌝ }
 {
     let mut i = 0;
     while i < n {

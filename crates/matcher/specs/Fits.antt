@@ -1,12 +1,11 @@
 -- When the matcher refuses nothing, and what it then answers: the choice of a matrix that is written row by row. Assumes nothing.
-use mathlib.Core.Path.{_≡_, refl, sym, ap, _∙_}
-use mathlib.Core.Bool.{Bool, true, false, not, _||_, cond, or-true}
+use mathlib.Core.Path.{_≡_, sym, ap, _∙_}
+use mathlib.Core.Bool.{true, false, or-true}
 use mathlib.Core.List.{List, [], _++_, append-nil}
 use mathlib.Core.Logic.{⊎-elim}
 use Prim.Native.Nat.{ℕ, _+_, _*_, _≤_, _<_}
 use native.Mathlib.Nat.{mul-le-mul-right}
 use native.Mathlib.Omega.{arith}
-use lib.Dec.{eqb, ltb}
 use lib.ListN.{length, getD, drop, List·getD-eq-default}
 use borrow.Author.Tests.{eq-eqb, ne-eqb, le-ltb, lt-ltb, ltb-false}
 use Rattle.laws.specs.Bools.{less?}
@@ -16,7 +15,6 @@ use Rattle.assignment_problem.specs.Choice.{cellAt}
 use Rattle.assignment_problem.specs.Recursion.{chosen, leastTotal}
 use Rattle.assignment_problem.specs.Chosen.{chosen-same}
 use Rattle.hungarian.specs.State.{Matrix}
-use Rattle.matcher.specs.declared.Matching.{Matching}
 use Rattle.matcher.specs.declared.Matching.the-variants.{Least, None}
 use Rattle.matcher.specs.Promise.{sentinel, tooLarge, refused, matching, written}
 

@@ -2,10 +2,7 @@
 use borrow.Author.Needs.{needs}
 use Rattle.dispatch_bench.proofs.dispatch_bench_choose.Statement.{statement}
 use Rattle.dispatch_bench.proofs.dispatch_bench_choose.Tie as tie
-use Rattle.dispatch_bench.proofs.dispatch_bench_choose.Reads as reads
-use Rattle.dispatch_bench.proofs.dispatch_bench_choose.Lts as lts
-use Rattle.matcher.proofs.assign.Reads as assign-reads
-use mathlib.Core.Path.{_≡_, sym, ap, _∙_}
+use mathlib.Core.Path.{sym, ap, _∙_}
 use Rattle.matcher.specs.Promise.{numberOf, totalOr}
 
 assign-requires : tie.Need-assign-requires

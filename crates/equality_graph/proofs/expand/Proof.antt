@@ -3,11 +3,8 @@ use borrow.Author.Needs.{needs}
 use native.Mathlib.Omega.{arith}
 use Rattle.equality_graph.proofs.expand.Statement.{statement}
 use Rattle.equality_graph.proofs.expand.Tie as tie
-use Rattle.equality_graph.proofs.expand.Reads as reads
-use Rattle.equality_graph.proofs.expand.Lts as lts
-use Rattle.equality_graph.proofs.visit.Reads as visit-reads
-use Prim.Native.Nat.{ℕ, _+_, _-_, _≤_, _<_}
-use mathlib.Core.Path.{_≡_, refl, sym, _∙_}
+use Prim.Native.Nat.{_-_, _≤_}
+use mathlib.Core.Path.{refl, sym, _∙_}
 use Rattle.hungarian.specs.Lists.{at}
 use Rattle.equality_graph.specs.Settled.{Ready, ready-keep, ExpandingAll, expand-none, expand-step, expand-done}
 

@@ -3,13 +3,8 @@ use borrow.Author.Needs.{needs}
 use native.Mathlib.Omega.{arith}
 use Rattle.equality_graph.proofs.lower.Statement.{statement}
 use Rattle.equality_graph.proofs.lower.Tie as tie
-use Rattle.equality_graph.proofs.lower.Reads as reads
-use Rattle.equality_graph.proofs.lower.Lts as lts
-use Rattle.equality_graph.proofs.reach.Reads as reach-reads
-use Rattle.hungarian.proofs.augment.Reads as augment-reads
-use Rattle.hungarian.proofs.clear.Reads as clear-reads
-use Prim.Native.Nat.{ℕ, _+_, _-_, _≤_, _<_}
-use mathlib.Core.Path.{_≡_, refl, sym, _∙_}
+use Prim.Native.Nat.{ℕ, _-_, _<_}
+use mathlib.Core.Path.{_≡_, sym, _∙_}
 use lib.ListN.{length-set}
 use Rattle.equality_graph.specs.Settled.{Lowering, lower-start, lower-next, lower-stays, lower-going, lower-moved, k-within}
 

@@ -2,12 +2,8 @@
 use borrow.Author.Needs.{needs}
 use Rattle.equality_graph.proofs.may.Statement.{statement}
 use Rattle.equality_graph.proofs.may.Tie as tie
-use Rattle.equality_graph.proofs.may.Reads as reads
-use Rattle.equality_graph.proofs.may.Lts as lts
-use Rattle.hungarian.proofs.cell.Reads as cell-reads
-use Prim.Native.Nat.{ℕ, _+_, _*_, _≤_, _<_}
+use Prim.Native.Nat.{_+_, _*_}
 use native.Mathlib.Omega.{arith}
-use Rattle.hungarian.specs.Lists.{at}
 use Rattle.hungarian.specs.State.{row-in}
 use Rattle.equality_graph.specs.Settled.{may-none, may-row}
 

@@ -1,14 +1,9 @@
 -- equality_graph::reach meets its contract.
-use borrow.Author.Needs.{needs}
 use native.Mathlib.Omega.{arith}
 use Rattle.equality_graph.proofs.reach.Statement.{statement}
 use Rattle.equality_graph.proofs.reach.Tie as tie
-use Rattle.equality_graph.proofs.reach.Reads as reads
-use Rattle.equality_graph.proofs.reach.Lts as lts
-use Rattle.equality_graph.proofs.expand.Reads as expand-reads
-use Rattle.equality_graph.proofs.visit.Reads as visit-reads
-use Prim.Native.Nat.{ℕ, _+_, _-_, _≤_, _<_}
-use mathlib.Core.Path.{_≡_, refl, sym, _∙_}
+use Prim.Native.Nat.{ℕ, _-_, _<_}
+use mathlib.Core.Path.{sym, _∙_}
 use Rattle.hungarian.specs.Lists.{at}
 use Rattle.equality_graph.specs.Settled.{Ready, ready-keep, Reaching, reach-start, reach-step, reach-found, reach-more}
 

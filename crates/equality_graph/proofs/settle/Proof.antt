@@ -1,16 +1,14 @@
 -- equality_graph::settle meets its contract.
-use borrow.Author.Needs.{needs}
 use native.Mathlib.Omega.{arith}
 use Rattle.equality_graph.proofs.settle.Statement.{statement}
 use Rattle.equality_graph.proofs.settle.Tie as tie
-use Rattle.equality_graph.proofs.settle.Reads as reads
-use Rattle.equality_graph.proofs.settle.Lts as lts
-use Rattle.equality_graph.proofs.lower.Reads as lower-reads
-use Prim.Native.Nat.{ℕ, _+_, _-_, _≤_, _<_}
-use mathlib.Core.Path.{_≡_, refl, sym, _∙_, subst}
-use Rattle.hungarian.specs.Lists.{big}
+use Prim.Native.Nat.{ℕ, _-_, _≤_}
+use mathlib.Core.Path.{_≡_, sym, _∙_, subst}
+use Rattle.assignment_problem.specs.Choice.{cellAt}
+use Rattle.assignment_problem.specs.Chosen.{chosen-tab}
+use Rattle.hungarian.specs.Lists.{at, big}
 use Rattle.hungarian.specs.State.{Sizes, Scratch}
-use Rattle.equality_graph.specs.Settled.{Settled, settle-none}
+use Rattle.equality_graph.specs.Settled.{Settled, settle-none, settle-done}
 
 abbrev Inv-loop : tie.InvT-loop
 Inv-loop cells n cols u w row-of₀ col-of₀ queue₀ from₀ seen₀ i₀ row-of col-of queue from seen i = Sizes u w row-of col-of × Scratch queue from seen × (i ≤ n) × Settled cells n cols i u w row-of col-of
@@ -66,7 +64,8 @@ returns c =
     let a = c .before in
     let s = c .before .before .before .before .before .before .before .before .before .before in
     let e : a .loop .i ≡ s .args .n = omega (arith, a .loop .inv .2, c .loop-test .left) in
-    subst (λ (z : ℕ). Settled (s .args .cells .now) (s .args .n) (s .args .cols) z (s .args .u .now) (s .args .w .now) (a .loop .row-of) (a .loop .col-of)) e (a .loop .inv .3)
+    let st = subst (λ (z : ℕ). Settled (s .args .cells .now) (s .args .n) (s .args .cols) z (s .args .u .now) (s .args .w .now) (a .loop .row-of) (a .loop .col-of)) e (a .loop .inv .3) in
+    chosen-tab (cellAt (s .args .cells .now) (s .args .cols)) (s .args .n) (s .args .cols) (s .pre .1 .0 .wide) (at (a .loop .col-of)) (settle-done st)
 
 pub settle-spec : {M : Type 1} → statement M
 settle-spec =

@@ -2,12 +2,7 @@
 use borrow.Author.Needs.{needs}
 use Rattle.equality_graph.proofs.visit.Statement.{statement}
 use Rattle.equality_graph.proofs.visit.Tie as tie
-use Rattle.equality_graph.proofs.visit.Reads as reads
-use Rattle.equality_graph.proofs.visit.Lts as lts
-use Rattle.equality_graph.proofs.may.Reads as may-reads
-use Prim.Native.Nat.{ℕ, _+_, _*_, _≤_, _<_}
 use native.Mathlib.Omega.{arith}
-use Rattle.hungarian.specs.Lists.{at}
 use Rattle.equality_graph.specs.Settled.{visit-push, visit-keep, push-space}
 
 mul-if1 : tie.Need-mul-if1

@@ -1,14 +1,10 @@
 -- hungarian::augment meets its contract.
 use Rattle.hungarian.proofs.augment.Statement.{statement}
 use Rattle.hungarian.proofs.augment.Tie as tie
-use Rattle.hungarian.proofs.augment.Reads as reads
-use Rattle.hungarian.proofs.augment.Lts as lts
-use Rattle.hungarian.proofs.put.Reads as put-reads
 use Prim.Native.Nat.{ℕ, _≤_, _<_}
 use mathlib.Core.List.{List}
 use mathlib.Core.Logic.{⊎-elim}
-use mathlib.Core.Path.{_≡_, refl, sym, ap, _∙_}
-use borrow.Author.Needs.{needs}
+use mathlib.Core.Path.{_≡_, ap, _∙_}
 use native.Mathlib.Omega.{arith}
 use lib.ListN.{length, length-set, set}
 use Rattle.laws.specs.Bools.{same?}

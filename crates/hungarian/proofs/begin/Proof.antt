@@ -1,15 +1,11 @@
 -- hungarian::begin meets its contract.
-use borrow.Author.Needs.{needs}
 use native.Mathlib.Omega.{arith}
 use Rattle.hungarian.proofs.begin.Statement.{statement}
 use Rattle.hungarian.proofs.begin.Tie as tie
-use Rattle.hungarian.proofs.begin.Reads as reads
-use Rattle.hungarian.proofs.begin.Lts as lts
-use Rattle.hungarian.proofs.cell.Reads as cell-reads
 use Prim.Native.Nat.{ℕ, _+_, _-_, _*_, _≤_, _<_}
-use mathlib.Core.Path.{_≡_, refl, sym, ap, _∙_}
-use lib.ListN.{length, length-set, set}
-use Rattle.hungarian.specs.Lists.{at, big, at-same, at-other, below-set}
+use mathlib.Core.Path.{_≡_, refl, _∙_}
+use lib.ListN.{length, length-set}
+use Rattle.hungarian.specs.Lists.{at, at-same, at-other, below-set}
 
 abbrev Inv-loop : tie.InvT-loop
 Inv-loop cells cols i w dist₀ from₀ j₀ dist from j =

@@ -1,11 +1,8 @@
+-- hungarian::free_column meets its contract.
 use Rattle.hungarian.proofs.free_column.Statement.{statement}
 use Rattle.hungarian.proofs.free_column.Tie as tie
-use Rattle.hungarian.proofs.free_column.Reads as reads
-use Rattle.hungarian.proofs.free_column.Lts as lts
 use Prim.Native.Nat.{ℕ, _≤_, _<_, _-_}
-use mathlib.Core.Path.{_≡_}
 use borrow.Author.Count.{below-more}
-use borrow.Author.Needs.{needs}
 use native.Mathlib.Omega.{arith}
 use Rattle.hungarian.specs.Lists.{at}
 
@@ -15,35 +12,27 @@ Inv-loop row-of n cols j₀ j = (j ≤ cols) × ((k : ℕ) → k < j → at row-
 abbrev μ-loop : tie.MeasureT-loop
 μ-loop row-of n cols j₀ j = cols - j
 
--- src/lib.rt:23:5
 loop-holds : tie.Need-loop-holds Inv-loop μ-loop
 loop-holds c = (omega arith, λ k l. absurd (omega arith))
 
--- src/lib.rt:24:17
 mul-if1 : tie.Need-mul-if1 Inv-loop μ-loop
 mul-if1 c = omega arith
 
--- src/lib.rt:24:17
 shared-slice-read-if1 : tie.Need-shared-slice-read-if1 Inv-loop μ-loop
 shared-slice-read-if1 c = omega arith
 
--- src/lib.rt:25:13
 returns : tie.Need-returns Inv-loop μ-loop
 returns c = record { within = omega arith; before = c .before .before .before .loop .inv .1; here = λ l. omega arith }
 
--- src/lib.rt:27:9
 add-j : tie.Need-add-j Inv-loop μ-loop
 add-j c = omega arith
 
--- src/lib.rt:23:5
 loop-less : tie.Need-loop-less Inv-loop μ-loop
 loop-less c = omega arith
 
--- src/lib.rt:23:5
 loop-again : tie.Need-loop-again Inv-loop μ-loop
 loop-again c = (omega arith, below-more _ _ (c .before .before .before .loop .inv .1) (omega arith))
 
--- src/lib.rt:17:1
 returns-2 : tie.Need-returns-2 Inv-loop μ-loop
 returns-2 c = record { within = omega arith; before = c .before .loop .inv .1; here = λ l. omega arith }
 

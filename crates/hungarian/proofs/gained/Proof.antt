@@ -1,14 +1,9 @@
 -- hungarian::gained meets its contract.
-use borrow.Author.Needs.{needs}
 use native.Mathlib.Omega.{arith}
 use Rattle.hungarian.proofs.gained.Statement.{statement}
 use Rattle.hungarian.proofs.gained.Tie as tie
-use Rattle.hungarian.proofs.gained.Reads as reads
-use Rattle.hungarian.proofs.gained.Lts as lts
-use Prim.Native.Nat.{ℕ, _+_, _-_, _*_, _≤_, _<_}
-use mathlib.Core.Path.{_≡_, refl, sym, ap, _∙_}
-use lib.ListN.{length, length-set, set}
-use Rattle.hungarian.specs.Lists.{at, big, gain-in, gain-out}
+use mathlib.Core.Path.{sym}
+use Rattle.hungarian.specs.Lists.{gain-in, gain-out}
 
 returns : tie.Need-returns
 returns c = sym (gain-out (c .before .args .s) (c .before .args .d) (c .before .args .k) (c .if1 .taken))

@@ -3,14 +3,6 @@ use borrow.Author.Needs.{needs}
 use native.Mathlib.Omega.{arith}
 use Rattle.hungarian.proofs.insert.Statement.{statement}
 use Rattle.hungarian.proofs.insert.Tie as tie
-use Rattle.hungarian.proofs.insert.Reads as reads
-use Rattle.hungarian.proofs.insert.Lts as lts
-use Rattle.hungarian.proofs.augment.Reads as augment-reads
-use Rattle.hungarian.proofs.join.Reads as join-reads
-use Rattle.hungarian.proofs.nearest.Reads as nearest-reads
-use Rattle.hungarian.proofs.prepare.Reads as prepare-reads
-use Rattle.hungarian.proofs.raise_columns.Reads as raise-columns-reads
-use Rattle.hungarian.proofs.raise_rows.Reads as raise-rows-reads
 use Prim.Native.Nat.{ℕ, _+_, _≤_, _<_}
 use mathlib.Core.Path.{_≡_, refl, sym, _∙_}
 use mathlib.Core.List.{List}
@@ -25,6 +17,10 @@ Inv-loop cells n cols i u₀ w₀ row-of₀ col-of₀ dist₀ from₀ seen₀ f 
 
 abbrev μ-loop : tie.MeasureT-loop
 μ-loop cells n cols i u₀ w₀ row-of₀ col-of₀ dist₀ from₀ seen₀ f t₀ u w row-of col-of dist from seen t = unseen cols seen
+
+-- the function's entry, from the loop's head
+abbrev start : tie.At-loop Inv-loop μ-loop → tie.Start Inv-loop μ-loop
+start a = a .before .before .before .before .before .before .before .before .before .before .before .before .before .before .before .before .before .before .before .before .before .before .before .before .before .before .before .before .before
 
 prepare-requires : tie.Need-prepare-requires Inv-loop μ-loop
 prepare-requires c κs = search needs
@@ -43,7 +39,7 @@ loop-holds c =
 nearest-requires : tie.Need-nearest-requires Inv-loop μ-loop
 nearest-requires c κs =
     let a = c .before .before in
-    let s = a .before .before .before .before .before .before .before .before .before .before .before .before .before .before .before .before .before .before .before .before .before .before .before .before .before .before .before .before .before in
+    let s = start a in
     let mx = s .pre .1 .0 in
     let iv = a .loop .inv in
     ((iv .1 .se65, iv .1 .di65), (mx .cols64, iv .2 .growing .below, f-unseen mx (s .pre .1 .1) (iv .2 .growing)))
@@ -52,7 +48,7 @@ mul-d : tie.Need-mul-d Inv-loop μ-loop
 mul-d c =
     let n = c in
     let a = n .before .before .before in
-    let s = n .before .before .before .before .before .before .before .before .before .before .before .before .before .before .before .before .before .before .before .before .before .before .before .before .before .before .before .before .before .before .before .before in
+    let s = start a in
     let mx = s .pre .1 .0 in
     let li = s .pre .1 .1 in
     let iv = a .loop .inv in
@@ -64,7 +60,7 @@ slice-read-d : tie.Need-slice-read-d Inv-loop μ-loop
 slice-read-d c =
     let n = c .before in
     let a = n .before .before .before in
-    let s = n .before .before .before .before .before .before .before .before .before .before .before .before .before .before .before .before .before .before .before .before .before .before .before .before .before .before .before .before .before .before .before .before in
+    let s = start a in
     let mx = s .pre .1 .0 in
     let li = s .pre .1 .1 in
     let iv = a .loop .inv in
@@ -76,7 +72,7 @@ add-t : tie.Need-add-t Inv-loop μ-loop
 add-t c =
     let n = c .before in
     let a = n .before .before .before in
-    let s = n .before .before .before .before .before .before .before .before .before .before .before .before .before .before .before .before .before .before .before .before .before .before .before .before .before .before .before .before .before .before .before .before in
+    let s = start a in
     let mx = s .pre .1 .0 in
     let li = s .pre .1 .1 in
     let iv = a .loop .inv in
@@ -88,7 +84,7 @@ mul-r : tie.Need-mul-r Inv-loop μ-loop
 mul-r c =
     let n = c .before in
     let a = n .before .before .before in
-    let s = n .before .before .before .before .before .before .before .before .before .before .before .before .before .before .before .before .before .before .before .before .before .before .before .before .before .before .before .before .before .before .before .before in
+    let s = start a in
     let mx = s .pre .1 .0 in
     let li = s .pre .1 .1 in
     let iv = a .loop .inv in
@@ -100,7 +96,7 @@ slice-read-r : tie.Need-slice-read-r Inv-loop μ-loop
 slice-read-r c =
     let n = c .before .before in
     let a = n .before .before .before in
-    let s = n .before .before .before .before .before .before .before .before .before .before .before .before .before .before .before .before .before .before .before .before .before .before .before .before .before .before .before .before .before .before .before .before in
+    let s = start a in
     let mx = s .pre .1 .0 in
     let li = s .pre .1 .1 in
     let iv = a .loop .inv in
@@ -112,7 +108,7 @@ mul-seen : tie.Need-mul-seen Inv-loop μ-loop
 mul-seen c =
     let n = c .before .before .before in
     let a = n .before .before .before in
-    let s = n .before .before .before .before .before .before .before .before .before .before .before .before .before .before .before .before .before .before .before .before .before .before .before .before .before .before .before .before .before .before .before .before in
+    let s = start a in
     let mx = s .pre .1 .0 in
     let li = s .pre .1 .1 in
     let iv = a .loop .inv in
@@ -124,7 +120,7 @@ slice-write-seen : tie.Need-slice-write-seen Inv-loop μ-loop
 slice-write-seen c =
     let n = c .before .before .before in
     let a = n .before .before .before in
-    let s = n .before .before .before .before .before .before .before .before .before .before .before .before .before .before .before .before .before .before .before .before .before .before .before .before .before .before .before .before .before .before .before .before in
+    let s = start a in
     let mx = s .pre .1 .0 in
     let li = s .pre .1 .1 in
     let iv = a .loop .inv in
@@ -136,7 +132,7 @@ add-raise-rows : tie.Need-add-raise-rows Inv-loop μ-loop
 add-raise-rows c =
     let n = c .before .before .before .before .before .before .before in
     let a = n .before .before .before in
-    let s = n .before .before .before .before .before .before .before .before .before .before .before .before .before .before .before .before .before .before .before .before .before .before .before .before .before .before .before .before .before .before .before .before in
+    let s = start a in
     let mx = s .pre .1 .0 in
     let li = s .pre .1 .1 in
     omega (arith, li, mx .rows32)
@@ -145,7 +141,7 @@ raise-rows-requires : tie.Need-raise-rows-requires Inv-loop μ-loop
 raise-rows-requires c κs =
     let n = c .before .before .before .before .before .before .before in
     let a = n .before .before .before in
-    let s = n .before .before .before .before .before .before .before .before .before .before .before .before .before .before .before .before .before .before .before .before .before .before .before .before .before .before .before .before .before .before .before .before in
+    let s = start a in
     let mx = s .pre .1 .0 in
     let li = s .pre .1 .1 in
     let iv = a .loop .inv in
@@ -171,7 +167,7 @@ raise-columns-requires : tie.Need-raise-columns-requires Inv-loop μ-loop
 raise-columns-requires c κs =
     let n = c .before .before .before .before .before .before .before .before .before .before .before .before .before in
     let a = n .before .before .before in
-    let s = n .before .before .before .before .before .before .before .before .before .before .before .before .before .before .before .before .before .before .before .before .before .before .before .before .before .before .before .before .before .before .before .before in
+    let s = start a in
     let mx = s .pre .1 .0 in
     let li = s .pre .1 .1 in
     let iv = a .loop .inv in
@@ -194,7 +190,7 @@ augment-requires : tie.Need-augment-requires Inv-loop μ-loop
 augment-requires c κs =
     let n = c .before .before .before .before .before .before .before .before .before .before .before .before .before .before .before .before .before .before .before .before in
     let a = n .before .before .before in
-    let s = n .before .before .before .before .before .before .before .before .before .before .before .before .before .before .before .before .before .before .before .before .before .before .before .before .before .before .before .before .before .before .before .before in
+    let s = start a in
     let mx = s .pre .1 .0 in
     let li = s .pre .1 .1 in
     let iv = a .loop .inv in
@@ -217,7 +213,7 @@ same-length : tie.Need-same-length Inv-loop μ-loop
 same-length c =
     let n = c .before .before .before .before .before .before .before .before .before .before .before .before .before .before .before .before .before .before .before .before .before .before .before .before .before in
     let a = n .before .before .before in
-    let s = n .before .before .before .before .before .before .before .before .before .before .before .before .before .before .before .before .before .before .before .before .before .before .before .before .before .before .before .before .before .before .before .before in
+    let s = start a in
     let iv = a .loop .inv in
     c .before .before .before .before .before .before .before .before .before .before .before .before .before .before .before .before .before .raise-rows .kept .1 .1 .1 .0 ∙ iv .0 .u32 ∙ sym (s .pre .0 .0 .u32)
 
@@ -225,7 +221,7 @@ same-length-2 : tie.Need-same-length-2 Inv-loop μ-loop
 same-length-2 c =
     let n = c .before .before .before .before .before .before .before .before .before .before .before .before .before .before .before .before .before .before .before .before .before .before .before .before .before in
     let a = n .before .before .before in
-    let s = n .before .before .before .before .before .before .before .before .before .before .before .before .before .before .before .before .before .before .before .before .before .before .before .before .before .before .before .before .before .before .before .before in
+    let s = start a in
     let iv = a .loop .inv in
     c .before .before .before .before .before .before .before .before .before .before .before .raise-columns .kept .1 .1 .0 ∙ iv .0 .w65 ∙ sym (s .pre .0 .0 .w65)
 
@@ -233,7 +229,7 @@ same-length-3 : tie.Need-same-length-3 Inv-loop μ-loop
 same-length-3 c =
     let n = c .before .before .before .before .before .before .before .before .before .before .before .before .before .before .before .before .before .before .before .before .before .before .before .before .before in
     let a = n .before .before .before in
-    let s = n .before .before .before .before .before .before .before .before .before .before .before .before .before .before .before .before .before .before .before .before .before .before .before .before .before .before .before .before .before .before .before .before in
+    let s = start a in
     let iv = a .loop .inv in
     c .before .before .before .before .augment .kept .0 ∙ iv .0 .ro65 ∙ sym (s .pre .0 .0 .ro65)
 
@@ -241,7 +237,7 @@ same-length-4 : tie.Need-same-length-4 Inv-loop μ-loop
 same-length-4 c =
     let n = c .before .before .before .before .before .before .before .before .before .before .before .before .before .before .before .before .before .before .before .before .before .before .before .before .before in
     let a = n .before .before .before in
-    let s = n .before .before .before .before .before .before .before .before .before .before .before .before .before .before .before .before .before .before .before .before .before .before .before .before .before .before .before .before .before .before .before .before in
+    let s = start a in
     let iv = a .loop .inv in
     c .before .before .before .before .augment .kept .1 .0 ∙ iv .0 .co32 ∙ sym (s .pre .0 .0 .co32)
 
@@ -249,7 +245,7 @@ same-length-5 : tie.Need-same-length-5 Inv-loop μ-loop
 same-length-5 c =
     let n = c .before .before .before .before .before .before .before .before .before .before .before .before .before .before .before .before .before .before .before .before .before .before .before .before .before in
     let a = n .before .before .before in
-    let s = n .before .before .before .before .before .before .before .before .before .before .before .before .before .before .before .before .before .before .before .before .before .before .before .before .before .before .before .before .before .before .before .before in
+    let s = start a in
     let iv = a .loop .inv in
     iv .1 .di65 ∙ sym (s .pre .0 .1 .di65)
 
@@ -257,7 +253,7 @@ same-length-6 : tie.Need-same-length-6 Inv-loop μ-loop
 same-length-6 c =
     let n = c .before .before .before .before .before .before .before .before .before .before .before .before .before .before .before .before .before .before .before .before .before .before .before .before .before in
     let a = n .before .before .before in
-    let s = n .before .before .before .before .before .before .before .before .before .before .before .before .before .before .before .before .before .before .before .before .before .before .before .before .before .before .before .before .before .before .before .before in
+    let s = start a in
     let iv = a .loop .inv in
     iv .1 .fr65 ∙ sym (s .pre .0 .1 .fr65)
 
@@ -265,7 +261,7 @@ same-length-7 : tie.Need-same-length-7 Inv-loop μ-loop
 same-length-7 c =
     let n = c .before .before .before .before .before .before .before .before .before .before .before .before .before .before .before .before .before .before .before .before .before .before .before .before .before in
     let a = n .before .before .before in
-    let s = n .before .before .before .before .before .before .before .before .before .before .before .before .before .before .before .before .before .before .before .before .before .before .before .before .before .before .before .before .before .before .before .before in
+    let s = start a in
     let iv = a .loop .inv in
     simp length-set (iv .1 .se65 ∙ sym (s .pre .0 .1 .se65))
 
@@ -273,7 +269,7 @@ returns : tie.Need-returns Inv-loop μ-loop
 returns c =
     let n = c .before .before .before .before .before .before .before .before .before .before .before .before .before .before .before .before .before .before .before .before .before .before .before .before .before in
     let a = n .before .before .before in
-    let s = n .before .before .before .before .before .before .before .before .before .before .before .before .before .before .before .before .before .before .before .before .before .before .before .before .before .before .before .before .before .before .before .before in
+    let s = start a in
     let mx = s .pre .1 .0 in
     let li = s .pre .1 .1 in
     let iv = a .loop .inv in
@@ -295,7 +291,7 @@ mul-join : tie.Need-mul-join Inv-loop μ-loop
 mul-join c =
     let n = c .before .before .before in
     let a = n .before .before .before in
-    let s = n .before .before .before .before .before .before .before .before .before .before .before .before .before .before .before .before .before .before .before .before .before .before .before .before .before .before .before .before .before .before .before .before in
+    let s = start a in
     let mx = s .pre .1 .0 in
     omega (arith, c .if1 .left, mx .rows32)
 
@@ -303,7 +299,7 @@ slice-read-join : tie.Need-slice-read-join Inv-loop μ-loop
 slice-read-join c =
     let n = c .before .before .before .before in
     let a = n .before .before .before in
-    let s = n .before .before .before .before .before .before .before .before .before .before .before .before .before .before .before .before .before .before .before .before .before .before .before .before .before .before .before .before .before .before .before .before in
+    let s = start a in
     let mx = s .pre .1 .0 in
     let iv = a .loop .inv in
     omega (arith, c .before .if1 .left, mx .rows32, iv .0 .u32)
@@ -312,7 +308,7 @@ join-requires : tie.Need-join-requires Inv-loop μ-loop
 join-requires c κs =
     let n = c .before .before .before .before .before .before .before .before in
     let a = n .before .before .before in
-    let s = n .before .before .before .before .before .before .before .before .before .before .before .before .before .before .before .before .before .before .before .before .before .before .before .before .before .before .before .before .before .before .before .before in
+    let s = start a in
     let mx = s .pre .1 .0 in
     let li = s .pre .1 .1 in
     let iv = a .loop .inv in
@@ -334,7 +330,7 @@ loop-less : tie.Need-loop-less Inv-loop μ-loop
 loop-less c =
     let n = c .before .before .before .before .before .before .before .before .before .before .before .before .before .before .before in
     let a = n .before .before .before in
-    let s = n .before .before .before .before .before .before .before .before .before .before .before .before .before .before .before .before .before .before .before .before .before .before .before .before .before .before .before .before .before .before .before .before in
+    let s = start a in
     let near = n .nearest .ensures in
     let j = n .nearest .result in
     let v = c .before .before .before .before .before .before .join in
@@ -344,7 +340,7 @@ loop-again : tie.Need-loop-again Inv-loop μ-loop
 loop-again c =
     let n = c .before .before .before .before .before .before .before .before .before .before .before .before .before .before .before in
     let a = n .before .before .before in
-    let s = n .before .before .before .before .before .before .before .before .before .before .before .before .before .before .before .before .before .before .before .before .before .before .before .before .before .before .before .before .before .before .before .before in
+    let s = start a in
     let mx = s .pre .1 .0 in
     let li = s .pre .1 .1 in
     let iv = a .loop .inv in

@@ -2,11 +2,8 @@
 use borrow.Author.Needs.{needs}
 use Rattle.hungarian.proofs.join.Statement.{statement}
 use Rattle.hungarian.proofs.join.Tie as tie
-use Rattle.hungarian.proofs.join.Reads as reads
-use Rattle.hungarian.proofs.join.Lts as lts
-use Rattle.hungarian.proofs.relax.Reads as relax-reads
-use Prim.Native.Nat.{ℕ, _≤_, _<_}
-use mathlib.Core.Path.{_≡_, refl, sym, ap, _∙_}
+use Prim.Native.Nat.{ℕ}
+use mathlib.Core.Path.{_≡_, sym, ap, _∙_}
 use mathlib.Core.Logic.{⊎-elim}
 use native.Mathlib.Omega.{arith}
 use lib.ListN.{length-set, set}

@@ -1,18 +1,11 @@
+-- hungarian::nearest meets its contract.
 use Rattle.hungarian.proofs.nearest.Statement.{statement}
 use Rattle.hungarian.proofs.nearest.Tie as tie
-use Rattle.hungarian.proofs.nearest.Reads as reads
-use Rattle.hungarian.proofs.nearest.Lts as lts
-use Prim.Native.Nat.{ℕ, suc, _≤_, _<_, _-_, _+_, _*_}
-use mathlib.Core.Path.{_≡_, refl, sym, ap, _∙_}
+use Prim.Native.Nat.{ℕ, _≤_, _<_, _-_}
+use mathlib.Core.Path.{_≡_}
 use mathlib.Core.Logic.{⊎-elim}
-use borrow.Author.Count.{below-more}
-use borrow.Author.Needs.{needs}
 use native.Mathlib.Omega.{arith}
-use native.Mathlib.Numerals.{add-one}
-use lib.ListN.{length, length-set, set}
-use Rattle.hungarian.specs.Lists.{at, big, at-same, at-other, below-set, beyond-set, below-keep}
-use Rattle.assignment_problem.specs.Insertion.{lift, lift-in, lift-out, Relaxed}
-use mathlib.Core.List.{List}
+use Rattle.hungarian.specs.Lists.{at, below-keep}
 
 abbrev Inv-loop : tie.InvT-loop
 Inv-loop seen dist cols f best₀ j₀ best j =
@@ -22,43 +15,33 @@ Inv-loop seen dist cols f best₀ j₀ best j =
 abbrev μ-loop : tie.MeasureT-loop
 μ-loop seen dist cols f best₀ j₀ best j = cols - j
 
--- src/lib.rt:56:5
 loop-holds : tie.Need-loop-holds Inv-loop μ-loop
 loop-holds c = (omega arith, omega arith, c .pre .1 .2, (λ k l. absurd (omega arith)))
 
--- src/lib.rt:57:12
 mul-if1 : tie.Need-mul-if1 Inv-loop μ-loop
 mul-if1 c = omega arith
 
--- src/lib.rt:57:12
 shared-slice-read-if1 : tie.Need-shared-slice-read-if1 Inv-loop μ-loop
 shared-slice-read-if1 c = omega arith
 
--- src/lib.rt:58:16
 mul-if2 : tie.Need-mul-if2 Inv-loop μ-loop
 mul-if2 c = omega arith
 
--- src/lib.rt:58:16
 shared-slice-read-if2 : tie.Need-shared-slice-read-if2 Inv-loop μ-loop
 shared-slice-read-if2 c = omega arith
 
--- src/lib.rt:58:27
 mul-if2-2 : tie.Need-mul-if2-2 Inv-loop μ-loop
 mul-if2-2 c = omega arith
 
--- src/lib.rt:58:27
 shared-slice-read-if2-2 : tie.Need-shared-slice-read-if2-2 Inv-loop μ-loop
 shared-slice-read-if2-2 c = omega arith
 
--- src/lib.rt:62:9
 add-j : tie.Need-add-j Inv-loop μ-loop
 add-j c = omega arith
 
--- src/lib.rt:56:5
 loop-less : tie.Need-loop-less Inv-loop μ-loop
 loop-less c = omega arith
 
--- src/lib.rt:56:5
 loop-again : tie.Need-loop-again Inv-loop μ-loop
 loop-again c =
     let a = c .before .before .before in
@@ -90,7 +73,6 @@ loop-again c =
     y)
     (c .if1 .came)
 
--- src/lib.rt:49:1
 returns : tie.Need-returns Inv-loop μ-loop
 returns c = record { below = omega arith; outside = c .before .loop .inv .2; least = λ k l s. c .before .loop .inv .3 k (omega arith) s }
 

@@ -1,15 +1,11 @@
 -- hungarian::raise_columns meets its contract.
-use borrow.Author.Needs.{needs}
 use native.Mathlib.Omega.{arith}
 use Rattle.hungarian.proofs.raise_columns.Statement.{statement}
 use Rattle.hungarian.proofs.raise_columns.Tie as tie
-use Rattle.hungarian.proofs.raise_columns.Reads as reads
-use Rattle.hungarian.proofs.raise_columns.Lts as lts
-use Rattle.hungarian.proofs.gained.Reads as gained-reads
-use Prim.Native.Nat.{ℕ, _+_, _-_, _*_, _≤_, _<_}
-use mathlib.Core.Path.{_≡_, refl, sym, ap, _∙_}
-use lib.ListN.{length, length-set, set}
-use Rattle.hungarian.specs.Lists.{at, big, gain, gain-le, below-set, beyond-set}
+use Prim.Native.Nat.{ℕ, _+_, _-_, _≤_, _<_}
+use mathlib.Core.Path.{_≡_, refl}
+use lib.ListN.{length, length-set}
+use Rattle.hungarian.specs.Lists.{at, gain, gain-le, below-set, beyond-set}
 
 abbrev Inv-loop : tie.InvT-loop
 Inv-loop seen dist w₀ cols d j₀ w j =

@@ -1,15 +1,11 @@
 -- hungarian::raise_rows meets its contract.
-use borrow.Author.Needs.{needs}
 use native.Mathlib.Omega.{arith}
 use Rattle.hungarian.proofs.raise_rows.Statement.{statement}
 use Rattle.hungarian.proofs.raise_rows.Tie as tie
-use Rattle.hungarian.proofs.raise_rows.Reads as reads
-use Rattle.hungarian.proofs.raise_rows.Lts as lts
-use Rattle.hungarian.proofs.gained.Reads as gained-reads
-use Prim.Native.Nat.{ℕ, _+_, _-_, _*_, _≤_, _<_}
-use mathlib.Core.Path.{_≡_, refl, sym, ap, _∙_}
-use lib.ListN.{length, length-set, set}
-use Rattle.hungarian.specs.Lists.{at, big, gain, gain-le, below-set, beyond-set}
+use Prim.Native.Nat.{ℕ, _+_, _-_, _≤_, _<_}
+use mathlib.Core.Path.{_≡_, refl}
+use lib.ListN.{length, length-set}
+use Rattle.hungarian.specs.Lists.{at, gain, gain-le, below-set, beyond-set}
 
 abbrev Inv-loop : tie.InvT-loop
 Inv-loop seen col-of dist u₀ rows d r₀ u r =

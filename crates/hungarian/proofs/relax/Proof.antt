@@ -1,16 +1,10 @@
 -- hungarian::relax meets its contract.
 use Rattle.hungarian.proofs.relax.Statement.{statement}
 use Rattle.hungarian.proofs.relax.Tie as tie
-use Rattle.hungarian.proofs.relax.Reads as reads
-use Rattle.hungarian.proofs.relax.Lts as lts
-use Rattle.hungarian.proofs.cell.Reads as cell-reads
-use Prim.Native.Nat.{ℕ, suc, _≤_, _<_, _-_, _+_, _*_}
+use Prim.Native.Nat.{ℕ, _≤_, _<_, _-_, _+_, _*_}
 use mathlib.Core.Path.{_≡_, refl, sym, ap, _∙_}
 use mathlib.Core.Logic.{⊎-elim}
-use borrow.Author.Count.{below-more}
-use borrow.Author.Needs.{needs}
 use native.Mathlib.Omega.{arith}
-use native.Mathlib.Numerals.{add-one}
 use lib.ListN.{length, length-set, set}
 use Rattle.hungarian.specs.Lists.{at, big, at-same, at-other, Lowered}
 use mathlib.Core.List.{List}

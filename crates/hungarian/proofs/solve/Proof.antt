@@ -1,21 +1,10 @@
+-- hungarian::solve meets its contract.
 use Rattle.hungarian.proofs.solve.Statement.{statement}
 use Rattle.hungarian.proofs.solve.Tie as tie
-use Rattle.hungarian.proofs.solve.Reads as reads
-use Rattle.hungarian.proofs.solve.Lts as lts
-use Rattle.hungarian.proofs.insert.Reads as insert-reads
-use Prim.Native.Nat.{ℕ, suc, _≤_, _<_, _-_, _+_, _*_}
-use mathlib.Core.Path.{_≡_, refl, sym, ap, _∙_}
-use mathlib.Core.Logic.{⊎-elim}
-use borrow.Author.Count.{below-more}
-use borrow.Author.Needs.{needs}
+use Prim.Native.Nat.{ℕ, _≤_, _-_}
+use mathlib.Core.Path.{_≡_, sym, _∙_}
 use native.Mathlib.Omega.{arith}
-use native.Mathlib.Numerals.{add-one}
-use lib.ListN.{length, length-set, set}
-use Rattle.hungarian.specs.Lists.{at, big, at-same, at-other, below-set, beyond-set, below-keep}
-use Rattle.assignment_problem.specs.Insertion.{lift, lift-in, lift-out, Relaxed}
-use mathlib.Core.List.{List}
-use Rattle.hungarian.specs.State.{Sizes, Scratch, Matrix, State, state-none}
-use native.Mathlib.Nat.{le-antisymm}
+use Rattle.hungarian.specs.State.{Sizes, Scratch, State, state-none, state-least}
 use mathlib.Core.Path.{subst}
 
 abbrev Inv-loop : tie.InvT-loop
@@ -24,7 +13,6 @@ Inv-loop cells n cols u₀ w₀ row-of₀ col-of₀ dist₀ from₀ seen₀ i₀
 abbrev μ-loop : tie.MeasureT-loop
 μ-loop cells n cols u₀ w₀ row-of₀ col-of₀ dist₀ from₀ seen₀ i₀ u w row-of col-of dist from seen i = n - i
 
--- src/lib.rt:225:5
 loop-holds : tie.Need-loop-holds Inv-loop μ-loop
 loop-holds c =
     let s = c .before .before .before .before .before .before .before .before in (
@@ -34,14 +22,12 @@ loop-holds c =
       state-none (s .args .cells .now) (s .args .n) (s .args .cols) (s .args .u .now) (s .args .w .now) (s .args .row-of .now) (s .args .col-of .now) (s .pre .1 .1),
     )
 
--- src/lib.rt:226:9
 insert-requires : tie.Need-insert-requires Inv-loop μ-loop
 insert-requires c κs =
     let a = c .before .before .before .before .before .before .before .before in
     let s = a .before .before .before .before .before .before .before .before .before in
     ((a .loop .inv .0, a .loop .inv .1), (s .pre .1 .0, c .before .before .before .before .before .before .before .loop-test .taken, a .loop .inv .3))
 
--- src/lib.rt:227:9
 add-i : tie.Need-add-i Inv-loop μ-loop
 add-i c =
     let a = c .before .before .before .before .before .before .before .before .before .before .before .before .before .before .before .before .before .before .before .before .before .before .before in
@@ -49,7 +35,6 @@ add-i c =
     let lt = c .before .before .before .before .before .before .before .before .before .before .before .before .before .before .before .before .before .before .before .before .before .before .loop-test .taken in
     omega (arith, lt, s .pre .1 .0 .rows32)
 
--- src/lib.rt:225:5
 loop-less : tie.Need-loop-less Inv-loop μ-loop
 loop-less c =
     let a = c .before .before .before .before .before .before .before .before .before .before .before .before .before .before .before .before .before .before .before .before .before .before .before in
@@ -57,7 +42,6 @@ loop-less c =
     let lt = c .before .before .before .before .before .before .before .before .before .before .before .before .before .before .before .before .before .before .before .before .before .before .loop-test .taken in
     omega (arith, lt)
 
--- src/lib.rt:225:5
 loop-again : tie.Need-loop-again Inv-loop μ-loop
 loop-again c =
     let a = c .before .before .before .before .before .before .before .before .before .before .before .before .before .before .before .before .before .before .before .before .before .before .before in
@@ -69,62 +53,55 @@ loop-again c =
       c .before .before .before .before .before .before .before .before .before .before .before .before .before .before .insert .ensures,
     )
 
--- src/lib.rt:219:1
 same-length : tie.Need-same-length Inv-loop μ-loop
 same-length c =
     let a = c .before in
     let s = a .before .before .before .before .before .before .before .before .before in
     a .loop .inv .0 .u32 ∙ sym (s .pre .0 .0 .u32)
 
--- src/lib.rt:219:1
 same-length-2 : tie.Need-same-length-2 Inv-loop μ-loop
 same-length-2 c =
     let a = c .before in
     let s = a .before .before .before .before .before .before .before .before .before in
     a .loop .inv .0 .w65 ∙ sym (s .pre .0 .0 .w65)
 
--- src/lib.rt:219:1
 same-length-3 : tie.Need-same-length-3 Inv-loop μ-loop
 same-length-3 c =
     let a = c .before in
     let s = a .before .before .before .before .before .before .before .before .before in
     a .loop .inv .0 .ro65 ∙ sym (s .pre .0 .0 .ro65)
 
--- src/lib.rt:219:1
 same-length-4 : tie.Need-same-length-4 Inv-loop μ-loop
 same-length-4 c =
     let a = c .before in
     let s = a .before .before .before .before .before .before .before .before .before in
     a .loop .inv .0 .co32 ∙ sym (s .pre .0 .0 .co32)
 
--- src/lib.rt:219:1
 same-length-5 : tie.Need-same-length-5 Inv-loop μ-loop
 same-length-5 c =
     let a = c .before in
     let s = a .before .before .before .before .before .before .before .before .before in
     a .loop .inv .1 .di65 ∙ sym (s .pre .0 .1 .di65)
 
--- src/lib.rt:219:1
 same-length-6 : tie.Need-same-length-6 Inv-loop μ-loop
 same-length-6 c =
     let a = c .before in
     let s = a .before .before .before .before .before .before .before .before .before in
     a .loop .inv .1 .fr65 ∙ sym (s .pre .0 .1 .fr65)
 
--- src/lib.rt:219:1
 same-length-7 : tie.Need-same-length-7 Inv-loop μ-loop
 same-length-7 c =
     let a = c .before in
     let s = a .before .before .before .before .before .before .before .before .before in
     a .loop .inv .1 .se65 ∙ sym (s .pre .0 .1 .se65)
 
--- src/lib.rt:219:1
 returns : tie.Need-returns Inv-loop μ-loop
 returns c =
     let a = c .before in
     let s = a .before .before .before .before .before .before .before .before .before in
     let e : a .loop .i ≡ s .args .n = omega (arith, a .loop .inv .2, c .loop-test .left) in
-    subst (λ (x : ℕ). State (s .args .cells .now) (s .args .n) (s .args .cols) x (a .loop .u) (a .loop .w) (a .loop .row-of) (a .loop .col-of)) e (a .loop .inv .3)
+    let st = subst (λ (x : ℕ). State (s .args .cells .now) (s .args .n) (s .args .cols) x (a .loop .u) (a .loop .w) (a .loop .row-of) (a .loop .col-of)) e (a .loop .inv .3) in
+    (st, state-least (s .pre .1 .0 .wide) st)
 
 pub solve-spec : {M : Type 1} → statement M
 solve-spec =

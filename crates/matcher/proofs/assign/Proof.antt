@@ -2,12 +2,8 @@
 use borrow.Author.Needs.{needs}
 use Rattle.matcher.proofs.assign.Statement.{statement}
 use Rattle.matcher.proofs.assign.Tie as tie
-use Rattle.matcher.proofs.assign.Reads as reads
-use Rattle.matcher.proofs.assign.Lts as lts
-use Rattle.matcher.proofs.choose.Reads as choose-reads
-use Rattle.matcher.proofs.too_large.Reads as too-large-reads
 use native.Mathlib.Omega.{arith}
-use mathlib.Core.Path.{_≡_, refl, sym, _∙_}
+use mathlib.Core.Path.{_≡_, sym, _∙_}
 use mathlib.Core.Bool.{true}
 use lib.ListN.{length}
 use Rattle.matcher.specs.declared.Matching.the-variants.{None}

@@ -2,20 +2,14 @@
 use borrow.Author.Needs.{needs}
 use Rattle.matcher.proofs.choose.Statement.{statement}
 use Rattle.matcher.proofs.choose.Tie as tie
-use Rattle.matcher.proofs.choose.Reads as reads
-use Rattle.matcher.proofs.choose.Lts as lts
-use Rattle.equality_graph.proofs.settle.Reads as settle-reads
-use Rattle.hungarian.proofs.solve.Reads as solve-reads
-use Rattle.matcher.proofs.write.Reads as write-reads
-use Prim.Native.Nat.{ℕ, _+_, _≤_, _<_}
+use Prim.Native.Nat.{ℕ, _+_, _<_}
 use native.Mathlib.Omega.{arith}
-use mathlib.Core.Path.{_≡_, refl, sym, ap, _∙_}
+use mathlib.Core.Path.{_≡_, refl, ap, _∙_}
 use mathlib.Core.List.{List, _++_}
 use lib.ListN.{drop, getD, replicate, getD-replicate}
 use Rattle.assignment_problem.specs.Choice.{cellAt}
-use Rattle.assignment_problem.specs.Chosen.{chosen-unique, chosen-tab}
 use Rattle.hungarian.specs.Lists.{at}
-use Rattle.equality_graph.specs.Settled.{settle-done}
+use Rattle.assignment_problem.specs.Chosen.{tab-within, tab-total}
 
 slice-aggregate-solve : tie.Need-slice-aggregate-solve
 slice-aggregate-solve c = search needs
@@ -74,7 +68,7 @@ settle-requires c κs =
         record { u32 = c .before .before .before .before .before .before .before .before .before .before .before .before .before .before .solve .kept .1 .1 .1 .0; w65 = c .before .before .before .before .before .before .before .before .before .before .before .before .before .before .solve .kept .1 .1 .1 .1 .0; ro65 = c .before .before .before .before .before .before .before .before .before .before .before .before .before .before .solve .kept .1 .1 .1 .1 .1 .0; co32 = c .before .before .before .before .before .before .before .before .before .before .before .before .before .before .solve .kept .1 .1 .1 .1 .1 .1 .0 },
         record { di65 = refl; fr65 = c .before .before .before .before .before .before .before .before .before .before .before .before .before .before .solve .kept .1 .1 .1 .1 .1 .1 .1 .1 .0; se65 = c .before .before .before .before .before .before .before .before .before .before .before .before .before .before .solve .kept .1 .1 .1 .1 .1 .1 .1 .1 .1 .0 },
       ),
-      (s .pre .0, c .before .before .before .before .before .before .before .before .before .before .before .before .before .before .solve .ensures),
+      (s .pre .0, c .before .before .before .before .before .before .before .before .before .before .before .before .before .before .solve .ensures .0),
     )
 
 slice-aggregate-write : tie.Need-slice-aggregate-write
@@ -83,7 +77,10 @@ slice-aggregate-write c = search needs
 write-requires : tie.Need-write-requires
 write-requires c κs =
     let s = c .before .before .before .before .before .before .before .before .before .before .before .before .before .before .before .before .before .before .before .before .before .before .before .before .before .before .before .before .before .before .before .before in
-    ((s .pre .0, c .before .before .before .before .before .before .before .settle .kept .1 .1 .1 .1 .1 .1 .0 ∙ c .before .before .before .before .before .before .before .before .before .before .before .before .before .before .before .before .before .before .before .before .before .before .solve .kept .1 .1 .1 .1 .1 .1 .0, s .pre .1), c .before .before .before .before .before .before .before .settle .ensures .matched .back)
+    let g = s .args in (
+      (s .pre .0, c .before .before .before .before .before .before .before .settle .kept .1 .1 .1 .1 .1 .1 .0 ∙ c .before .before .before .before .before .before .before .before .before .before .before .before .before .before .before .before .before .before .before .before .before .before .solve .kept .1 .1 .1 .1 .1 .1 .0, s .pre .1),
+      tab-within (cellAt (g .cells .now) (g .cols)) (g .n) (g .cols) (s .pre .0 .wide) (at (c .before .before .before .before .before .before .before .settle .last .1 .1 .1 .1 .1 .1 .0)) (c .before .before .before .before .before .before .before .settle .ensures),
+    )
 
 same-length : tie.Need-same-length
 same-length c = search needs
@@ -92,10 +89,10 @@ returns : tie.Need-returns
 returns c =
     let s = c .before .before .before .before .before .before .before .before .before .before .before .before .before .before .before .before .before .before .before .before .before .before .before .before .before .before .before .before .before .before .before .before .before .before .before in
     let g = s .args in
-    let is = settle-done (c .before .before .before .before .before .before .before .before .before .before .settle .ensures) in
+    let is = c .before .before .before .before .before .before .before .before .before .before .settle .ensures in
     let w = c .before .before .write .ensures in (
-      w .0 ∙ chosen-unique (cellAt (g .cells .now) (g .cols)) (g .n) (g .cols) (s .pre .0 .wide) (at (c .before .before .before .before .before .before .before .before .before .before .settle .last .1 .1 .1 .1 .1 .1 .0)) is .1,
-      w .1 ∙ ap (λ (l : List ℕ). l ++ drop (g .n) (g .places .now)) (chosen-tab (cellAt (g .cells .now) (g .cols)) (g .n) (g .cols) (s .pre .0 .wide) (at (c .before .before .before .before .before .before .before .before .before .before .settle .last .1 .1 .1 .1 .1 .1 .0)) is),
+      w .0 ∙ tab-total (cellAt (g .cells .now) (g .cols)) (g .n) (g .cols) (s .pre .0 .wide) (at (c .before .before .before .before .before .before .before .before .before .before .settle .last .1 .1 .1 .1 .1 .1 .0)) is,
+      w .1 ∙ ap (λ (l : List ℕ). l ++ drop (g .n) (g .places .now)) is,
     )
 
 pub choose-spec : {M : Type 1} → statement M

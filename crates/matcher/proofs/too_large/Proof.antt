@@ -3,11 +3,9 @@ use borrow.Author.Needs.{needs}
 use native.Mathlib.Omega.{arith}
 use Rattle.matcher.proofs.too_large.Statement.{statement}
 use Rattle.matcher.proofs.too_large.Tie as tie
-use Rattle.matcher.proofs.too_large.Reads as reads
-use Rattle.matcher.proofs.too_large.Lts as lts
-use Prim.Native.Nat.{ℕ, _+_, _-_, _≤_, _<_}
-use mathlib.Core.Path.{_≡_, refl, sym}
-use mathlib.Core.Bool.{Bool, true, false}
+use Prim.Native.Nat.{_-_, _≤_}
+use mathlib.Core.Path.{_≡_, sym}
+use mathlib.Core.Bool.{false}
 use borrow.Author.Tests.{lt-ltb, le-ltb}
 use lib.ListN.{length, getD}
 use Rattle.laws.specs.Folds.{any, any-at, any-no, none-any, ended}

@@ -1,13 +1,9 @@
 -- matcher::write meets its contract.
-use borrow.Author.Needs.{needs}
 use native.Mathlib.Omega.{arith}
 use Rattle.matcher.proofs.write.Statement.{statement}
 use Rattle.matcher.proofs.write.Tie as tie
-use Rattle.matcher.proofs.write.Reads as reads
-use Rattle.matcher.proofs.write.Lts as lts
-use Rattle.hungarian.proofs.cell.Reads as cell-reads
-use Prim.Native.Nat.{ℕ, _+_, _-_, _*_, _≤_, _<_}
-use mathlib.Core.Path.{_≡_, refl, sym, _∙_}
+use Prim.Native.Nat.{ℕ, _+_, _-_, _*_, _≤_}
+use mathlib.Core.Path.{_≡_, refl}
 use mathlib.Core.List.{_++_}
 use lib.ListN.{length, drop}
 use Rattle.laws.specs.Folds.{ended}

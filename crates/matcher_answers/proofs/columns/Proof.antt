@@ -1,15 +1,8 @@
 -- matcher_answers::columns meets its contract.
 use borrow.Author.Needs.{needs}
-use native.Mathlib.Omega.{arith}
-use Prim.Native.Nat.{ℕ, _≤_, _<_, _-_}
-use mathlib.Core.Path.{_≡_}
-use lib.ListN.{length}
+use Prim.Native.Nat.{_≤_, _-_}
 use Rattle.matcher_answers.proofs.columns.Statement.{statement}
 use Rattle.matcher_answers.proofs.columns.Tie as tie
-use Rattle.matcher_answers.proofs.columns.Reads as reads
-use Rattle.matcher_answers.proofs.columns.Lts as lts
-use Rattle.matcher_answers.proofs.number.Reads as number-reads
-use Rattle.matcher_answers.proofs.wide.Reads as wide-reads
 
 abbrev Inv-loop : tie.InvT-loop
 Inv-loop places n i₀ t4 i = i ≤ n

@@ -1,15 +1,11 @@
 -- matcher_answers::fill meets its contract.
 use borrow.Author.Needs.{needs}
 use native.Mathlib.Omega.{arith}
-use Prim.Native.Nat.{ℕ, _≤_, _<_, _-_}
+use Prim.Native.Nat.{_≤_, _-_}
 use mathlib.Core.Path.{_≡_}
 use lib.ListN.{length, length-set}
 use Rattle.matcher_answers.proofs.fill.Statement.{statement}
 use Rattle.matcher_answers.proofs.fill.Tie as tie
-use Rattle.matcher_answers.proofs.fill.Reads as reads
-use Rattle.matcher_answers.proofs.fill.Lts as lts
-use Rattle.matcher_answers.proofs.cell.Reads as cell-reads
-use Rattle.matcher_answers.proofs.random.Reads as random-reads
 
 abbrev Inv-loop : tie.InvT-loop
 Inv-loop cells₀ m kind seed s₀ k₀ cells s k = (k ≤ length cells) × (length cells ≡ length cells₀)

@@ -1,14 +1,10 @@
 -- matcher_answers::kinds meets its contract.
 use borrow.Author.Needs.{needs}
-use native.Mathlib.Omega.{arith}
-use Prim.Native.Nat.{ℕ, _≤_, _<_, _-_}
+use Prim.Native.Nat.{_≤_, _-_}
 use mathlib.Core.Path.{_≡_}
 use lib.ListN.{length}
 use Rattle.matcher_answers.proofs.kinds.Statement.{statement}
 use Rattle.matcher_answers.proofs.kinds.Tie as tie
-use Rattle.matcher_answers.proofs.kinds.Reads as reads
-use Rattle.matcher_answers.proofs.kinds.Lts as lts
-use Rattle.matcher_answers.proofs.line.Reads as line-reads
 
 abbrev Inv-loop : tie.InvT-loop
 Inv-loop cells₀ n m kind₀ cells kind = (kind ≤ 7) × (length cells ≡ length cells₀)

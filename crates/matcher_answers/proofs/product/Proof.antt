@@ -4,8 +4,6 @@ use native.Mathlib.Nat.{mul-le-mul}
 use native.Mathlib.Omega.{arith}
 use Rattle.matcher_answers.proofs.product.Statement.{statement}
 use Rattle.matcher_answers.proofs.product.Tie as tie
-use Rattle.matcher_answers.proofs.product.Reads as reads
-use Rattle.matcher_answers.proofs.product.Lts as lts
 
 mul-result : tie.Need-mul-result
 mul-result c = let g = c .before .before .args in omega (arith, mul-le-mul {n₁ = g .a} {m₁ = g .b} {n₂ = 65536} {m₂ = 65536} (omega arith) (omega arith))

@@ -1,16 +1,10 @@
 -- matcher_cases::every_two_by_three meets its contract.
 use borrow.Author.Needs.{needs}
-use native.Mathlib.Omega.{arith}
-use Prim.Native.Nat.{ℕ, _≤_, _<_, _-_}
+use Prim.Native.Nat.{_≤_, _-_}
 use mathlib.Core.Path.{_≡_}
 use lib.ListN.{length}
 use Rattle.matcher_cases.proofs.every_two_by_three.Statement.{statement}
 use Rattle.matcher_cases.proofs.every_two_by_three.Tie as tie
-use Rattle.matcher_cases.proofs.every_two_by_three.Reads as reads
-use Rattle.matcher_cases.proofs.every_two_by_three.Lts as lts
-use Rattle.matcher_cases.proofs.differs.Reads as differs-reads
-use Rattle.matcher_cases.proofs.fill_digits.Reads as fill-digits-reads
-use Rattle.std.proofs.num.wrapping_add_u64.Reads as wrapping-add-u64-reads
 
 abbrev Inv-loop : tie.InvT-loop
 Inv-loop cells₀ differ₀ code₀ cells differ code = (code ≤ 729) × (6 ≡ length cells)

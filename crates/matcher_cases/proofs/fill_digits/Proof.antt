@@ -1,13 +1,11 @@
 -- matcher_cases::fill_digits meets its contract.
 use borrow.Author.Needs.{needs}
-use Prim.Native.Nat.{ℕ, _≤_, _<_, _-_}
+use Prim.Native.Nat.{_≤_, _-_}
 use mathlib.Core.Path.{_≡_}
 use native.Mathlib.Omega.{arith}
 use lib.ListN.{length, length-set}
 use Rattle.matcher_cases.proofs.fill_digits.Statement.{statement}
 use Rattle.matcher_cases.proofs.fill_digits.Tie as tie
-use Rattle.matcher_cases.proofs.fill_digits.Reads as reads
-use Rattle.matcher_cases.proofs.fill_digits.Lts as lts
 
 abbrev Inv-loop : tie.InvT-loop
 Inv-loop cells₀ code rest₀ k₀ cells rest k = (k ≤ length cells) × (length cells ≡ length cells₀)

@@ -1,15 +1,11 @@
 -- matcher_cases::fill_random meets its contract.
 use borrow.Author.Needs.{needs}
-use Prim.Native.Nat.{ℕ, _≤_, _<_, _-_}
+use Prim.Native.Nat.{_≤_, _-_}
 use mathlib.Core.Path.{_≡_}
 use native.Mathlib.Omega.{arith}
 use lib.ListN.{length, length-set}
 use Rattle.matcher_cases.proofs.fill_random.Statement.{statement}
 use Rattle.matcher_cases.proofs.fill_random.Tie as tie
-use Rattle.matcher_cases.proofs.fill_random.Reads as reads
-use Rattle.matcher_cases.proofs.fill_random.Lts as lts
-use Rattle.matcher_cases.proofs.random.Reads as random-reads
-use Rattle.matcher_cases.proofs.some_cell.Reads as some-cell-reads
 
 abbrev Inv-loop : tie.InvT-loop
 Inv-loop cells₀ seed values s₀ k₀ cells s k = (k ≤ length cells) × (length cells ≡ length cells₀)

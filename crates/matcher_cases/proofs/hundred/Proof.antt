@@ -1,16 +1,10 @@
 -- matcher_cases::hundred meets its contract.
 use borrow.Author.Needs.{needs}
-use native.Mathlib.Omega.{arith}
-use Prim.Native.Nat.{ℕ, _≤_, _<_, _-_}
+use Prim.Native.Nat.{_≤_, _-_}
 use mathlib.Core.Path.{_≡_}
 use lib.ListN.{length}
 use Rattle.matcher_cases.proofs.hundred.Statement.{statement}
 use Rattle.matcher_cases.proofs.hundred.Tie as tie
-use Rattle.matcher_cases.proofs.hundred.Reads as reads
-use Rattle.matcher_cases.proofs.hundred.Lts as lts
-use Rattle.matcher_cases.proofs.differs.Reads as differs-reads
-use Rattle.matcher_cases.proofs.fill_random.Reads as fill-random-reads
-use Rattle.std.proofs.num.wrapping_add_u64.Reads as wrapping-add-u64-reads
 
 abbrev Inv-loop : tie.InvT-loop
 Inv-loop cells₀ n m values differ₀ seed₀ cells differ seed = (seed ≤ 101) × (length cells ≡ length cells₀)

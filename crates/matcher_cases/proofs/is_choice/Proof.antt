@@ -1,13 +1,8 @@
 -- matcher_cases::is_choice meets its contract.
 use borrow.Author.Needs.{needs}
-use native.Mathlib.Omega.{arith}
-use Prim.Native.Nat.{ℕ, _≤_, _<_, _-_}
-use lib.ListN.{length}
+use Prim.Native.Nat.{_≤_, _-_}
 use Rattle.matcher_cases.proofs.is_choice.Statement.{statement}
 use Rattle.matcher_cases.proofs.is_choice.Tie as tie
-use Rattle.matcher_cases.proofs.is_choice.Reads as reads
-use Rattle.matcher_cases.proofs.is_choice.Lts as lts
-use Rattle.matcher_cases.proofs.allowed.Reads as allowed-reads
 
 abbrev Inv-loop : tie.InvT-loop
 Inv-loop code n m i₀ i = i ≤ 4

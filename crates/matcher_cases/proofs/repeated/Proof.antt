@@ -1,13 +1,8 @@
 -- matcher_cases::repeated meets its contract.
 use borrow.Author.Needs.{needs}
-use native.Mathlib.Omega.{arith}
-use Prim.Native.Nat.{ℕ, _≤_, _<_, _-_}
-use lib.ListN.{length}
+use Prim.Native.Nat.{_≤_, _-_}
 use Rattle.matcher_cases.proofs.repeated.Statement.{statement}
 use Rattle.matcher_cases.proofs.repeated.Tie as tie
-use Rattle.matcher_cases.proofs.repeated.Reads as reads
-use Rattle.matcher_cases.proofs.repeated.Lts as lts
-use Rattle.matcher_cases.proofs.digit.Reads as digit-reads
 
 abbrev Inv-loop : tie.InvT-loop
 Inv-loop code i k₀ k = k ≤ i

@@ -1,15 +1,8 @@
 -- matcher_cases::same_columns meets its contract.
 use borrow.Author.Needs.{needs}
-use native.Mathlib.Omega.{arith}
-use Prim.Native.Nat.{ℕ, _≤_, _<_, _-_}
-use mathlib.Core.Path.{_≡_}
-use lib.ListN.{length}
+use Prim.Native.Nat.{_≤_, _-_}
 use Rattle.matcher_cases.proofs.same_columns.Statement.{statement}
 use Rattle.matcher_cases.proofs.same_columns.Tie as tie
-use Rattle.matcher_cases.proofs.same_columns.Reads as reads
-use Rattle.matcher_cases.proofs.same_columns.Lts as lts
-use Rattle.matcher_cases.proofs.digit.Reads as digit-reads
-use Rattle.matcher_cases.proofs.wide.Reads as wide-reads
 
 abbrev Inv-loop : tie.InvT-loop
 Inv-loop places n code i₀ i = i ≤ n

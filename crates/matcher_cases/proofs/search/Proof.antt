@@ -1,13 +1,8 @@
 -- matcher_cases::search meets its contract.
 use borrow.Author.Needs.{needs}
-use native.Mathlib.Omega.{arith}
-use Prim.Native.Nat.{ℕ, _≤_, _<_, _-_}
-use lib.ListN.{length}
+use Prim.Native.Nat.{_≤_, _-_}
 use Rattle.matcher_cases.proofs.search.Statement.{statement}
 use Rattle.matcher_cases.proofs.search.Tie as tie
-use Rattle.matcher_cases.proofs.search.Reads as reads
-use Rattle.matcher_cases.proofs.search.Lts as lts
-use Rattle.matcher_cases.proofs.better.Reads as better-reads
 
 abbrev Inv-loop : tie.InvT-loop
 Inv-loop cells n m best₀ code₀ best code = code ≤ 625

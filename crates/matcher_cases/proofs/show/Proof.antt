@@ -1,14 +1,9 @@
 -- matcher_cases::show meets its contract.
 use borrow.Author.Needs.{needs}
-use native.Mathlib.Omega.{arith}
-use Prim.Native.Nat.{ℕ, _≤_, _<_, _-_}
+use Prim.Native.Nat.{_≤_, _-_}
 use lib.ListN.{length}
 use Rattle.matcher_cases.proofs.show.Statement.{statement}
 use Rattle.matcher_cases.proofs.show.Tie as tie
-use Rattle.matcher_cases.proofs.show.Reads as reads
-use Rattle.matcher_cases.proofs.show.Lts as lts
-use Rattle.io.proofs.print_decimal.Reads as print-decimal-reads
-use Rattle.io.proofs.write_all.Reads as write-all-reads
 
 abbrev Inv-loop : tie.InvT-loop
 Inv-loop cells k₀ t4 t5 k = k ≤ length cells

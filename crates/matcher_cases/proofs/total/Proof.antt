@@ -1,15 +1,8 @@
 -- matcher_cases::total meets its contract.
 use borrow.Author.Needs.{needs}
-use native.Mathlib.Omega.{arith}
-use Prim.Native.Nat.{ℕ, _≤_, _<_, _-_}
-use lib.ListN.{length}
+use Prim.Native.Nat.{_≤_, _-_}
 use Rattle.matcher_cases.proofs.total.Statement.{statement}
 use Rattle.matcher_cases.proofs.total.Tie as tie
-use Rattle.matcher_cases.proofs.total.Reads as reads
-use Rattle.matcher_cases.proofs.total.Lts as lts
-use Rattle.matcher_cases.proofs.cell.Reads as cell-reads
-use Rattle.matcher_cases.proofs.digit.Reads as digit-reads
-use Rattle.std.proofs.num.wrapping_add_u64.Reads as wrapping-add-u64-reads
 
 abbrev Inv-loop : tie.InvT-loop
 Inv-loop cells n m code sum₀ row₀ i₀ sum row i = i ≤ n
