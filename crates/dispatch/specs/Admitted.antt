@@ -112,7 +112,7 @@ module _ (s : Sheet) (a : Admitted s) where
 -- ---- where a stop stands
 
 abbrev pub Placed : Place → Type 0
-Placed Nowhere = ⊤
+Placed Nowhere = Unit {0}
 Placed (At d) = AtMost (2 ^ 20) d
 
 lookup-all : {A : Type 0} (P : A → Type 0) (p : ℕ → Bool) (f : ℕ → A) (z : A) (n : ℕ) → P z → ((k : ℕ) → k < n → P (f k)) → P (lookup p f z n)
