@@ -3,3 +3,4 @@ pub mod Waits
 pub mod Pairs
 pub mod WaitersLaws
 pub mod RidersLaws
+pub mod Admitted

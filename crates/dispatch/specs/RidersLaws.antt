@@ -130,33 +130,33 @@ module _ (s : Sheet) (ids : List ℕ) (xs : List Float) (n : ℕ) (hs : HoldsSto
         routed = ap (λ (z : Riders). z .routed) (h .answered) ∙ routed-is;
         counted = ap (λ (z : Riders). z .count) (h .answered) ∙ count-is;
         rest = drop (r .count) entry;
-        held = h .held ∙ ap (λ (l : List Float). l ++ drop (r .count) entry) dests-are
+        held = h .held ∙ ap (λ (l : List Float). l ++ drop (r .count) entry) dests-are;
       }
 
 -- ---- pair_is_useful
 
 module _ (s : Sheet) (i j : ℕ) (weighed : Weighed s i) (r : Riders) (dests : List Float) (hr : HoldsRiders s i r dests) (v : Waiters) (hv : HoldsWaiters s j v)
-    where
-  on-path-is : onPathIn (s .car i .position) (stopAt s j) dests (r .count)
-      ≡ any (λ a. rides s i a && onPathTo (s .car i .position) (stopAt s j) (boundFor s i a)) (s .aboards)
-  unfolding onPathIn
-  on-path-is =
-      ap₂ (λ (l : List Float) (m : ℕ). any (λ k. onPathTo (s .car i .position) (stopAt s j) (At (getD l k nan))) m) (hr .held) (hr .counted)
-      ∙ any-collected (ridesTo s i) (λ a. positionOf (boundFor s i a)) (λ (d : Float). onPathTo (s .car i .position) (stopAt s j) (At d)) (s .aboards) (hr .rest) nan
-      ∙ any-cong (λ a. ridesTo s i a && onPathTo (s .car i .position) (stopAt s j) (At (positionOf (boundFor s i a))))
-      (λ a. rides s i a && onPathTo (s .car i .position) (stopAt s j) (boundFor s i a)) (s .aboards) (λ a l. by (rides s i a) (boundFor s i a))
-    where
-      by : (b : Bool) (d : Place)
-          → ((b && isAt d) && onPathTo (s .car i .position) (stopAt s j) (At (positionOf d))) ≡ (b && onPathTo (s .car i .position) (stopAt s j) d)
-      by false d = refl
-      by true Nowhere = refl
-      by true (At x) = refl
+  where
+    on-path-is : onPathIn (s .car i .position) (stopAt s j) dests (r .count)
+        ≡ any (λ a. rides s i a && onPathTo (s .car i .position) (stopAt s j) (boundFor s i a)) (s .aboards)
+    unfolding onPathIn
+    on-path-is =
+        ap₂ (λ (l : List Float) (m : ℕ). any (λ k. onPathTo (s .car i .position) (stopAt s j) (At (getD l k nan))) m) (hr .held) (hr .counted)
+        ∙ any-collected (ridesTo s i) (λ a. positionOf (boundFor s i a)) (λ (d : Float). onPathTo (s .car i .position) (stopAt s j) (At d)) (s .aboards) (hr .rest) nan
+        ∙ any-cong (λ a. ridesTo s i a && onPathTo (s .car i .position) (stopAt s j) (At (positionOf (boundFor s i a))))
+        (λ a. rides s i a && onPathTo (s .car i .position) (stopAt s j) (boundFor s i a)) (s .aboards) (λ a l. by (rides s i a) (boundFor s i a))
+      where
+        by : (b : Bool) (d : Place)
+            → ((b && isAt d) && onPathTo (s .car i .position) (stopAt s j) (At (positionOf d))) ≡ (b && onPathTo (s .car i .position) (stopAt s j) d)
+        by false d = refl
+        by true Nowhere = refl
+        by true (At x) = refl
 
-  path-is : (path : Bool) → pathAllows (s .car i) r dests (stopAt s j) path ≡ (not path || onAboardPath s i j)
-  unfolding pathAllows onAboardPath
-  path-is path = rw (hr .routed, on-path-is)
+    path-is : (path : Bool) → pathAllows (s .car i) r dests (stopAt s j) path ≡ (not path || onAboardPath s i j)
+    unfolding pathAllows onAboardPath
+    path-is path = rw (hr .routed, on-path-is)
 
-  pub useful-is : (path : Bool) → j < s .stops
-      → usefulBy (s .car i) (goal s i) r dests v (has (r .exits) j) (stopAt s j) path ≡ pairIsUseful s i j path
-  unfolding usefulBy pairIsUseful
-  useful-is path l = rw (hr .exits j l, servable-is s i j weighed v hv, path-is path)
+    pub useful-is : (path : Bool) → j < s .stops
+        → usefulBy (s .car i) (goal s i) r dests v (has (r .exits) j) (stopAt s j) path ≡ pairIsUseful s i j path
+    unfolding usefulBy pairIsUseful
+    useful-is path l = rw (hr .exits j l, servable-is s i j weighed v hv, path-is path)

@@ -154,7 +154,7 @@ module _ (s : Sheet) (j : ℕ) where
           squares = squares-is;
           up = up-is;
           down = down-is;
-          level = level-is
+          level = level-is;
         }
 
 -- ---- lists that hold the sheet give it
@@ -171,10 +171,10 @@ module _ (s : Sheet) (ids : List ℕ) (xs : List Float) (n : ℕ) (hs : HoldsSto
   unfolding waitersIn waiters
   waiters-held j call l e =
       let same : waitersIn ids xs n j call wstop wdest wweight wwait nw ≡ waiters s j call =
-        fold-cong
-        (λ v w. meet ids xs n (getD ids j 0) (getD xs j nan) v (getD wstop w 0) (getD wdest w 0) (getD wweight w nan) (getD wwait w 0))
-        (step s j) (nobody call) nw (same-step j l)
-        ∙ ap (fold (step s j) (nobody call)) (hw .counted) in
+      fold-cong
+      (λ v w. meet ids xs n (getD ids j 0) (getD xs j nan) v (getD wstop w 0) (getD wdest w 0) (getD wweight w nan) (getD wwait w 0))
+      (step s j) (nobody call) nw (same-step j l)
+      ∙ ap (fold (step s j) (nobody call)) (hw .counted) in
       rw same (held s j call e)
 
 -- ---- who can board

@@ -19,7 +19,11 @@ use riders::Riders;
 fn load_reaches(capacity: f64, load: f64, pct: f64) -> bool
     ensures { λ r. ⌜ r ≡ (not (le capacity zero) && not (lt (over load capacity) pct)) ⌝ }
 {
-    if capacity <= 0.0 { false } else { !(load / capacity < pct) }
+    if capacity <= 0.0 {
+        false
+    } else {
+        !(load / capacity < pct)
+    }
 }
 
 // Whether the car is loaded to the threshold.
@@ -67,13 +71,18 @@ pub fn can_board(waiters: Waiters, car: Car) -> bool
     ensures { λ r. ⌜ r ≡ canBoard waiters car ⌝ }
 {
     let room = car.remaining_capacity();
-    !(room < waiters.level) | ((car.up & !(room < waiters.up)) | (car.down & !(room < waiters.down)))
+    !(room < waiters.level)
+        | ((car.up & !(room < waiters.up)) | (car.down & !(room < waiters.down)))
 }
 
 pub fn servable(waiters: Waiters, car: Car) -> bool
     ensures { λ r. ⌜ r ≡ servableBy waiters car ⌝ }
 {
-    if waiters.someone { can_board(waiters, car) } else { waiters.call }
+    if waiters.someone {
+        can_board(waiters, car)
+    } else {
+        waiters.call
+    }
 }
 
 // Whether a stop at p is on the path of a car at x to d. The product's sign is the Rust's test, underflow and all.
@@ -84,7 +93,11 @@ fn on_path_to(x: f64, p: f64, d: f64) -> bool
     let to_dest = d - x;
     let there = fp::abs(to_stop);
     let whole = fp::abs(to_dest);
-    if to_dest * to_stop >= 0.0 { there <= whole } else { false }
+    if to_dest * to_stop >= 0.0 {
+        there <= whole
+    } else {
+        false
+    }
 }
 
 // Whether it is on the path to one of the first n positions of dests.
@@ -110,7 +123,11 @@ fn path_allows(car: Car, riders: Riders, dests: &[f64], p: f64, path: bool) -> b
     let x = car.position;
     let n = riders.count;
     if path {
-        if riders.routed { on_path(x, p, dests, n) } else { true }
+        if riders.routed {
+            on_path(x, p, dests, n)
+        } else {
+            true
+        }
     } else {
         true
     }
@@ -139,7 +156,11 @@ pub fn pair_is_useful(
     if car.remaining_capacity() <= 0.0 {
         return false;
     }
-    if servable(waiters, car) { path_allows(car, riders, dests, p, path) } else { false }
+    if servable(waiters, car) {
+        path_allows(car, riders, dests, p, path)
+    } else {
+        false
+    }
 }
 
 // The cost less the weighted term, at least 0.
@@ -153,5 +174,9 @@ pub fn apply_fairness_bonus(cost: f64, weight: f64, term: f64) -> f64
 pub fn with_bonus(cost: f64, weight: f64, term: f64) -> f64
     ensures { λ r. ⌜ r ≡ withBonus cost weight term ⌝ }
 {
-    if weight > 0.0 { apply_fairness_bonus(cost, weight, term) } else { cost }
+    if weight > 0.0 {
+        apply_fairness_bonus(cost, weight, term)
+    } else {
+        cost
+    }
 }

@@ -128,7 +128,15 @@ fn direction_bonus(phase: Phase, goal: Place, x: f64, p: f64, travel: f64) -> f6
 }
 
 // The weighted sum: wait, delay, door; the bonus bears no weight.
-fn weighted(wait: f64, delay: f64, door: f64, travel: f64, riders: f64, doors: f64, bonus: f64) -> f64
+fn weighted(
+    wait: f64,
+    delay: f64,
+    door: f64,
+    travel: f64,
+    riders: f64,
+    doors: f64,
+    bonus: f64,
+) -> f64
     ensures { λ r. ⌜ r ≡ weighted wait delay door travel riders doors bonus ⌝ }
 {
     let a = fp::fma(door, doors, bonus);
@@ -187,7 +195,11 @@ fn fair_cost(
 pub fn finite_rank(cost: f64) -> Rank
     ensures { λ r. ⌜ r ≡ finiteRank cost ⌝ }
 {
-    if fp::finite(cost) { Rank::Cost(cost) } else { Rank::Never }
+    if fp::finite(cost) {
+        Rank::Cost(cost)
+    } else {
+        Rank::Never
+    }
 }
 
 // rank, of stop j of the n at xs.

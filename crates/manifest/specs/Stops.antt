@@ -48,7 +48,7 @@ module _ (ids : List ℕ) (n id : ℕ) where
   search-on k h l e =
       record {
         within = let m = h .within in omega arith;
-        so-far = h .so-far ∙ one-down k l ∙ ap (λ (b : Bool). cond b (k - 1) (lookup (λ j. eqb (getD ids j 0) id) (λ j. j) n (k - 1))) (ne-eqb (getD ids (k - 1) 0) id e)
+        so-far = h .so-far ∙ one-down k l ∙ ap (λ (b : Bool). cond b (k - 1) (lookup (λ j. eqb (getD ids j 0) id) (λ j. j) n (k - 1))) (ne-eqb (getD ids (k - 1) 0) id e);
       }
 
   pub search-none : (k : ℕ) → Searched ids n id k → k ≤ 0 → n ≡ stopIndex ids n id

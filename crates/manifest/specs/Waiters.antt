@@ -43,7 +43,7 @@ withRider v p d weight wait =
       squares = plus (v .squares) (times (natural wait) (natural wait));
       up = lesserIf (goesUp p d) (v .up) weight;
       down = lesserIf (goesDown p d) (v .down) weight;
-      level = lesserIf (staysLevel p d) (v .level) weight
+      level = lesserIf (staysLevel p d) (v .level) weight;
     }
 
 -- the rider of a record, where it waits at the stop with this id, which stands at p

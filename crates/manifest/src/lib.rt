@@ -28,7 +28,11 @@ pub fn place(xs: &[f64], n: usize, index: usize) -> Place
     requires { ⌜ n ≤ length (now xs) ⌝ }
     ensures { λ r. ⌜ r ≡ placeAt (now (xs .entry)) n index ⌝ }
 {
-    if index < n { Place::At(xs[index]) } else { Place::Nowhere }
+    if index < n {
+        Place::At(xs[index])
+    } else {
+        Place::Nowhere
+    }
 }
 
 // stop_position: where the stop with this id stands.
@@ -90,7 +94,11 @@ fn goes_down(p: f64, place: Place) -> bool
 fn lesser_if(counts: bool, least: f64, weight: f64) -> f64
     ensures { λ r. ⌜ r ≡ lesserIf counts least weight ⌝ }
 {
-    if counts { fp::lesser(least, weight) } else { least }
+    if counts {
+        fp::lesser(least, weight)
+    } else {
+        least
+    }
 }
 
 impl Waiters {

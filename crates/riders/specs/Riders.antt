@@ -128,7 +128,7 @@ module _ (ids : List ℕ) (xs : List Float) (n : ℕ) (acar adest : List ℕ) (i
   held-next a at r entry now exit h l d =
       record {
         counted = d .counted ∙ count-step (knownAt ids n acar adest id) a (h .counted) refl;
-        held = by (knownAt ids n acar adest id a) a at r entry now exit refl h l (d .counted) (d .stored)
+        held = by (knownAt ids n acar adest id a) a at r entry now exit refl h l (d .counted) (d .stored);
       }
 
   pub held-end : (a na at : ℕ) (entry now : List Float) → a ≤ na → na ≤ a → Held a at entry now → Held na at entry now

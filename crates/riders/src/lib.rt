@@ -18,7 +18,11 @@ fn with_exit(ids: &[u32], n: usize, id: u32, exits: u64, car: u32, dest: u32) ->
 {
     if car == id {
         let index = manifest::stop_index(ids, n, dest);
-        if index < n { mask::with(exits, index) } else { exits }
+        if index < n {
+            mask::with(exits, index)
+        } else {
+            exits
+        }
     } else {
         exits
     }
@@ -60,7 +64,16 @@ fn any_routed(acar: &[u32], adest: &[u32], na: usize, id: u32) -> bool
 }
 
 // The position that a rider of the car is bound for, stored where the destination has one; how many are stored.
-fn seat(ids: &[u32], xs: &[f64], n: usize, id: u32, car: u32, dest: u32, dests: &mut [f64], at: usize) -> usize
+fn seat(
+    ids: &[u32],
+    xs: &[f64],
+    n: usize,
+    id: u32,
+    car: u32,
+    dest: u32,
+    dests: &mut [f64],
+    at: usize,
+) -> usize
     requires { ⌜ (n ≤ length (now ids)) × (n ≤ length (now xs)) × (at < length (now dests)) ⌝ }
     ensures { λ r. ⌜ Seated (now (ids .entry)) (now (xs .entry)) n id car dest at (now (dests .entry)) r (now (dests .exit)) ⌝ }
 {
@@ -78,7 +91,16 @@ fn seat(ids: &[u32], xs: &[f64], n: usize, id: u32, car: u32, dest: u32, dests: 
 }
 
 // The known positions that riders of the car are bound for, in record order; how many there are.
-fn destinations(ids: &[u32], xs: &[f64], n: usize, acar: &[u32], adest: &[u32], na: usize, id: u32, dests: &mut [f64]) -> usize
+fn destinations(
+    ids: &[u32],
+    xs: &[f64],
+    n: usize,
+    acar: &[u32],
+    adest: &[u32],
+    na: usize,
+    id: u32,
+    dests: &mut [f64],
+) -> usize
     requires { ⌜ (n ≤ length (now ids)) × (n ≤ length (now xs)) × (na ≤ length (now acar)) × (na ≤ length (now adest)) × (na ≤ length (now dests)) ⌝ }
     ensures { λ r. ⌜ Held (now (ids .entry)) (now (xs .entry)) n (now (acar .entry)) (now (adest .entry)) id na r (now (dests .entry)) (now (dests .exit)) ⌝ }
 {
@@ -92,7 +114,16 @@ fn destinations(ids: &[u32], xs: &[f64], n: usize, acar: &[u32], adest: &[u32], 
 }
 
 // The riders of the car with this id; dests holds the known positions they are bound for.
-pub fn riders_of(ids: &[u32], xs: &[f64], n: usize, acar: &[u32], adest: &[u32], na: usize, id: u32, dests: &mut [f64]) -> Riders
+pub fn riders_of(
+    ids: &[u32],
+    xs: &[f64],
+    n: usize,
+    acar: &[u32],
+    adest: &[u32],
+    na: usize,
+    id: u32,
+    dests: &mut [f64],
+) -> Riders
     requires { ⌜ (n ≤ length (now ids)) × (n ≤ length (now xs)) × (n ≤ 64) × (na ≤ length (now acar)) × (na ≤ length (now adest)) × (na ≤ length (now dests)) ⌝ }
     ensures { λ r. ⌜ Seats (now (ids .entry)) (now (xs .entry)) n (now (acar .entry)) (now (adest .entry)) na id (now (dests .entry)) r (now (dests .exit)) ⌝ }
 {

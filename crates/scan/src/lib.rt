@@ -51,5 +51,9 @@ pub fn prepare(sweep: Sweep, x: f64, demand: u64, xs: &[f64], n: usize) -> Sweep
 pub fn rank(sweep: Sweep, useful: bool, x: f64, p: f64) -> Rank
     ensures { λ r. ⌜ r ≡ rankOf sweep useful x p ⌝ }
 {
-    if useful { sweep.rank(x, p) } else { Rank::Never }
+    if useful {
+        sweep.rank(x, p)
+    } else {
+        Rank::Never
+    }
 }

@@ -59,7 +59,10 @@ impl Sweep {
     {
         let direction = car.direction;
         let mode = car.mode;
-        Sweep { direction: direction, mode: mode }
+        Sweep {
+            direction: direction,
+            mode: mode,
+        }
     }
 
     // The same mode, the other way.
@@ -69,7 +72,10 @@ impl Sweep {
         let direction = self.direction;
         let mode = self.mode;
         let back = reversed(direction);
-        Sweep { direction: back, mode: mode }
+        Sweep {
+            direction: back,
+            mode: mode,
+        }
     }
 
     // prepare_car: on, strict, where demand lies strictly ahead; else back, lenient.
@@ -78,11 +84,17 @@ impl Sweep {
     {
         if ahead {
             let direction = self.direction;
-            Sweep { direction: direction, mode: Mode::Strict }
+            Sweep {
+                direction: direction,
+                mode: Mode::Strict,
+            }
         } else {
             let back = self.reversed();
             let direction = back.direction;
-            Sweep { direction: direction, mode: Mode::Lenient }
+            Sweep {
+                direction: direction,
+                mode: Mode::Lenient,
+            }
         }
     }
 

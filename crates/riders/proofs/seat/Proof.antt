@@ -8,13 +8,13 @@ use Rattle.riders.proofs.seat.Tie as tie
 returns : tie.Need-returns
 returns c = record {
   counted = simp (eq-eqb _ _ (c .before .before .before .if1 .taken), ← c .before .before .stop-index .ensures, lt-ltb _ _ (c .before .if2 .taken));
-  stored = simp (eq-eqb _ _ (c .before .before .before .if1 .taken), ← c .before .before .stop-index .ensures, lt-ltb _ _ (c .before .if2 .taken))
+  stored = simp (eq-eqb _ _ (c .before .before .before .if1 .taken), ← c .before .before .stop-index .ensures, lt-ltb _ _ (c .before .if2 .taken));
 }
 
 returns-2 : tie.Need-returns-2
 returns-2 c = record {
   counted = simp (eq-eqb _ _ (c .before .before .if1 .taken), ← c .before .stop-index .ensures, le-ltb _ _ (c .if2 .left)) (omega arith);
-  stored = simp (eq-eqb _ _ (c .before .before .if1 .taken), ← c .before .stop-index .ensures, le-ltb _ _ (c .if2 .left))
+  stored = simp (eq-eqb _ _ (c .before .before .if1 .taken), ← c .before .stop-index .ensures, le-ltb _ _ (c .if2 .left));
 }
 
 returns-3 : tie.Need-returns-3

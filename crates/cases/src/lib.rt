@@ -1,0 +1,1 @@
+// Document 01's proved cases: specs/Table.antt.

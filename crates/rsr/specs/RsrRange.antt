@@ -1,0 +1,102 @@
+-- RSR's ranks are finite and never below zero, on every sheet; and in document 01's admitted ranges a useful pair of a car that can move has a rank.
+-- Assumes nothing.
+use Prim.Native.Nat.{ℕ, _+_, _^_, _<_}
+use mathlib.Core.Path.{_≡_, refl}
+use mathlib.Core.Bool.{Bool, true, false, not, _&&_, cond}
+use lib.Dec.{lit≤}
+use lib.Ieee.{Float, ofBits, lt, le}
+use Rattle.fp.specs.Num as Num
+use Rattle.fp.specs.Num.{one, plus, minus, times, over, maxZero, finite, distance}
+use Rattle.fp.specs.Order.{le-tells}
+use Rattle.fp.specs.Nonneg.{maxZero-nonneg}
+use Rattle.fp.specs.Inside.{AtMost, size-finite}
+use Rattle.fp.specs.Sizes.{maxZero-size, plus-size, minus-size, distance-size, times-size, over-size, position-power, mass-power, speed-power}
+use Rattle.mask.specs.Mask.{has}
+use Rattle.components.specs.declared.Traffic.{Traffic}
+use Rattle.components.specs.declared.Traffic.the-variants as traffic
+use Rattle.components.specs.declared.Rank.{Rank}
+use Rattle.components.specs.declared.Rank.the-variants.{Cost, Never}
+use Rattle.components.specs.Sheet.{Sheet}
+use Rattle.manifest.specs.World.{stopAt, goal}
+use Rattle.dispatch.specs.Useful.{pairIsUseful}
+use Rattle.dispatch.specs.Waits.{withBonus, waitTicksSum}
+use Rattle.dispatch.specs.Admitted.{Admitted, grow, withBonus-size, waitsum-size}
+use Rattle.etd.specs.Etd.{finiteRank}
+use Rattle.etd.specs.EtdRange.{ranked}
+use Rattle.rsr.specs.Rsr.{wrongDirection, peakScaling, withPenalty, withCoincidentCall, rsrCost, rsrRank}
+
+-- a rank is never negative and never a NaN: 0 is at most it
+pub rsr-nonneg : (s : Sheet) (i j : ℕ) (x : Float) → rsrRank s i j ≡ Cost x → (le Num.zero x ≡ true) × (finite x ≡ true)
+unfolding rsrRank rsrCost
+rsr-nonneg s i j x h =
+    let (e, f) = ranked (pairIsUseful s i j true && not (le (s .car i .speed) Num.zero)) (rsrCost s i j) x h in
+    let n : le Num.zero (rsrCost s i j) ≡ true = maxZero-nonneg _ in
+    (rw e at n, rw e at f)
+
+-- ---- in the admitted ranges
+
+one-size : AtMost (2 ^ 30) one
+unfolding ofBits
+one-size = lit≤ tt
+
+scaling-size : (t : Traffic) (m : Float) → AtMost (2 ^ 30) m → AtMost (2 ^ 30) (peakScaling t m)
+scaling-size traffic.Idle m p = one-size
+scaling-size traffic.UpPeak m p = p
+scaling-size traffic.InterFloor m p = one-size
+scaling-size traffic.DownPeak m p = p
+
+penalty-size : (cost weight scaling : Float) (wrong : Bool) → AtMost (2 ^ 61) cost → AtMost (2 ^ 30) weight → AtMost (2 ^ 30) scaling
+    → AtMost (2 ^ 62) (withPenalty cost weight scaling wrong)
+unfolding withPenalty
+penalty-size cost weight scaling wrong p q r = by (lt Num.zero weight && wrong)
+  where
+    by : (b : Bool) → AtMost (2 ^ 62) (cond b (plus cost (times weight scaling)) cost)
+    by true = plus-size 61 cost (times weight scaling) (lit≤ tt) p (grow 60 61 (times weight scaling) (lit≤ tt) (times-size 30 30 weight scaling (lit≤ tt) q r))
+    by false = grow 61 62 cost (lit≤ tt) p
+
+call-size : (cost weight : Float) (call : Bool) → AtMost (2 ^ 62) cost → AtMost (2 ^ 30) weight → AtMost (2 ^ 63) (withCoincidentCall cost weight call)
+unfolding withCoincidentCall
+call-size cost weight call p q = by (lt Num.zero weight && call)
+  where
+    by : (b : Bool) → AtMost (2 ^ 63) (cond b (minus cost weight) cost)
+    by true = minus-size 62 cost weight (lit≤ tt) p (grow 30 62 weight (lit≤ tt) q)
+    by false = grow 62 63 cost (lit≤ tt) p
+
+module _ (s : Sheet) (a : Admitted s) (i j : ℕ) (li : i < s .cars) (lj : j < s .stops) (moves : lt Num.zero (s .car i .speed) ≡ true) where
+  eta-size : AtMost (2 ^ 61) (times (s .policy .w0) (over (distance (s .car i .position) (stopAt s j)) (s .car i .speed)))
+  eta-size =
+      times-size 30 31 (s .policy .w0) (over (distance (s .car i .position) (stopAt s j)) (s .car i .speed)) (lit≤ tt) (mass-power (s .policy .w0) (a .w0))
+      (over-size 21 10 (distance (s .car i .position) (stopAt s j)) (s .car i .speed) (lit≤ tt)
+      (distance-size 20 (s .car i .position) (stopAt s j) (lit≤ tt)
+      (position-power (s .car i .position) (a .car-at i li)) (position-power (stopAt s j) (a .stop-at j lj)))
+      (speed-power (s .car i .speed) (a .speed i li) moves))
+
+  cost-finite : finite (rsrCost s i j) ≡ true
+  unfolding rsrCost
+  cost-finite =
+      let eta = times (s .policy .w0) (over (distance (s .car i .position) (stopAt s j)) (s .car i .speed)) in
+      let scaling = peakScaling (s .policy .traffic) (s .policy .w5) in
+      let wrong = wrongDirection (goal s i) (s .car i .position) (stopAt s j) in
+      let reversed = withPenalty eta (s .policy .w1) scaling wrong in
+      let called = withCoincidentCall reversed (s .policy .w2) (has (s .car i .calls) j) in
+      size-finite (2 ^ 596) (rsrCost s i j)
+      (maxZero-size (2 ^ 596) (withBonus called (s .policy .w4) (waitTicksSum s j))
+      (withBonus-size 565 595 called (s .policy .w4) (waitTicksSum s j) (lit≤ tt) (lit≤ tt)
+      (grow 63 595 called (lit≤ tt)
+      (call-size reversed (s .policy .w2) (has (s .car i .calls) j)
+      (penalty-size eta (s .policy .w1) scaling wrong eta-size (mass-power (s .policy .w1) (a .w1))
+      (scaling-size (s .policy .traffic) (s .policy .w5) (mass-power (s .policy .w5) (a .w5))))
+      (mass-power (s .policy .w2) (a .w2))))
+      (mass-power (s .policy .w4) (a .w4)) (waitsum-size s a j)))
+
+  above-zero : le (s .car i .speed) Num.zero ≡ false
+  above-zero = by (le (s .car i .speed) Num.zero) refl
+    where
+      by : (b : Bool) → le (s .car i .speed) Num.zero ≡ b → b ≡ false
+      by true h = let (p, q, l) = le-tells (s .car i .speed) Num.zero h in rw moves at l
+      by false h = refl
+
+  -- "In the admitted ranges every rank is finite": a useful pair has one
+  pub rsr-ranked : pairIsUseful s i j true ≡ true → rsrRank s i j ≡ Cost (rsrCost s i j)
+  unfolding rsrRank finiteRank
+  rsr-ranked u = rw (u, above-zero, cost-finite)
