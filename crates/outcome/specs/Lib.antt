@@ -1,0 +1,11 @@
+-- The definitions' index: what the bench is proved against.
+--   a sheet's bytes, its verdict and its records     layout: Verdict, Refusals, Records, Offsets
+--   pending stops, candidates, cells, decisions      assignment: Pending, Candidates, Cells
+--   the ranks                                        etd: Etd, rsr: Rsr, scan: Scan, sweep: Sweeps, dispatch: Useful, Waits, manifest: World, Manifest
+--   the choice                                       assignment_problem: Recursion, Choice
+--   what is answered and left in the buffers         Outcome, here
+--   demand 3, of two byte strings                    TwoSheets, here
+pub mod Outcome
+pub mod Written
+pub mod TwoSheets
+pub mod Bound
