@@ -12,8 +12,8 @@ use Rattle.laws.specs.Bools.{same?}
 use Rattle.assignment_problem.specs.Choice.{IsChoice, total, Chosen, cellAt}
 use Rattle.assignment_problem.specs.Prices.{tight-least}
 use Rattle.assignment_problem.specs.Insertion.{Matched, Priced, May, Path, Walk, matched-choice, priced-tight, walk-matched, walk-priced}
-use Rattle.hungarian.specs.Lists.{at, big, at-same, at-other, Going, Gone}
-use Rattle.hungarian.specs.State.{Sizes, Scratch, Matrix, State, Cleared, unseen, unseen-less, unseen-most}
+use Rattle.alternating_tree.specs.Lists.{at, big, at-same, at-other, Going, Gone}
+use Rattle.alternating_tree.specs.State.{Sizes, Scratch, Matrix, State, Cleared, unseen, unseen-less, unseen-most}
 use Rattle.equality_graph.specs.Unreachable.{low}
 use Rattle.equality_graph.specs.Search.{Front, front-start, front-top, front-next, front-shut, front-push, front-path, front-walk}
 

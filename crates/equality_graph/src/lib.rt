@@ -3,15 +3,15 @@
 // In that graph a row may go to a column where its price is tight, and a free column may be filled by leaving another without a discount free.
 // Row i steps onto the stand; each lower column that it may go to is tried, lowest first, and the search follows what the columns hold until it
 // comes to row i's own column. Then the rows move along the path, and row i has the lower column. What one search has seen in vain, the next
-// ones pass over. Lists are those of the crate hungarian; queue has the columns seen, in order.
+// ones pass over. Lists are those of the crate alternating_tree; queue has the columns seen, in order.
 ghost use mathlib.Core.Path.{_≡_};
 ghost use Prim.Native.Nat.{ℕ, suc, _+_, _*_, _<_, _≤_};
 ghost use lib.ListN.{length};
 ghost use Rattle.laws.specs.Tables.{tab};
 ghost use Rattle.assignment_problem.specs.Choice.{cellAt};
 ghost use Rattle.assignment_problem.specs.Recursion.{chosen};
-ghost use Rattle.hungarian.specs.Lists.{at, big};
-ghost use Rattle.hungarian.specs.State.{Sizes, Scratch, Matrix, State, unseen};
+ghost use Rattle.alternating_tree.specs.Lists.{at, big};
+ghost use Rattle.alternating_tree.specs.State.{Sizes, Scratch, Matrix, State, unseen};
 ghost use Rattle.equality_graph.specs.Settled.{MayIs, Ready, Search, VisitedAll, ExpandedAll, Reached, Settled};
 
 // Whether what a column holds, the row r or nothing, may go to column y in the equality graph.
@@ -22,7 +22,7 @@ fn may(cells: &[u64], n: usize, cols: usize, u: &[u64], w: &[u64], r: usize, y: 
     if n <= r {
         return w[y] == 0;
     }
-    u[r] == hungarian::cell(cells, cols, r, y) + w[y]
+    u[r] == alternating_tree::cell(cells, cols, r, y) + w[y]
 }
 
 // Column y is seen from column x, which holds r, if that may go there and y has no row before i. Answers how many columns the queue has.
@@ -174,7 +174,7 @@ fn lower(
 {
     let k = col_of[i];
     row_of[cols] = i;
-    hungarian::clear(seen, cols);
+    alternating_tree::clear(seen, cols);
     let mut len = 0;
     let mut j = 0;
     while j < k {
@@ -196,7 +196,7 @@ fn lower(
         if seen[k] != 0 {
             row_of[k] = n;
             col_of[i] = cols;
-            hungarian::augment(row_of, col_of, from, seen, n, cols, k);
+            alternating_tree::augment(row_of, col_of, from, seen, n, cols, k);
             return;
         }
         j += 1;

@@ -14,7 +14,7 @@ use Rattle.laws.specs.Tables.{tabs, length-tabs, getD-tabs, tabs-every}
 use Rattle.assignment_problem.specs.Choice.{cellAt}
 use Rattle.assignment_problem.specs.Recursion.{chosen, leastTotal}
 use Rattle.assignment_problem.specs.Chosen.{chosen-same}
-use Rattle.hungarian.specs.State.{Matrix}
+use Rattle.alternating_tree.specs.State.{Matrix}
 use Rattle.matcher.specs.declared.Matching.the-variants.{Least, None}
 use Rattle.matcher.specs.Promise.{sentinel, tooLarge, refused, matching, written}
 

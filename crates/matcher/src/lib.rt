@@ -8,8 +8,8 @@ ghost use Rattle.laws.specs.Folds.{any};
 ghost use Rattle.laws.specs.Tables.{tab};
 ghost use Rattle.assignment_problem.specs.Choice.{cellAt, total};
 ghost use Rattle.assignment_problem.specs.Recursion.{chosen, leastTotal};
-ghost use Rattle.hungarian.specs.Lists.{at};
-ghost use Rattle.hungarian.specs.State.{Matrix};
+ghost use Rattle.alternating_tree.specs.Lists.{at};
+ghost use Rattle.alternating_tree.specs.State.{Matrix};
 ghost use Rattle.matcher.specs.Promise.{tooLarge, matching, written};
 
 // What the matcher answers: the least total, or none.
@@ -42,7 +42,7 @@ fn write(cells: &[u64], n: usize, cols: usize, col_of: &[usize], places: &mut [u
     let mut i = 0;
     while i < n {
         let j = col_of[i];
-        total += hungarian::cell(cells, cols, i, j);
+        total += alternating_tree::cell(cells, cols, i, j);
         places[i] = j as u32;
         i += 1;
     }

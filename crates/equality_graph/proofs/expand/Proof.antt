@@ -5,7 +5,7 @@ use Rattle.equality_graph.proofs.expand.Statement.{statement}
 use Rattle.equality_graph.proofs.expand.Tie as tie
 use Prim.Native.Nat.{_-_, _≤_}
 use mathlib.Core.Path.{refl, sym, _∙_}
-use Rattle.hungarian.specs.Lists.{at}
+use Rattle.alternating_tree.specs.Lists.{at}
 use Rattle.equality_graph.specs.Settled.{Ready, ready-keep, ExpandingAll, expand-none, expand-step, expand-done}
 
 abbrev Inv-loop : tie.InvT-loop

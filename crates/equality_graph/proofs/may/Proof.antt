@@ -4,7 +4,7 @@ use Rattle.equality_graph.proofs.may.Statement.{statement}
 use Rattle.equality_graph.proofs.may.Tie as tie
 use Prim.Native.Nat.{_+_, _*_}
 use native.Mathlib.Omega.{arith}
-use Rattle.hungarian.specs.State.{row-in}
+use Rattle.alternating_tree.specs.State.{row-in}
 use Rattle.equality_graph.specs.Settled.{may-none, may-row}
 
 mul-result : tie.Need-mul-result

@@ -4,7 +4,7 @@ use Rattle.equality_graph.proofs.reach.Statement.{statement}
 use Rattle.equality_graph.proofs.reach.Tie as tie
 use Prim.Native.Nat.{ℕ, _-_, _<_}
 use mathlib.Core.Path.{sym, _∙_}
-use Rattle.hungarian.specs.Lists.{at}
+use Rattle.alternating_tree.specs.Lists.{at}
 use Rattle.equality_graph.specs.Settled.{Ready, ready-keep, Reaching, reach-start, reach-step, reach-found, reach-more}
 
 abbrev Inv-loop : tie.InvT-loop

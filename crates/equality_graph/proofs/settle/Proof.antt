@@ -6,8 +6,8 @@ use Prim.Native.Nat.{ℕ, _-_, _≤_}
 use mathlib.Core.Path.{_≡_, sym, _∙_, subst}
 use Rattle.assignment_problem.specs.Choice.{cellAt}
 use Rattle.assignment_problem.specs.Chosen.{chosen-tab}
-use Rattle.hungarian.specs.Lists.{at, big}
-use Rattle.hungarian.specs.State.{Sizes, Scratch}
+use Rattle.alternating_tree.specs.Lists.{at, big}
+use Rattle.alternating_tree.specs.State.{Sizes, Scratch}
 use Rattle.equality_graph.specs.Settled.{Settled, settle-none, settle-done}
 
 abbrev Inv-loop : tie.InvT-loop

@@ -3,8 +3,8 @@ use borrow.Author.Needs.{needs}
 use Rattle.hungarian.proofs.prepare.Statement.{statement}
 use Rattle.hungarian.proofs.prepare.Tie as tie
 use native.Mathlib.Omega.{arith}
-use Rattle.hungarian.specs.Lists.{big}
-use Rattle.hungarian.specs.State.{row-in, prepared}
+use Rattle.alternating_tree.specs.Lists.{big}
+use Rattle.alternating_tree.specs.State.{row-in, prepared}
 
 free-column-requires : tie.Need-free-column-requires
 free-column-requires c κs = search needs

@@ -4,7 +4,7 @@ use Rattle.hungarian.proofs.solve.Tie as tie
 use Prim.Native.Nat.{ℕ, _≤_, _-_}
 use mathlib.Core.Path.{_≡_, sym, _∙_}
 use native.Mathlib.Omega.{arith}
-use Rattle.hungarian.specs.State.{Sizes, Scratch, State, state-none, state-least}
+use Rattle.alternating_tree.specs.State.{Sizes, Scratch, State, state-none, state-least}
 use mathlib.Core.Path.{subst}
 
 abbrev Inv-loop : tie.InvT-loop

@@ -8,7 +8,7 @@ use mathlib.Core.Path.{_≡_, refl, ap, _∙_}
 use mathlib.Core.List.{List, _++_}
 use lib.ListN.{drop, getD, replicate, getD-replicate}
 use Rattle.assignment_problem.specs.Choice.{cellAt}
-use Rattle.hungarian.specs.Lists.{at}
+use Rattle.alternating_tree.specs.Lists.{at}
 use Rattle.assignment_problem.specs.Chosen.{tab-within, tab-total}
 
 slice-aggregate-solve : tie.Need-slice-aggregate-solve

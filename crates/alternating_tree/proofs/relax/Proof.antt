@@ -1,12 +1,12 @@
--- hungarian::relax meets its contract.
-use Rattle.hungarian.proofs.relax.Statement.{statement}
-use Rattle.hungarian.proofs.relax.Tie as tie
+-- alternating_tree::relax meets its contract.
+use Rattle.alternating_tree.proofs.relax.Statement.{statement}
+use Rattle.alternating_tree.proofs.relax.Tie as tie
 use Prim.Native.Nat.{ℕ, _≤_, _<_, _-_, _+_, _*_}
 use mathlib.Core.Path.{_≡_, refl, sym, ap, _∙_}
 use mathlib.Core.Logic.{⊎-elim}
 use native.Mathlib.Omega.{arith}
 use lib.ListN.{length, length-set, set}
-use Rattle.hungarian.specs.Lists.{at, big, at-same, at-other, Lowered}
+use Rattle.alternating_tree.specs.Lists.{at, big, at-same, at-other, Lowered}
 use mathlib.Core.List.{List}
 use Rattle.laws.specs.Bools.{same?}
 use mathlib.Core.Logic.{inl, inr}

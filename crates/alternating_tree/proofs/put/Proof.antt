@@ -1,10 +1,10 @@
--- hungarian::put meets its contract.
+-- alternating_tree::put meets its contract.
 use borrow.Author.Needs.{needs}
-use Rattle.hungarian.proofs.put.Statement.{statement}
-use Rattle.hungarian.proofs.put.Tie as tie
+use Rattle.alternating_tree.proofs.put.Statement.{statement}
+use Rattle.alternating_tree.proofs.put.Tie as tie
 use mathlib.Core.Path.{refl}
 use native.Mathlib.Omega.{arith}
-use Rattle.hungarian.specs.Lists.{at-same, at-other}
+use Rattle.alternating_tree.specs.Lists.{at-same, at-other}
 
 mul-row-of : tie.Need-mul-row-of
 mul-row-of c = search needs

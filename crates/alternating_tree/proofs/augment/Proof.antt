@@ -1,6 +1,6 @@
--- hungarian::augment meets its contract.
-use Rattle.hungarian.proofs.augment.Statement.{statement}
-use Rattle.hungarian.proofs.augment.Tie as tie
+-- alternating_tree::augment meets its contract.
+use Rattle.alternating_tree.proofs.augment.Statement.{statement}
+use Rattle.alternating_tree.proofs.augment.Tie as tie
 use Prim.Native.Nat.{ℕ, _≤_, _<_}
 use mathlib.Core.List.{List}
 use mathlib.Core.Logic.{⊎-elim}
@@ -9,7 +9,7 @@ use native.Mathlib.Omega.{arith}
 use lib.ListN.{length, length-set, set}
 use Rattle.laws.specs.Bools.{same?}
 use Rattle.assignment_problem.specs.Insertion.{Path, Walk, walk-step}
-use Rattle.hungarian.specs.Lists.{at, at-same, at-other, Put, Going, Gone}
+use Rattle.alternating_tree.specs.Lists.{at, at-same, at-other, Put, Going, Gone}
 
 abbrev Inv-loop : tie.InvT-loop
 Inv-loop row-of₀ col-of₀ from seen n cols j hole₀ row-of col-of hole =

@@ -1,11 +1,11 @@
--- hungarian::raise_rows meets its contract.
+-- alternating_tree::raise_rows meets its contract.
 use native.Mathlib.Omega.{arith}
-use Rattle.hungarian.proofs.raise_rows.Statement.{statement}
-use Rattle.hungarian.proofs.raise_rows.Tie as tie
+use Rattle.alternating_tree.proofs.raise_rows.Statement.{statement}
+use Rattle.alternating_tree.proofs.raise_rows.Tie as tie
 use Prim.Native.Nat.{ℕ, _+_, _-_, _≤_, _<_}
 use mathlib.Core.Path.{_≡_, refl}
 use lib.ListN.{length, length-set}
-use Rattle.hungarian.specs.Lists.{at, gain, gain-le, below-set, beyond-set}
+use Rattle.alternating_tree.specs.Lists.{at, gain, gain-le, below-set, beyond-set}
 
 abbrev Inv-loop : tie.InvT-loop
 Inv-loop seen col-of dist u₀ rows d r₀ u r =

@@ -1,10 +1,10 @@
--- hungarian::free_column meets its contract.
-use Rattle.hungarian.proofs.free_column.Statement.{statement}
-use Rattle.hungarian.proofs.free_column.Tie as tie
+-- alternating_tree::free_column meets its contract.
+use Rattle.alternating_tree.proofs.free_column.Statement.{statement}
+use Rattle.alternating_tree.proofs.free_column.Tie as tie
 use Prim.Native.Nat.{ℕ, _≤_, _<_, _-_}
 use borrow.Author.Count.{below-more}
 use native.Mathlib.Omega.{arith}
-use Rattle.hungarian.specs.Lists.{at}
+use Rattle.alternating_tree.specs.Lists.{at}
 
 abbrev Inv-loop : tie.InvT-loop
 Inv-loop row-of n cols j₀ j = (j ≤ cols) × ((k : ℕ) → k < j → at row-of k < n)

@@ -1,14 +1,14 @@
--- hungarian::join meets its contract.
+-- alternating_tree::join meets its contract.
 use borrow.Author.Needs.{needs}
-use Rattle.hungarian.proofs.join.Statement.{statement}
-use Rattle.hungarian.proofs.join.Tie as tie
+use Rattle.alternating_tree.proofs.join.Statement.{statement}
+use Rattle.alternating_tree.proofs.join.Tie as tie
 use Prim.Native.Nat.{ℕ}
 use mathlib.Core.Path.{_≡_, sym, ap, _∙_}
 use mathlib.Core.Logic.{⊎-elim}
 use native.Mathlib.Omega.{arith}
 use lib.ListN.{length-set, set}
 use Rattle.laws.specs.Bools.{same?}
-use Rattle.hungarian.specs.Lists.{at, at-same, at-other}
+use Rattle.alternating_tree.specs.Lists.{at, at-same, at-other}
 
 mul-seen : tie.Need-mul-seen
 mul-seen c = search needs

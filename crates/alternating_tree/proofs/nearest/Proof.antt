@@ -1,11 +1,11 @@
--- hungarian::nearest meets its contract.
-use Rattle.hungarian.proofs.nearest.Statement.{statement}
-use Rattle.hungarian.proofs.nearest.Tie as tie
+-- alternating_tree::nearest meets its contract.
+use Rattle.alternating_tree.proofs.nearest.Statement.{statement}
+use Rattle.alternating_tree.proofs.nearest.Tie as tie
 use Prim.Native.Nat.{ℕ, _≤_, _<_, _-_}
 use mathlib.Core.Path.{_≡_}
 use mathlib.Core.Logic.{⊎-elim}
 use native.Mathlib.Omega.{arith}
-use Rattle.hungarian.specs.Lists.{at, below-keep}
+use Rattle.alternating_tree.specs.Lists.{at, below-keep}
 
 abbrev Inv-loop : tie.InvT-loop
 Inv-loop seen dist cols f best₀ j₀ best j =

@@ -1,11 +1,11 @@
--- hungarian::begin meets its contract.
+-- alternating_tree::begin meets its contract.
 use native.Mathlib.Omega.{arith}
-use Rattle.hungarian.proofs.begin.Statement.{statement}
-use Rattle.hungarian.proofs.begin.Tie as tie
+use Rattle.alternating_tree.proofs.begin.Statement.{statement}
+use Rattle.alternating_tree.proofs.begin.Tie as tie
 use Prim.Native.Nat.{ℕ, _+_, _-_, _*_, _≤_, _<_}
 use mathlib.Core.Path.{_≡_, refl, _∙_}
 use lib.ListN.{length, length-set}
-use Rattle.hungarian.specs.Lists.{at, at-same, at-other, below-set}
+use Rattle.alternating_tree.specs.Lists.{at, at-same, at-other, below-set}
 
 abbrev Inv-loop : tie.InvT-loop
 Inv-loop cells cols i w dist₀ from₀ j₀ dist from j =

@@ -1,9 +1,9 @@
--- hungarian::gained meets its contract.
+-- alternating_tree::gained meets its contract.
 use native.Mathlib.Omega.{arith}
-use Rattle.hungarian.proofs.gained.Statement.{statement}
-use Rattle.hungarian.proofs.gained.Tie as tie
+use Rattle.alternating_tree.proofs.gained.Statement.{statement}
+use Rattle.alternating_tree.proofs.gained.Tie as tie
 use mathlib.Core.Path.{sym}
-use Rattle.hungarian.specs.Lists.{gain-in, gain-out}
+use Rattle.alternating_tree.specs.Lists.{gain-in, gain-out}
 
 returns : tie.Need-returns
 returns c = sym (gain-out (c .before .args .s) (c .before .args .d) (c .before .args .k) (c .if1 .taken))

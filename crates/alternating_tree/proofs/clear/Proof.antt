@@ -1,11 +1,11 @@
--- hungarian::clear meets its contract.
-use Rattle.hungarian.proofs.clear.Statement.{statement}
-use Rattle.hungarian.proofs.clear.Tie as tie
+-- alternating_tree::clear meets its contract.
+use Rattle.alternating_tree.proofs.clear.Statement.{statement}
+use Rattle.alternating_tree.proofs.clear.Tie as tie
 use Prim.Native.Nat.{ℕ, _≤_, _<_, _-_}
 use mathlib.Core.Path.{_≡_, refl, _∙_}
 use native.Mathlib.Omega.{arith}
 use lib.ListN.{length, length-set}
-use Rattle.hungarian.specs.Lists.{at, at-same, at-other, below-set}
+use Rattle.alternating_tree.specs.Lists.{at, at-same, at-other, below-set}
 
 abbrev Inv-loop : tie.InvT-loop
 Inv-loop seen₀ cols j₀ seen j = (j ≤ cols) × (length seen ≡ 65) × ((k : ℕ) → k < j → at seen k ≡ 0)

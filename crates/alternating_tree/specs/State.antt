@@ -17,7 +17,7 @@ use Rattle.assignment_problem.specs.Chosen.{chosen-choice, chosen-total, chosen
 use Rattle.assignment_problem.specs.Prices.{tight-least}
 use Rattle.assignment_problem.specs.Insertion.{lift, lift-in, lift-out, Matched, Priced, Tree, Path, Walk, lift-priced, lift-tree, mark, start-matched, start-priced, start-tree, way, walk-start, walk-matched, walk-priced, some-free, matched-choice, priced-tight}
 use Rattle.assignment_problem.specs.Insertion as Step
-use Rattle.hungarian.specs.Lists.{at, big, at-same, at-other, gain, gain-in, gain-out, left, left-in, left-out, Begun, Nearest, RaisedRows, RaisedColumns, FreeColumn, Relaxed, Going, Gone}
+use Rattle.alternating_tree.specs.Lists.{at, big, at-same, at-other, gain, gain-in, gain-out, left, left-in, left-out, Begun, Nearest, RaisedRows, RaisedColumns, FreeColumn, Relaxed, Going, Gone}
 
 -- a row's cells lie in the matrix
 pub row-in : (r n m : ℕ) → r < n → r * m + m ≤ n * m
