@@ -2,7 +2,7 @@
 -- P7 to P10 of the ranks that the pass uses, over sheets of one car. Assumes nothing.
 use mathlib.Core.Path.{_≡_, refl}
 use mathlib.Core.Bool.{true}
-use mathlib.Core.List.{List, [], _∷_}
+use mathlib.Core.List.{[], _∷_}
 use Prim.Native.Nat.{ℕ, _+_}
 use lib.ListN.{getD}
 use lib.Ieee.{Float, ofBits, binary64, add, sub, mul, div, neg, lt, le, eq, round, ofInt}

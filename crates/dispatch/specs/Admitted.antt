@@ -1,7 +1,7 @@
 -- Document 01's admitted ranges, as far as a rank depends on them, and how large the waiters' sums and a bonus can be in them. Assumes nothing.
 use Prim.Native.Nat.{ℕ, zero, suc, _+_, _*_, _^_, _≤_, _<_}
 use native.Mathlib.Omega.{arith}
-use mathlib.Core.Path.{_≡_, refl}
+use mathlib.Core.Path.{_≡_}
 use mathlib.Core.Bool.{Bool, true, false, cond}
 use lib.Dec.{lit≤, eqb}
 use lib.Pow.{pow-mono}
@@ -48,7 +48,7 @@ pub weighed : (s : Sheet) (i : ℕ) → Admitted s → i < s .cars → Weighed s
 weighed s i a l =
     record {
       weights = λ w lw. finite-real (s .waiting w .weight) (mass-finite (s .waiting w .weight) (a .weight w lw));
-      room = room-finite (s .car i .capacity) (s .car i .load) (a .capacity i l) (a .load i l)
+      room = room-finite (s .car i .capacity) (s .car i .load) (a .capacity i l) (a .load i l);
     }
 
 -- ---- bounds by powers of two

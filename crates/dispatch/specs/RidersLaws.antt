@@ -6,24 +6,22 @@ use mathlib.Core.Bool.{Bool, true, false, not, _&&_, _||_, cond}
 use mathlib.Core.List.{List, _++_}
 use lib.Dec.{eqb, ltb}
 use lib.ListN.{getD, drop}
-use lib.Ieee.{Float, nan, le}
+use lib.Ieee.{Float, nan}
 use Rattle.laws.specs.Folds.{any, any-cong, count, count-cong}
 use Rattle.laws.specs.Collected.{collected, collected-cong, any-collected}
-use Rattle.fp.specs.Num.{zero}
 use Rattle.mask.specs.Mask.{has}
 use Rattle.mask.specs.MaskLaws.{has-built}
 use Rattle.components.specs.declared.Place.{Place}
 use Rattle.components.specs.declared.Place.the-variants.{At, Nowhere}
-use Rattle.components.specs.Cars.{remaining}
 use Rattle.components.specs.Sheet.{Sheet}
 use Rattle.manifest.specs.declared.Waiters.{Waiters}
 use Rattle.manifest.specs.World.{stopId, stopAt, stopPosition, goal, rides}
 use Rattle.manifest.specs.Stops.{HoldsStops, DistinctStops, stopIndex, placeAt, positionIn, position-is, index-is}
 use Rattle.manifest.specs.Holds.{HoldsAboard}
 use Rattle.riders.specs.declared.Riders.{Riders}
-use Rattle.riders.specs.Riders.{known, knownAt, exitsAt, exitsIn, destsIn, routed, routedIn, ridersIn, Seats}
-use Rattle.dispatch.specs.Useful.{bypass, onPathTo, canExitHere, servable, onAboardPath, pairIsUseful}
-use Rattle.dispatch.specs.Pairs.{servableBy, onPathIn, pathAllows, usefulBy}
+use Rattle.riders.specs.Riders.{knownAt, exitsAt, exitsIn, destsIn, routed, routedIn, ridersIn, Seats}
+use Rattle.dispatch.specs.Useful.{onPathTo, canExitHere, onAboardPath, pairIsUseful}
+use Rattle.dispatch.specs.Pairs.{onPathIn, pathAllows, usefulBy}
 use Rattle.dispatch.specs.WaitersLaws.{HoldsWaiters, Weighed, servable-is}
 
 abbrev pub isAt : Place → Bool

@@ -1,14 +1,13 @@
 -- What is held of a stop's waiters is the sheet's; and the least weight of each class answers rider_can_board for all of them. Assumes nothing.
 use Prim.Native.Nat.{ℕ, _<_}
 use mathlib.Core.Path.{_≡_, refl, sym, ap, ap₂, _∙_}
-use mathlib.Core.Bool.{Bool, true, false, not, _&&_, _||_, cond}
+use mathlib.Core.Bool.{Bool, true, false, not, _&&_, _||_, cond, and-false}
 use mathlib.Core.List.{List}
-use lib.Dec.{eqb}
 use lib.ListN.{getD}
 use lib.Ieee.{Float, nan, lt}
 use Rattle.laws.specs.Bools.{never}
 use Rattle.laws.specs.Folds.{fold, fold-cong, fold-map, fold-keep, fold-flag, any, any-cong, any-or, any-and}
-use Rattle.fp.specs.Num.{zero, infinity, plus, times, lesser, natural, finite}
+use Rattle.fp.specs.Num.{plus, times, lesser, natural, finite}
 use Rattle.fp.specs.Order.{real, lt-asym}
 use Rattle.fp.specs.Least.{least, least-any}
 use Rattle.components.specs.declared.Car.{Car}
@@ -17,11 +16,11 @@ use Rattle.components.specs.declared.Place.the-variants.{At, Nowhere}
 use Rattle.components.specs.Cars.{remaining}
 use Rattle.components.specs.Sheet.{Sheet}
 use Rattle.manifest.specs.declared.Waiters.{Waiters}
-use Rattle.manifest.specs.World.{stopId, stopAt, stopPosition}
+use Rattle.manifest.specs.World.{stopAt, stopPosition}
 use Rattle.manifest.specs.Manifest.{waitsAt, someoneWaits, riderlessCall}
-use Rattle.manifest.specs.Stops.{HoldsStops, positionIn, position-is}
+use Rattle.manifest.specs.Stops.{HoldsStops, position-is}
 use Rattle.manifest.specs.Holds.{HoldsWaiting}
-use Rattle.manifest.specs.Waiters.{goesUp, goesDown, staysLevel, lesserIf, nobody, withRider, meet, waitersIn}
+use Rattle.manifest.specs.Waiters.{goesUp, goesDown, staysLevel, nobody, withRider, meet, waitersIn}
 use Rattle.dispatch.specs.Waits.{sumAt, waitTicksSum, waitTicksSquaredSum}
 use Rattle.dispatch.specs.Useful.{riderCanBoard, lampsAllow, servable}
 use Rattle.dispatch.specs.Pairs.{canBoard, servableBy}
@@ -62,10 +61,6 @@ module _ (s : Sheet) (j : ℕ) where
   waiters call = fold step (nobody call) (s .waits)
 
   -- ---- each part of it is a walk of its own
-
-  inner : {A : Type 0} (a b : Bool) (x y : A) → cond a (cond b x y) y ≡ cond (a && b) x y
-  inner true b x y = refl
-  inner false b x y = refl
 
   module _ (call : Bool) where
     someone-is : waiters call .someone ≡ someoneWaits s j
@@ -187,35 +182,14 @@ pub record Weighed (s : Sheet) (i : ℕ) : Type 0 where
 -- one rider: u goes up, d goes down, never both; a waits here, f fits
 one-rider : (a f u d up down : Bool) → (u ≡ true → d ≡ false)
     → (((a && not (u || d)) && f) || ((up && ((a && u) && f)) || (down && ((a && d) && f)))) ≡ (a && (f && (not (u && not up) && not (d && not down))))
-one-rider false f u d up down h = by up down
-  where
-    by : (x y : Bool) → ((x && false) || (y && false)) ≡ false
-    by true true = refl
-    by true false = refl
-    by false true = refl
-    by false false = refl
-one-rider true f true true up down h = never (sym (h refl))
-one-rider true true true false true true h = refl
-one-rider true true true false true false h = refl
-one-rider true true true false false true h = refl
-one-rider true true true false false false h = refl
-one-rider true true false true true true h = refl
-one-rider true true false true true false h = refl
-one-rider true true false true false true h = refl
-one-rider true true false true false false h = refl
+one-rider false f u d up down h = simp and-false
+one-rider true false u d up down h = simp and-false
+one-rider true true true true up down h = never (sym (h refl))
+one-rider true true true false true down h = refl
+one-rider true true true false false down h = simp and-false
+one-rider true true false true up true h = simp and-false
+one-rider true true false true up false h = simp and-false
 one-rider true true false false up down h = refl
-one-rider true false true false true true h = refl
-one-rider true false true false true false h = refl
-one-rider true false true false false true h = refl
-one-rider true false true false false false h = refl
-one-rider true false false true true true h = refl
-one-rider true false false true true false h = refl
-one-rider true false false true false true h = refl
-one-rider true false false true false false h = refl
-one-rider true false false false true true h = refl
-one-rider true false false false true false h = refl
-one-rider true false false false false true h = refl
-one-rider true false false false false false h = refl
 
 -- the lamps by the two classes
 lamps : (c : Car) (p : Float) (d : Place) → lampsAllow c p d ≡ (not (goesUp p d && not (c .up)) && not (goesDown p d && not (c .down)))
@@ -227,9 +201,6 @@ not-both-ways p Nowhere h = refl
 not-both-ways p (At d) h = lt-asym p d h
 
 module _ (s : Sheet) (i j : ℕ) (h : Weighed s i) where
-  room : Float
-  room = remaining (s .car i)
-
   fits : ℕ → Bool
   fits w = not (lt (remaining (s .car i)) (weightOf s j w))
 

@@ -1,6 +1,6 @@
 -- How long riders have waited at a stop, and the bonus for it: mod.rs. Assumes nothing.
 use Prim.Native.Nat.{ℕ}
-use mathlib.Core.Bool.{Bool, cond}
+use mathlib.Core.Bool.{cond}
 use lib.Ieee.{Float, lt, neg}
 use Rattle.laws.specs.Folds.{fold}
 use Rattle.fp.specs.Num.{zero, plus, times, maxZero, fma, natural}

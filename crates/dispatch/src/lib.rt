@@ -6,7 +6,7 @@ ghost use lib.ListN.{length};
 ghost use lib.Ieee.{lt, le};
 ghost use Rattle.fp.specs.Num.{zero, over};
 ghost use Rattle.components.specs.declared.Place.the-variants.{At};
-ghost use Rattle.dispatch.specs.Useful.{loadedTo, bypass, onPathTo};
+ghost use Rattle.dispatch.specs.Useful.{loadedTo, bypass, lampsAllow, riderCanBoard, onPathTo};
 ghost use Rattle.dispatch.specs.Pairs.{canBoard, servableBy, onPathIn, pathAllows, usefulBy};
 ghost use Rattle.dispatch.specs.Waits.{fairnessBonus, withBonus};
 use components::Car;
@@ -64,6 +64,27 @@ pub fn bypass_in_current_direction(car: Car, goal: Place, p: f64) -> bool
         Place::Nowhere => false,
         Place::At(g) => bypass_to(car, g, p),
     }
+}
+
+// Whether the car's lamps let a rider at p board who is bound for this place.
+fn lamps_allow(car: Car, p: f64, place: Place) -> bool
+    ensures { λ r. ⌜ r ≡ lampsAllow car p place ⌝ }
+{
+    let up = car.up;
+    let down = car.down;
+    match place {
+        Place::Nowhere => true,
+        Place::At(d) => !((p < d) & !up) & !((d < p) & !down),
+    }
+}
+
+// Whether a rider of this weight at p, bound for this place, can board.
+pub fn rider_can_board(car: Car, p: f64, weight: f64, place: Place) -> bool
+    ensures { λ r. ⌜ r ≡ riderCanBoard car p weight place ⌝ }
+{
+    let room = car.remaining_capacity();
+    let lamps = lamps_allow(car, p, place);
+    !(room < weight) & lamps
 }
 
 // rider_can_board, asked of all who wait at once: by the least weight of each class that the lamps let in.

@@ -1,6 +1,6 @@
 -- ETD: etd.rs, with its order of operations. Assumes nothing.
 use Prim.Native.Nat.{ℕ, _+_, _*_}
-use mathlib.Core.Bool.{Bool, true, false, _&&_, cond}
+use mathlib.Core.Bool.{Bool, false, _&&_, cond}
 use lib.Ieee.{Float, lt, le, neg}
 use Rattle.laws.specs.Folds.{fold, count}
 use Rattle.fp.specs.Num.{zero, half, threeTenths, epsilon, plus, minus, times, over, maxZero, fma, finite, natural, distance}

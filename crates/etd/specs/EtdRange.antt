@@ -3,13 +3,12 @@
 use Prim.Native.Nat.{ℕ, _+_, _*_, _^_, _≤_, _<_}
 use native.Mathlib.Omega.{arith}
 use native.Mathlib.Nat.{le-trans}
-use mathlib.Core.Path.{_≡_, refl, sym, ap, _∙_}
+use mathlib.Core.Path.{_≡_, refl}
 use mathlib.Core.Bool.{Bool, true, false, _&&_, cond}
 use lib.Dec.{lit≤}
-use lib.Pow.{pow-mono}
-use lib.Ieee.{Float, binary64, ofBits, lt, le, neg}
+use lib.Ieee.{Float, ofBits, lt, le, neg}
 use Rattle.laws.specs.Bools.{never}
-use Rattle.laws.specs.Folds.{fold, count-le}
+use Rattle.laws.specs.Folds.{count-le}
 use Rattle.fp.specs.Num as Num
 use Rattle.fp.specs.Num.{half, threeTenths, plus, minus, times, over, maxZero, fma, finite, natural, distance}
 use Rattle.fp.specs.Nonneg.{maxZero-nonneg}
@@ -18,7 +17,6 @@ use Rattle.fp.specs.Sizes.{AtLeast, natural-size, neg-size, maxZero-size, plus-
 use Rattle.components.specs.declared.Place.{Place}
 use Rattle.components.specs.declared.Place.the-variants.{At, Nowhere}
 use Rattle.components.specs.declared.Phase.{Phase}
-use Rattle.components.specs.declared.Rank.{Rank}
 use Rattle.components.specs.declared.Rank.the-variants.{Cost, Never}
 use Rattle.components.specs.Cars.{isMoving, isIdle}
 use Rattle.components.specs.Sheet.{Sheet}

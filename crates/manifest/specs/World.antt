@@ -1,6 +1,6 @@
 -- What world.rs and the group answer of a sheet: a stop by its id, the riders of a car, the stops of the group. Assumes nothing.
 use Prim.Native.Nat.{ℕ}
-use mathlib.Core.Bool.{Bool, true, false, not, _&&_, cond}
+use mathlib.Core.Bool.{Bool}
 use lib.Dec.{eqb}
 use lib.Ieee.{Float}
 use Rattle.laws.specs.Folds.{any, lookup}

@@ -3,13 +3,13 @@
 use Prim.Native.Nat.{ℕ, _+_, _<_, _≤_}
 use native.Mathlib.Omega.{arith}
 use mathlib.Core.Path.{_≡_, refl, sym, ap, _∙_}
-use mathlib.Core.Bool.{Bool, true, false, not, _&&_, _||_, cond, and-false, or-false}
+use mathlib.Core.Bool.{Bool, true, false, not, _&&_, _||_, cond, or-false}
 use mathlib.Core.List.{List, _++_}
 use lib.Dec.{eqb, ltb}
 use lib.ListN.{getD, length, set, drop}
 use lib.Ieee.{Float, nan}
-use Rattle.laws.specs.Bools.{bit, never}
-use Rattle.laws.specs.Folds.{any, any-next, any-cong, none-any, count, count-step, count-le}
+use Rattle.laws.specs.Bools.{bit}
+use Rattle.laws.specs.Folds.{any, any-next, none-any, count, count-step, count-le}
 use Rattle.laws.specs.Collected.{collected, collected-take, collected-skip, collected-length}
 use Rattle.mask.specs.Mask.{has, built}
 use Rattle.mask.specs.MaskLaws.{built-cong, has-built, none-built}

@@ -9,7 +9,7 @@ use Rattle.components.specs.declared.Place.the-variants as place
 use Rattle.components.specs.declared.Traffic.{Traffic}
 use Rattle.components.specs.declared.Traffic.the-variants as traffic
 use Rattle.components.specs.declared.Rank.{Rank}
-use Rattle.components.specs.declared.Rank.the-variants.{Cost, Never}
+use Rattle.components.specs.declared.Rank.the-variants.{Never}
 use Rattle.components.specs.Sheet.{Sheet}
 use Rattle.manifest.specs.World.{stopAt, goal}
 use Rattle.dispatch.specs.Useful.{pairIsUseful}

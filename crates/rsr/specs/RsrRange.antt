@@ -1,12 +1,12 @@
 -- RSR's ranks are finite and never below zero, on every sheet; and in document 01's admitted ranges a useful pair of a car that can move has a rank.
 -- Assumes nothing.
-use Prim.Native.Nat.{ℕ, _+_, _^_, _<_}
+use Prim.Native.Nat.{ℕ, _^_, _<_}
 use mathlib.Core.Path.{_≡_, refl}
 use mathlib.Core.Bool.{Bool, true, false, not, _&&_, cond}
 use lib.Dec.{lit≤}
 use lib.Ieee.{Float, ofBits, lt, le}
 use Rattle.fp.specs.Num as Num
-use Rattle.fp.specs.Num.{one, plus, minus, times, over, maxZero, finite, distance}
+use Rattle.fp.specs.Num.{one, plus, minus, times, over, finite, distance}
 use Rattle.fp.specs.Order.{le-tells}
 use Rattle.fp.specs.Nonneg.{maxZero-nonneg}
 use Rattle.fp.specs.Inside.{AtMost, size-finite}
@@ -14,8 +14,7 @@ use Rattle.fp.specs.Sizes.{maxZero-size, plus-size, minus-size, distance-size, 
 use Rattle.mask.specs.Mask.{has}
 use Rattle.components.specs.declared.Traffic.{Traffic}
 use Rattle.components.specs.declared.Traffic.the-variants as traffic
-use Rattle.components.specs.declared.Rank.{Rank}
-use Rattle.components.specs.declared.Rank.the-variants.{Cost, Never}
+use Rattle.components.specs.declared.Rank.the-variants.{Cost}
 use Rattle.components.specs.Sheet.{Sheet}
 use Rattle.manifest.specs.World.{stopAt, goal}
 use Rattle.dispatch.specs.Useful.{pairIsUseful}

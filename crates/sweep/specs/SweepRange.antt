@@ -1,7 +1,7 @@
 -- A sweep's cost between admitted positions is finite and never below zero. Assumes nothing.
 use Prim.Native.Nat.{ℕ}
 use native.Mathlib.Omega.{arith}
-use mathlib.Core.Path.{_≡_, refl}
+use mathlib.Core.Path.{_≡_}
 use mathlib.Core.Bool.{Bool, true, false, cond}
 use lib.Ieee.{Float, le}
 use Rattle.fp.specs.Num.{zero, finite, distance}

@@ -1,6 +1,6 @@
 -- Sweeps: sweep.rs, and SCAN's prepare_car. Assumes nothing.
 use Prim.Native.Nat.{ℕ, _+_, _*_}
-use mathlib.Core.Bool.{Bool, true, false, cond}
+use mathlib.Core.Bool.{Bool, cond}
 use lib.Ieee.{Float, lt}
 use Rattle.fp.specs.Num.{plus, minus, epsilon, distance}
 use Rattle.components.specs.declared.Direction.{Direction}

@@ -3,7 +3,7 @@ use Prim.Native.Nat.{_≤_, _-_}
 use Rattle.etd.specs.Pairs.{delayIn}
 use Rattle.laws.specs.Folds.{fold, fold-step, ended}
 use borrow.Author.Needs.{needs}
-use lib.Ieee.{Float, binary64, add}
+use lib.Ieee.{binary64, add}
 use mathlib.Core.Path.{_≡_, refl, ap}
 use native.Mathlib.Omega.{arith}
 use Rattle.etd.proofs.existing_rider_delay.Statement.{statement}

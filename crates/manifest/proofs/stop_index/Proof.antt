@@ -1,5 +1,4 @@
 -- manifest::stop_index meets its contract.
-use Prim.Native.Nat.{ℕ}
 use Rattle.manifest.specs.Stops.{Searched, search-start, search-found, search-on, search-none}
 use borrow.Author.Needs.{needs}
 use Rattle.manifest.proofs.stop_index.Statement.{statement}

@@ -3,8 +3,6 @@ use Prim.Native.Nat.{_≤_, _-_}
 use Rattle.laws.specs.Folds.{fold, fold-step, ended}
 use Rattle.manifest.specs.Waiters.{waitersIn}
 use borrow.Author.Needs.{needs}
-use lib.Ieee.{nan}
-use lib.ListN.{getD}
 use mathlib.Core.Path.{_≡_}
 use native.Mathlib.Omega.{arith}
 use Rattle.manifest.proofs.waiters_at.Statement.{statement}

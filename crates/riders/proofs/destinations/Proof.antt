@@ -2,7 +2,6 @@
 use Prim.Native.Nat.{_≤_, _-_}
 use Rattle.riders.specs.Riders.{Held, held-start, held-le, held-length, held-next, held-end}
 use borrow.Author.Needs.{needs}
-use mathlib.Core.Path.{_≡_}
 use native.Mathlib.Omega.{arith}
 use Rattle.riders.proofs.destinations.Statement.{statement}
 use Rattle.riders.proofs.destinations.Tie as tie

@@ -1,7 +1,6 @@
 -- riders::riders_of meets its contract.
 use Rattle.riders.specs.Riders.{ridersIn}
 use borrow.Author.Needs.{needs}
-use mathlib.Core.Path.{sym, ap, _∙_}
 use Rattle.riders.proofs.riders_of.Statement.{statement}
 use Rattle.riders.proofs.riders_of.Tie as tie
 
