@@ -564,7 +564,7 @@ moving-target n id =
 
 -- ---- the sheet
 
-body-at : {s : List ℕ} {c : Counts} {k : Kind} → Read s c k → (at : ℕ) → endOf c ≡ at → bodyRefusal s c k (from s at) ≡ 0
+pub body-at : {s : List ℕ} {c : Counts} {k : Kind} → Read s c k → (at : ℕ) → endOf c ≡ at → bodyRefusal s c k (from s at) ≡ 0
 body-at {s} {c} {k} r at e = subst (λ x. bodyRefusal s c k (from s x) ≡ 0) e (r .body)
 
 module _ (s : List ℕ) (c : Counts) (h : Records s c) where

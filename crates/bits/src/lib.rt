@@ -1,7 +1,7 @@
 // Fields of bits in a slice of bytes, most significant bit first. Past the end of the slice every bit is 0.
 ghost use mathlib.Core.Path.{_≡_};
 ghost use Prim.Native.Nat.{_+_, _-_, _*_, _/_, _%_, _^_, _<_, _≤_};
-ghost use lib.ListN.{getD};
+ghost use lib.ListN.{getD, length};
 ghost use Rattle.bits.specs.Field.{fieldAt, flagAt, IsField};
 
 // Where a bit stands: its byte, and its place in that byte, 0 for the highest.
@@ -27,8 +27,22 @@ fn byte(s: &[u8], k: usize) -> u64
     if k < s.len() { s[k] as u64 } else { 0 }
 }
 
-// The eight bytes from byte k.
-fn word(s: &[u8], k: usize) -> u64
+// The eight bytes from byte k, which all lie in the slice.
+fn word_inside(s: &[u8], k: usize) -> u64
+    requires { ⌜ k + 8 ≤ length (now s) ⌝ }
+    ensures { λ r. ⌜ r ≡ fieldAt (now (s .entry)) (8 * k) 64 ⌝ }
+{
+    let mut r: u64 = 0;
+    let mut i: usize = 0;
+    while i < 8 {
+        r = (r << 8) + s[k + i] as u64;
+        i += 1;
+    }
+    r
+}
+
+// The eight bytes from byte k, past the end 0.
+fn word_past(s: &[u8], k: usize) -> u64
     requires { ⌜ k < 2 ^ 60 ⌝ }
     ensures { λ r. ⌜ r ≡ fieldAt (now (s .entry)) (8 * k) 64 ⌝ }
 {
@@ -39,6 +53,18 @@ fn word(s: &[u8], k: usize) -> u64
         i += 1;
     }
     r
+}
+
+// The eight bytes from byte k; inside the slice a single load.
+fn word(s: &[u8], k: usize) -> u64
+    requires { ⌜ k < 2 ^ 60 ⌝ }
+    ensures { λ r. ⌜ r ≡ fieldAt (now (s .entry)) (8 * k) 64 ⌝ }
+{
+    if k + 8 <= s.len() {
+        word_inside(s, k)
+    } else {
+        word_past(s, k)
+    }
 }
 
 // The 64 bits from bit at, in nine bytes.

@@ -6,7 +6,7 @@ use sheetgen::generate::{PROFILES, Profile, generate};
 use sheetgen::provoke;
 use sheetgen::rng::Rng;
 use sheetgen::shrink::shrink;
-use sheetgen::{Aboard, Car, Line, Sheet, Stop, Waiting, read};
+use sheetgen::{Aboard, Car, Demand, Line, Sheet, Stop, Waiting, read};
 
 use crate::answer::{Answer, Pass, answer};
 use crate::compare::Comparison;
@@ -87,6 +87,62 @@ fn tables(cases: &mut Cases) {
     }
 }
 
+/// Every cut of a small sheet, wrong counts, tails, limits at their ends, and each bit of a policy before its weights flipped.
+fn edges(cases: &mut Cases) {
+    let mut small = Sheet::new(sheetgen::sheet::SCAN);
+    for limit in [0, 1, 2, 65_534, 65_535] {
+        small.policy.limit = limit;
+        cases.add(small.write());
+    }
+    let policy = small.write();
+    for bit in (0..130).chain(514..policy.len() * 8) {
+        let mut flipped = policy.clone();
+        flipped[bit / 8] ^= 0x80 >> (bit % 8);
+        cases.add(flipped);
+    }
+    small.stops.push(Stop {
+        id: 1,
+        position: 0.0,
+    });
+    small.demands.push(Demand {
+        stop: 1,
+        riding: 1,
+        call: false,
+    });
+    let whole = small.write();
+    for length in 0..=whole.len() {
+        cases.add(whole[..length].to_vec());
+    }
+    for count in [0, 1, 2, 4, 65_535u16] {
+        let mut stated = whole.clone();
+        stated[1..3].copy_from_slice(&count.to_be_bytes());
+        cases.add(stated);
+    }
+    for more in [0, 1, 0x80] {
+        let mut longer = whole.clone();
+        longer.push(more);
+        cases.add(longer);
+    }
+    // The last demand record of 1 to 8 ends at every bit of a byte but for its tail.
+    for stops in 1..=8 {
+        let mut s = Sheet::new(sheetgen::sheet::SCAN);
+        s.stops = (1..=stops).map(|id| Stop { id, position: 0.0 }).collect();
+        s.demands = vec![Demand {
+            stop: stops,
+            riding: 0,
+            call: true,
+        }];
+        let bytes = s.write();
+        let used = 24 + 490 + 118 * stops as usize + 71;
+        cases.add(bytes.clone());
+        for bit in used..bytes.len() * 8 {
+            let mut set = bytes.clone();
+            set[bit / 8] |= 0x80 >> (bit % 8);
+            cases.add(set);
+        }
+    }
+}
+
 /// The refusal's number and the kind of the record at its offset.
 fn key(sheet: &[u8]) -> (u32, usize) {
     read(sheet).map_or((0, 0), |r| {
@@ -125,6 +181,7 @@ pub fn refusals(seed: u64) -> (Vec<u8>, usize) {
     cases.add(Vec::new());
     cases.add(Sheet::example().write());
     tables(&mut cases);
+    edges(&mut cases);
     // The smallest of many, two for each way of spoiling and each kind that it spoils.
     let ways = provoke::ways() as u64;
     for way in 0..ways {

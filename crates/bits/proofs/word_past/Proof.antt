@@ -1,4 +1,4 @@
--- `bits::word` meets its contract.
+-- bits::word_past meets its contract.
 use mathlib.Core.Path.{_≡_, refl, sym, ap, _∙_, subst}
 use Prim.Native.Nat.{ℕ, _≤_, _<_, _+_, _-_, _*_, _%_, _^_}
 use native.Mathlib.Omega.{arith}
@@ -6,8 +6,8 @@ use borrow.Author.Needs.{needs}
 use lib.ListN.{getD}
 use Rattle.bits.specs.Field.{fieldAt, field-64}
 use Rattle.bits.proofs.NineBytes.{word-grows}
-use Rattle.bits.proofs.word.Statement.{statement}
-use Rattle.bits.proofs.word.Tie as tie
+use Rattle.bits.proofs.word_past.Statement.{statement}
+use Rattle.bits.proofs.word_past.Tie as tie
 
 abbrev Inv : tie.InvT-loop
 Inv s k r₀ i₀ r i = (i ≤ 8) × (r ≡ fieldAt s (8 * k) (8 * i))
@@ -33,8 +33,8 @@ returns c =
     let a = c .before .before .before .args in
     c .before .loop .inv .1 ∙ ap (λ (x : ℕ). fieldAt (a .s .now) (8 * a .k) (8 * x)) e
 
-pub word-spec : {M : Type 1} → statement M
-word-spec =
+pub word-past-spec : {M : Type 1} → statement M
+word-past-spec =
     tie.close
     (tie.spec Inv μ loop-holds (λ c. search needs) (λ c κs. search needs)
     (λ c. record { fits = rw (sum-is c) (field-64 _ _ _ (omega arith)) })
