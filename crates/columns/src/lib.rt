@@ -57,7 +57,16 @@ fn guarded_at(s: &[u8], at: u32, off: u32, guard: u32, w: usize) -> u32
 }
 
 // The 32 bits at off of each record, 0 where the w bits at guard are all zero.
-pub fn fill_guarded(s: &[u8], base: u32, len: u32, off: u32, guard: u32, w: usize, n: usize, out: &mut [u32])
+pub fn fill_guarded(
+    s: &[u8],
+    base: u32,
+    len: u32,
+    off: u32,
+    guard: u32,
+    w: usize,
+    n: usize,
+    out: &mut [u32],
+)
     requires { ⌜ (base < 2 ^ 31) × (len ≤ 1000) × (n ≤ 512) × (n ≤ length (now out)) × (w ≤ 64) ⌝ }
     ensures { λ _. ⌜ (length (now (out .exit)) ≡ length (now (out .entry))) × (now (out .exit) ≡ tab (λ i. guarded (now (s .entry)) (base + len * i) off guard w) n ++ drop n (now (out .entry))) ⌝ }
 {

@@ -15,7 +15,15 @@ fn add_if(b: bool, a: f64, x: f64) -> f64
 }
 
 // a, and the room of each car of the line that serves the stop, in record order.
-fn line_room<'a>(targets: &'a [u32], lines: &'a [u32], rooms: &'a [f64], n: usize, id: u32, line: u32, a: f64) -> f64
+fn line_room<'a>(
+    targets: &'a [u32],
+    lines: &'a [u32],
+    rooms: &'a [f64],
+    n: usize,
+    id: u32,
+    line: u32,
+    a: f64,
+) -> f64
     requires { ⌜ (n ≤ length (now targets)) × (n ≤ length (now lines)) × (n ≤ length (now rooms)) ⌝ }
     ensures { λ r. ⌜ r ≡ lineRoom (now (targets .entry)) (now (lines .entry)) (now (rooms .entry)) n id a line ⌝ }
 {
@@ -29,7 +37,15 @@ fn line_room<'a>(targets: &'a [u32], lines: &'a [u32], rooms: &'a [f64], n: usiz
 }
 
 // The room of the cars that serve the stop, line by line.
-fn capacity_at<'a>(targets: &'a [u32], lines: &'a [u32], rooms: &'a [f64], n: usize, ids: &'a [u32], nl: usize, id: u32) -> f64
+fn capacity_at<'a>(
+    targets: &'a [u32],
+    lines: &'a [u32],
+    rooms: &'a [f64],
+    n: usize,
+    ids: &'a [u32],
+    nl: usize,
+    id: u32,
+) -> f64
     requires { ⌜ (n ≤ length (now targets)) × (n ≤ length (now lines)) × (n ≤ length (now rooms)) × (nl ≤ length (now ids)) ⌝ }
     ensures { λ r. ⌜ r ≡ capacityBy (now (targets .entry)) (now (lines .entry)) (now (rooms .entry)) n (now (ids .entry)) nl id ⌝ }
 {
@@ -75,7 +91,14 @@ fn line_served<'a>(targets: &'a [u32], lines: &'a [u32], n: usize, id: u32, line
 }
 
 // Whether one who waits at a stop is at another, or requires no line, or that of a car that serves this one.
-fn waiter_served<'a>(targets: &'a [u32], lines: &'a [u32], n: usize, at: u32, line: u32, id: u32) -> bool
+fn waiter_served<'a>(
+    targets: &'a [u32],
+    lines: &'a [u32],
+    n: usize,
+    at: u32,
+    line: u32,
+    id: u32,
+) -> bool
     requires { ⌜ (n ≤ length (now targets)) × (n ≤ length (now lines)) ⌝ }
     ensures { λ r. ⌜ r ≡ (not (eqb at id) || lineServedBy (now (targets .entry)) (now (lines .entry)) n id line) ⌝ }
 {
@@ -86,7 +109,15 @@ fn waiter_served<'a>(targets: &'a [u32], lines: &'a [u32], n: usize, at: u32, li
 }
 
 // Whether each who waits at the stop requires no line, or that of a car that serves it.
-fn lines_served<'a>(targets: &'a [u32], lines: &'a [u32], n: usize, stops: &'a [u32], required: &'a [u32], nw: usize, id: u32) -> bool
+fn lines_served<'a>(
+    targets: &'a [u32],
+    lines: &'a [u32],
+    n: usize,
+    stops: &'a [u32],
+    required: &'a [u32],
+    nw: usize,
+    id: u32,
+) -> bool
     requires { ⌜ (n ≤ length (now targets)) × (n ≤ length (now lines)) × (nw ≤ length (now stops)) × (nw ≤ length (now required)) ⌝ }
     ensures { λ r. ⌜ r ≡ linesServed (now (targets .entry)) (now (lines .entry)) n (now (stops .entry)) (now (required .entry)) nw id ⌝ }
 {
@@ -101,7 +132,19 @@ fn lines_served<'a>(targets: &'a [u32], lines: &'a [u32], n: usize, stops: &'a [
 }
 
 // Whether the stop with this id is covered.
-pub fn is_covered<'a>(targets: &'a [u32], lines: &'a [u32], rooms: &'a [f64], n: usize, ids: &'a [u32], nl: usize, stops: &'a [u32], required: &'a [u32], weights: &'a [f64], nw: usize, id: u32) -> bool
+pub fn is_covered<'a>(
+    targets: &'a [u32],
+    lines: &'a [u32],
+    rooms: &'a [f64],
+    n: usize,
+    ids: &'a [u32],
+    nl: usize,
+    stops: &'a [u32],
+    required: &'a [u32],
+    weights: &'a [f64],
+    nw: usize,
+    id: u32,
+) -> bool
     requires { ⌜ (n ≤ length (now targets)) × (n ≤ length (now lines)) × (n ≤ length (now rooms)) × (nl ≤ length (now ids)) ⌝ }
     requires { ⌜ (nw ≤ length (now stops)) × (nw ≤ length (now required)) × (nw ≤ length (now weights)) ⌝ }
     ensures { λ r. ⌜ r ≡ coveredBy (now (targets .entry)) (now (lines .entry)) (now (rooms .entry)) n (now (ids .entry)) nl (now (stops .entry)) (now (required .entry)) (now (weights .entry)) nw id ⌝ }

@@ -54,7 +54,7 @@ served false t id h = ne-eqb 0 id (λ e. absurd (omega arith)) ∙ and-false (eq
     and-false false = refl
 
 module _ (s : Sheet) (targets lines : List ℕ) (rooms : List Float) (ids stops required : List ℕ) (weights : List Float)
-  (h : HoldsCars s targets lines rooms ids) (k : HoldsWaits s stops required weights) (j : ℕ) (pos : 0 < stopId s j) where
+    (h : HoldsCars s targets lines rooms ids) (k : HoldsWaits s stops required weights) (j : ℕ) (pos : 0 < stopId s j) where
   serves-same : (i : ℕ) → i < s .cars → servesBy targets (stopId s j) i ≡ serves s j i
   unfolding serves
   serves-same i l =

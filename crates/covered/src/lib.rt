@@ -13,7 +13,6 @@ ghost use Rattle.assignment.specs.Pending.{covered};
 ghost use Rattle.coverage.specs.Coverage.{coveredBy};
 ghost use Rattle.covered.specs.Columns.{servedTarget, HoldsIds};
 ghost use Rattle.covered.specs.Same.{coveredIn, HoldsCars};
-
 use components::Phase;
 use layout::Counts;
 
@@ -59,7 +58,21 @@ fn fill_rooms(s: &[u8], base: u32, n: usize, out: &mut [f64])
 }
 
 // Whether stop j is in the mask and covered.
-fn covered_at<'a>(targets: &'a [u32], lines: &'a [u32], rooms: &'a [f64], n: usize, ids: &'a [u32], nl: usize, stops: &'a [u32], required: &'a [u32], weights: &'a [f64], nw: usize, asked: u64, j: usize, id: u32) -> bool
+fn covered_at<'a>(
+    targets: &'a [u32],
+    lines: &'a [u32],
+    rooms: &'a [f64],
+    n: usize,
+    ids: &'a [u32],
+    nl: usize,
+    stops: &'a [u32],
+    required: &'a [u32],
+    weights: &'a [f64],
+    nw: usize,
+    asked: u64,
+    j: usize,
+    id: u32,
+) -> bool
     requires { ⌜ (n ≤ length (now targets)) × (n ≤ length (now lines)) × (n ≤ length (now rooms)) × (nl ≤ length (now ids)) ⌝ }
     requires { ⌜ (nw ≤ length (now stops)) × (nw ≤ length (now required)) × (nw ≤ length (now weights)) × (j < 64) ⌝ }
     ensures { λ r. ⌜ r ≡ (has asked j && coveredBy (now (targets .entry)) (now (lines .entry)) (now (rooms .entry)) n (now (ids .entry)) nl (now (stops .entry)) (now (required .entry)) (now (weights .entry)) nw id) ⌝ }
@@ -67,11 +80,36 @@ fn covered_at<'a>(targets: &'a [u32], lines: &'a [u32], rooms: &'a [f64], n: usi
     if !mask::has(asked, j) {
         return false;
     }
-    coverage::is_covered(targets, lines, rooms, n, ids, nl, stops, required, weights, nw, id)
+    coverage::is_covered(
+        targets,
+        lines,
+        rooms,
+        n,
+        ids,
+        nl,
+        stops,
+        required,
+        weights,
+        nw,
+        id,
+    )
 }
 
 // The stops of the mask that are covered.
-fn covered_mask<'a>(targets: &'a [u32], lines: &'a [u32], rooms: &'a [f64], n: usize, ids: &'a [u32], nl: usize, stops: &'a [u32], required: &'a [u32], weights: &'a [f64], nw: usize, asked: u64, names: &'a [u32]) -> u64
+fn covered_mask<'a>(
+    targets: &'a [u32],
+    lines: &'a [u32],
+    rooms: &'a [f64],
+    n: usize,
+    ids: &'a [u32],
+    nl: usize,
+    stops: &'a [u32],
+    required: &'a [u32],
+    weights: &'a [f64],
+    nw: usize,
+    asked: u64,
+    names: &'a [u32],
+) -> u64
     requires { ⌜ (n ≤ length (now targets)) × (n ≤ length (now lines)) × (n ≤ length (now rooms)) × (nl ≤ length (now ids)) ⌝ }
     requires { ⌜ (nw ≤ length (now stops)) × (nw ≤ length (now required)) × (nw ≤ length (now weights)) × (length (now names) ≡ 64) ⌝ }
     ensures { λ r. ⌜ r ≡ built (coveredIn (now (targets .entry)) (now (lines .entry)) (now (rooms .entry)) n (now (ids .entry)) nl (now (stops .entry)) (now (required .entry)) (now (weights .entry)) nw asked (now (names .entry))) 64 ⌝ }
@@ -79,14 +117,40 @@ fn covered_mask<'a>(targets: &'a [u32], lines: &'a [u32], rooms: &'a [f64], n: u
     let mut m: u64 = 0;
     let mut j: usize = 0;
     while j < 64 {
-        m = mask::pushed(m, covered_at(targets, lines, rooms, n, ids, nl, stops, required, weights, nw, asked, j, names[j]));
+        m = mask::pushed(
+            m,
+            covered_at(
+                targets,
+                lines,
+                rooms,
+                n,
+                ids,
+                nl,
+                stops,
+                required,
+                weights,
+                nw,
+                asked,
+                j,
+                names[j],
+            ),
+        );
         j += 1;
     }
     m
 }
 
 // The stops of the mask that are covered, with the columns of those who wait.
-fn covered_waits<'a>(s: &'a [u8], c: Counts, targets: &'a [u32], lines: &'a [u32], rooms: &'a [f64], ids: &'a [u32], asked: u64, names: &'a [u32]) -> u64
+fn covered_waits<'a>(
+    s: &'a [u8],
+    c: Counts,
+    targets: &'a [u32],
+    lines: &'a [u32],
+    rooms: &'a [f64],
+    ids: &'a [u32],
+    asked: u64,
+    names: &'a [u32],
+) -> u64
     requires { ⌜ Small c × (length (now targets) ≡ 32) × (length (now lines) ≡ 32) × (length (now rooms) ≡ 32) × (length (now ids) ≡ 8) × (length (now names) ≡ 64) ⌝ }
     requires { ⌜ HoldsCars (sheetOf (now s) c) (now targets) (now lines) (now rooms) (now ids) × HoldsIds (sheetOf (now s) c) asked (now names) ⌝ }
     ensures { λ r. ⌜ r ≡ built (λ j. has asked j && covered (sheetOf (now (s .entry)) c) j) 64 ⌝ }
@@ -99,7 +163,20 @@ fn covered_waits<'a>(s: &'a [u8], c: Counts, targets: &'a [u32], lines: &'a [u32
     columns::fill32(s, at, 248, 22, n, &mut stops);
     columns::fill32(s, at, 248, 55, n, &mut required);
     columns::fill_doubles(s, at, 248, 120, n, &mut weights);
-    covered_mask(targets, lines, rooms, c.cars as usize, ids, c.lines as usize, &stops, &required, &weights, n, asked, names)
+    covered_mask(
+        targets,
+        lines,
+        rooms,
+        c.cars as usize,
+        ids,
+        c.lines as usize,
+        &stops,
+        &required,
+        &weights,
+        n,
+        asked,
+        names,
+    )
 }
 
 // The stops of the mask that are covered. The mask has stops with a record only, and names holds their ids.

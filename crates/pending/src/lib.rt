@@ -7,7 +7,6 @@ ghost use Rattle.layout.specs.Offsets.{Small};
 ghost use Rattle.layout.specs.Records.{sheetOf};
 ghost use Rattle.mask.specs.Mask.{built};
 ghost use Rattle.pending.specs.Masks.{lineStop};
-
 ghost use mathlib.Core.Bool.{_&&_};
 ghost use lib.ListN.{length};
 ghost use Rattle.manifest.specs.Manifest.{someoneWaits, riderlessCall, riddenTo, demandStop};
@@ -17,7 +16,6 @@ ghost use lib.ListN.{drop};
 ghost use Prim.Native.Nat.{_+_, _*_, _^_};
 ghost use Rattle.laws.specs.Tables.{tab};
 ghost use Rattle.pending.specs.Masks.{stopMask, HoldsNames, boundId, Boarded};
-
 use components::Line;
 use layout::Counts;
 

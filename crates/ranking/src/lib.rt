@@ -5,7 +5,6 @@ ghost use lib.ListN.{length, getD};
 ghost use Rattle.laws.specs.Tables.{tab};
 ghost use Rattle.assignment.specs.Cells.{rankCell};
 ghost use Rattle.ranking.specs.Ranking.{scanBy, rankBy, cellBy, sweepBy};
-
 use components::Car;
 use components::Place;
 use components::Policy;
@@ -42,7 +41,14 @@ fn scan_rank<'a>(row: Row, dests: &'a [f64], waiters: Waiters, xs: &'a [f64], j:
 }
 
 // The rank of stop j, by the strategy.
-pub fn rank<'a>(row: Row, dests: &'a [f64], waiters: Waiters, xs: &'a [f64], n: usize, j: usize) -> Rank
+pub fn rank<'a>(
+    row: Row,
+    dests: &'a [f64],
+    waiters: Waiters,
+    xs: &'a [f64],
+    n: usize,
+    j: usize,
+) -> Rank
     requires { ⌜ (row .riders .count ≤ length (now dests)) × (n ≤ 64) × (n ≤ length (now xs)) × (j < n) ⌝ }
     ensures { λ r. ⌜ r ≡ rankBy row (now (dests .entry)) waiters (now (xs .entry)) n j ⌝ }
 {
@@ -52,7 +58,18 @@ pub fn rank<'a>(row: Row, dests: &'a [f64], waiters: Waiters, xs: &'a [f64], n: 
     let riders = row.riders;
     let strategy = policy.strategy;
     match strategy {
-        Strategy::Etd => etd::rank(policy, car, goal, riders, dests, waiters, row.demand, xs, n, j),
+        Strategy::Etd => etd::rank(
+            policy,
+            car,
+            goal,
+            riders,
+            dests,
+            waiters,
+            row.demand,
+            xs,
+            n,
+            j,
+        ),
         Strategy::Rsr => rsr::rank(policy, car, goal, riders, dests, waiters, xs, j),
         Strategy::Scan => scan_rank(row, dests, waiters, xs, j),
         Strategy::Unknown => Rank::Never,
@@ -70,7 +87,14 @@ fn rank_cell(rank: Rank) -> u64
 }
 
 // The cell of stop j.
-pub fn cell<'a>(row: Row, dests: &'a [f64], waiters: Waiters, xs: &'a [f64], n: usize, j: usize) -> u64
+pub fn cell<'a>(
+    row: Row,
+    dests: &'a [f64],
+    waiters: Waiters,
+    xs: &'a [f64],
+    n: usize,
+    j: usize,
+) -> u64
     requires { ⌜ (row .riders .count ≤ length (now dests)) × (n ≤ 64) × (n ≤ length (now xs)) × (j < n) ⌝ }
     ensures { λ r. ⌜ r ≡ cellBy row (now (dests .entry)) waiters (now (xs .entry)) n j ⌝ }
 {
@@ -82,7 +106,14 @@ pub fn cell<'a>(row: Row, dests: &'a [f64], waiters: Waiters, xs: &'a [f64], n: 
 }
 
 // The car's sweep after the pass: prepare_car under SCAN, for an idle car and with a pending stop.
-pub fn sweep_after(strategy: Strategy, car: Car, pending: u64, demand: u64, xs: &[f64], n: usize) -> Sweep
+pub fn sweep_after(
+    strategy: Strategy,
+    car: Car,
+    pending: u64,
+    demand: u64,
+    xs: &[f64],
+    n: usize,
+) -> Sweep
     requires { ⌜ (n ≤ 64) × (n ≤ length (now xs)) ⌝ }
     ensures { λ r. ⌜ r ≡ sweepBy strategy car pending demand (now (xs .entry)) n ⌝ }
 {

@@ -9,20 +9,26 @@ ghost use Rattle.assignment.specs.Pending.{pending};
 ghost use Rattle.assignment.specs.Demand3.{Rising};
 ghost use Rattle.pending.specs.Masks.{stopMask};
 ghost use Rattle.rows.specs.KeptLaws.{keptOf};
-
 ghost use mathlib.Core.List.{_++_};
 ghost use Prim.Native.Nat.{ℕ};
 ghost use lib.ListN.{drop};
 ghost use Rattle.laws.specs.Tables.{tab};
 ghost use Rattle.rows.specs.RowLaws.{Listed, rowCell, Spared};
-
 use components::Car;
 use layout::Counts;
 use manifest::Waiters;
 use ranking::Row;
 
 // The stops that a car is ranked for.
-pub fn kept_by<'a>(s: &'a [u8], c: Counts, car: Car, stops: u64, ids: &'a [u32], xs: &'a [f64], limit: u32) -> u64
+pub fn kept_by<'a>(
+    s: &'a [u8],
+    c: Counts,
+    car: Car,
+    stops: u64,
+    ids: &'a [u32],
+    xs: &'a [f64],
+    limit: u32,
+) -> u64
     requires { ⌜ Small c × (length (now xs) ≡ 64) × HoldsStops (sheetOf (now s) c) (now ids) (now xs) (c .stops) × Rising (sheetOf (now s) c) ⌝ }
     requires { ⌜ stops ≡ stopMask (sheetOf (now s) c) (pending (sheetOf (now s) c)) ⌝ }
     ensures { λ r. ⌜ r ≡ stopMask (sheetOf (now (s .entry)) c) (keptOf (sheetOf (now (s .entry)) c) car limit) ⌝ }
@@ -52,7 +58,16 @@ pub fn list_stops(mask: u64, stops: &mut [usize]) -> usize
 }
 
 // The cells of the first m columns, whose stops are listed.
-fn fill_row<'a>(row: Row, dests: &'a [f64], waiters: [Waiters; 64], xs: &'a [f64], n: usize, stops: &'a [usize], m: usize, out: &mut [u64])
+fn fill_row<'a>(
+    row: Row,
+    dests: &'a [f64],
+    waiters: [Waiters; 64],
+    xs: &'a [f64],
+    n: usize,
+    stops: &'a [usize],
+    m: usize,
+    out: &mut [u64],
+)
     requires { ⌜ (row .riders .count ≤ length (now dests)) × (n ≤ 64) × (n ≤ length (now xs)) × (m ≤ length (now stops)) × (m ≤ length (now out)) × ((k : ℕ) → k < m → getD (now stops) k 0 < n) ⌝ }
     ensures { λ _. ⌜ (length (now (out .exit)) ≡ length (now (out .entry))) × (now (out .exit) ≡ tab (rowCell row (now (dests .entry)) waiters (now (xs .entry)) n (now (stops .entry))) m ++ drop m (now (out .entry))) ⌝ }
 {

@@ -33,9 +33,10 @@ add-n c =
 loop-again : tie.Need-loop-again Inv-loop μ-loop
 loop-again c =
     let a = c .before .before .before .before .args in
-    let l = c .before .before .loop in
-    (omega arith,
-    ap (λ (x : ℕ). l .n + x) (c .one-before .ensures) ∙ count-step (comesBefore (a .viable) (a .ds .now) (a .j)) (l .k) (l .inv .1) refl)
+    let l = c .before .before .loop in (
+      omega arith,
+      ap (λ (x : ℕ). l .n + x) (c .one-before .ensures) ∙ count-step (comesBefore (a .viable) (a .ds .now) (a .j)) (l .k) (l .inv .1) refl,
+    )
 
 returns : tie.Need-returns Inv-loop μ-loop
 returns c = ended (count _) (c .before .loop .inv .0) (c .loop-test .left) (c .before .loop .inv .1)

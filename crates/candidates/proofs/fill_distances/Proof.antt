@@ -24,9 +24,11 @@ loop-holds c = (omega arith, c .before .before .pre .1, refl)
 loop-again : tie.Need-loop-again Inv-loop μ-loop
 loop-again c =
     let l = c .before .before .before .loop in
-    let a = c .before .before .before .before .before .before .args in
-    (omega arith, simp length-set (l .inv .1),
-    tab-next (λ k. distance (a .x) (getD (a .xs .now) k nan)) (a .ds .now) (l .ds) (l .j) (c .distance .result) (omega arith) (l .inv .2) (c .distance .ensures))
+    let a = c .before .before .before .before .before .before .args in (
+      omega arith,
+      simp length-set (l .inv .1),
+      tab-next (λ k. distance (a .x) (getD (a .xs .now) k nan)) (a .ds .now) (l .ds) (l .j) (c .distance .result) (omega arith) (l .inv .2) (c .distance .ensures),
+    )
 
 returns : tie.Need-returns Inv-loop μ-loop
 returns c =

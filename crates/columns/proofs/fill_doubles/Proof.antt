@@ -31,9 +31,11 @@ add-field c = let a = c .before .before .before .before .args in omega (arith, o
 loop-again : tie.Need-loop-again Inv-loop μ-loop
 loop-again c =
     let l = c .before .before .before .loop in
-    let a = c .before .before .before .before .before .before .args in
-    (omega arith, simp length-set (l .inv .1),
-    tab-next (λ k. ofBits binary64 (fieldAt (a .s .now) (a .base + a .len * k + a .off) 64)) (a .out .now) (l .out) (l .i) (c .double .result) (omega arith) (l .inv .2) (c .double .ensures ∙ ap (ofBits binary64) (c .before .field .ensures .is)))
+    let a = c .before .before .before .before .before .before .args in (
+      omega arith,
+      simp length-set (l .inv .1),
+      tab-next (λ k. ofBits binary64 (fieldAt (a .s .now) (a .base + a .len * k + a .off) 64)) (a .out .now) (l .out) (l .i) (c .double .result) (omega arith) (l .inv .2) (c .double .ensures ∙ ap (ofBits binary64) (c .before .field .ensures .is)),
+    )
 
 returns : tie.Need-returns Inv-loop μ-loop
 returns c =

@@ -30,9 +30,11 @@ add-guarded-at c = let a = c .before .before .before .before .args in omega (ari
 loop-again : tie.Need-loop-again Inv-loop μ-loop
 loop-again c =
     let l = c .before .before .loop in
-    let a = c .before .before .before .before .before .args in
-    (omega arith, simp length-set (l .inv .1),
-    tab-next (λ k. guarded (a .s .now) (a .base + a .len * k) (a .off) (a .guard) (a .w)) (a .out .now) (l .out) (l .i) (c .guarded-at .result) (omega arith) (l .inv .2) (c .guarded-at .ensures))
+    let a = c .before .before .before .before .before .args in (
+      omega arith,
+      simp length-set (l .inv .1),
+      tab-next (λ k. guarded (a .s .now) (a .base + a .len * k) (a .off) (a .guard) (a .w)) (a .out .now) (l .out) (l .i) (c .guarded-at .result) (omega arith) (l .inv .2) (c .guarded-at .ensures),
+    )
 
 returns : tie.Need-returns Inv-loop μ-loop
 returns c =

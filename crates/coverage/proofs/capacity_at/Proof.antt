@@ -23,9 +23,10 @@ loop-again : tie.Need-loop-again Inv-loop μ-loop
 unfolding capacityBy
 loop-again c =
     let a = c .before .before .before .before .before .before .before .before .args in
-    let l = c .before .before .before .loop in
-    (omega arith,
-    fold-step (capacityStep (a .targets .now) (a .lines .now) (a .rooms .now) (a .n) (a .ids .now) (a .id)) zero (l .l) (l .inv .1) (c .line-room .ensures))
+    let l = c .before .before .before .loop in (
+      omega arith,
+      fold-step (capacityStep (a .targets .now) (a .lines .now) (a .rooms .now) (a .n) (a .ids .now) (a .id)) zero (l .l) (l .inv .1) (c .line-room .ensures),
+    )
 
 returns : tie.Need-returns Inv-loop μ-loop
 returns c =

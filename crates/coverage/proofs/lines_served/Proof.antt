@@ -37,10 +37,11 @@ returns c =
 loop-again : tie.Need-loop-again Inv-loop μ-loop
 unfolding linesServed
 loop-again c =
-    let a = c .before .before .before .before .before .before .before .before .before .before .args in
-    (omega arith,
-    every-step (waiterServed (a .targets .now) (a .lines .now) (a .n) (a .stops .now) (a .required .now) (a .id)) (c .before .before .before .before .before .loop .w) (c .before .before .before .before .before .loop .inv .1)
-    (sym (sym (c .before .waiter-served .ensures) ∙ not-false _ (c .if1 .left))))
+    let a = c .before .before .before .before .before .before .before .before .before .before .args in (
+      omega arith,
+      every-step (waiterServed (a .targets .now) (a .lines .now) (a .n) (a .stops .now) (a .required .now) (a .id)) (c .before .before .before .before .before .loop .w) (c .before .before .before .before .before .loop .inv .1)
+          (sym (sym (c .before .waiter-served .ensures) ∙ not-false _ (c .if1 .left))),
+    )
 
 returns-2 : tie.Need-returns-2 Inv-loop μ-loop
 returns-2 c =

@@ -34,9 +34,10 @@ covered-waits-requires c κs =
     let p = c .before .before .before .before .before .before .before .before .before .before .before .before .before .before .before .before .before .before .before .before .before .before .pre in
     let a = c .before .before .before .before .before .before .before .before .before .before .before .before .before .before .before .before .before .before .before .before .before .before .args in
     let b = a .s .now in
-    let at = c .before .before .before .before .before .before .before .before .before .before .before .before .before .before .before .before .before .before .cars-from in
-    ((p .0, omega (arith, c .before .before .before .before .before .before .before .before .before .before .before .before .before .before .before .before .fill-targets .ensures .0), omega (arith, c .before .before .before .before .before .before .before .before .before .before .before .before .before .fill32 .ensures .0), omega (arith, c .before .before .before .before .before .before .before .before .before .before .fill-rooms .ensures .0), omega (arith, c .before .before .before .before .before .fill322 .ensures .0), p .1),
-    (held-cars c, p .2))
+    let at = c .before .before .before .before .before .before .before .before .before .before .before .before .before .before .before .before .before .before .cars-from in (
+      (p .0, omega (arith, c .before .before .before .before .before .before .before .before .before .before .before .before .before .before .before .before .fill-targets .ensures .0), omega (arith, c .before .before .before .before .before .before .before .before .before .before .before .before .before .fill32 .ensures .0), omega (arith, c .before .before .before .before .before .before .before .before .before .before .fill-rooms .ensures .0), omega (arith, c .before .before .before .before .before .fill322 .ensures .0), p .1),
+      (held-cars c, p .2),
+    )
 
 returns : tie.Need-returns
 returns c = c .covered-waits .ensures

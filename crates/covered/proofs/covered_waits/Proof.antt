@@ -13,9 +13,10 @@ use Rattle.covered.proofs.covered_waits.Tie as tie
 
 covered-mask-requires : tie.Need-covered-mask-requires
 covered-mask-requires c κs =
-    let p = c .before .before .before .before .before .before .before .before .before .before .before .before .before .before .before .before .before .before .before .before .before .before .pre in
-    ((omega arith, omega arith, omega arith, omega arith),
-    (omega (arith, c .before .before .before .before .before .before .before .before .before .before .before .before .fill32 .ensures .0), omega (arith, c .before .before .before .before .before .before .before .before .before .fill322 .ensures .0), omega (arith, c .before .before .before .before .before .before .fill-doubles .ensures .0), omega arith))
+    let p = c .before .before .before .before .before .before .before .before .before .before .before .before .before .before .before .before .before .before .before .before .before .before .pre in (
+      (omega arith, omega arith, omega arith, omega arith),
+      (omega (arith, c .before .before .before .before .before .before .before .before .before .before .before .before .fill32 .ensures .0), omega (arith, c .before .before .before .before .before .before .before .before .before .fill322 .ensures .0), omega (arith, c .before .before .before .before .before .before .fill-doubles .ensures .0), omega arith),
+    )
 
 returns : tie.Need-returns
 unfolding sheetOf waitingOf

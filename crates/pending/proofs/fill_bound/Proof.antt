@@ -23,9 +23,11 @@ loop-holds c = (omega arith, refl, refl)
 loop-again : tie.Need-loop-again Inv-loop μ-loop
 loop-again c =
     let l = c .before .before .loop in
-    let a = c .before .before .before .before .before .before .args in
-    (omega arith, simp length-set (l .inv .1),
-    tab-next (λ k. boundId (a .s .now) (a .idle .now) (a .n) (a .base + 87 * k)) (a .out .now) (l .out) (l .a) (c .bound-at .result) (omega arith) (l .inv .2) (c .bound-at .ensures))
+    let a = c .before .before .before .before .before .before .args in (
+      omega arith,
+      simp length-set (l .inv .1),
+      tab-next (λ k. boundId (a .s .now) (a .idle .now) (a .n) (a .base + 87 * k)) (a .out .now) (l .out) (l .a) (c .bound-at .result) (omega arith) (l .inv .2) (c .bound-at .ensures),
+    )
 
 returns : tie.Need-returns Inv-loop μ-loop
 returns c =

@@ -29,13 +29,14 @@ loop-again c =
     let a = c .before .before .before .before .before .before .args in
     let l = c .before .before .before .before .loop in
     let line = c .before .before .line-at in
-    let served = c .before .served-by in
-    (omega arith,
-    c .either .ensures
-    ∙ line-next (sheetOf (a .s .now) (a .c)) (a .every) (a .id) (l .l) (l .m) (served .result) (l .inv .1)
-    (λ j lj.
-    ap (λ (x : ℕ). has x j) (served .ensures ∙ ap (λ (y : Line). cond (a .every || eqb (y .id) (a .id)) (y .serves) 0) (line .ensures))
-    ∙ cond-has (a .every || eqb (sheetOf (a .s .now) (a .c) .line (l .l) .id) (a .id)) (sheetOf (a .s .now) (a .c) .line (l .l) .serves) j lj))
+    let served = c .before .served-by in (
+      omega arith,
+      c .either .ensures
+          ∙ line-next (sheetOf (a .s .now) (a .c)) (a .every) (a .id) (l .l) (l .m) (served .result) (l .inv .1)
+          (λ j lj.
+          ap (λ (x : ℕ). has x j) (served .ensures ∙ ap (λ (y : Line). cond (a .every || eqb (y .id) (a .id)) (y .serves) 0) (line .ensures))
+          ∙ cond-has (a .every || eqb (sheetOf (a .s .now) (a .c) .line (l .l) .id) (a .id)) (sheetOf (a .s .now) (a .c) .line (l .l) .serves) j lj),
+    )
 
 returns : tie.Need-returns Inv-loop μ-loop
 returns c =

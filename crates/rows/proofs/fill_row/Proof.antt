@@ -33,9 +33,11 @@ loop-again : tie.Need-loop-again Inv-loop μ-loop
 unfolding rowCell
 loop-again c =
     let l = c .before .before .before .before .loop in
-    let a = c .before .before .before .before .before .before .before .before .before .args in
-    (omega arith, simp length-set (l .inv .1),
-    tab-next (rowCell (a .row) (a .dests .now) (a .t3) (a .xs .now) (a .n) (a .stops .now)) (a .out .now) (l .out) (l .k) (c .cell .result) (omega arith) (l .inv .2) (c .cell .ensures))
+    let a = c .before .before .before .before .before .before .before .before .before .args in (
+      omega arith,
+      simp length-set (l .inv .1),
+      tab-next (rowCell (a .row) (a .dests .now) (a .t3) (a .xs .now) (a .n) (a .stops .now)) (a .out .now) (l .out) (l .k) (c .cell .result) (omega arith) (l .inv .2) (c .cell .ensures),
+    )
 
 returns : tie.Need-returns Inv-loop μ-loop
 returns c =
