@@ -9,3 +9,4 @@ pub mod Outcome
 pub mod Written
 pub mod TwoSheets
 pub mod Bound
+pub mod Fits

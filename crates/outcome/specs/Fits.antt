@@ -1,0 +1,94 @@
+-- What a pass writes fits the least buffers, and what it is on the sheets for which the Rust builds no matrix. Assumes nothing.
+use Prim.Native.Nat.{ℕ, zero, suc, _*_, _≤_, _<_}
+use mathlib.Core.Path.{_≡_, refl, sym, _∙_}
+use mathlib.Core.List.{List}
+use mathlib.Core.Logic.{⊎-elim}
+use native.Mathlib.Nat.{suc-mul}
+use native.Mathlib.Omega.{arith}
+use lib.ListN.{length}
+use Rattle.laws.specs.Bools.{less?}
+use Rattle.laws.specs.Sums.{sum}
+use Rattle.laws.specs.Tables.{tabs-length, tab-length}
+use Rattle.layout.specs.declared.Counts.{Counts}
+use Rattle.layout.specs.declared.Reading.the-variants.{Accepted}
+use Rattle.layout.specs.Records.{sheetOf}
+use Rattle.layout.specs.Verdict.{verdict}
+use Rattle.accepted.specs.Accepted.{accepted}
+use Rattle.components.specs.Sheet.{Sheet}
+use Rattle.sweep.specs.Sweeps.{sweepCode}
+use Rattle.assignment_problem.specs.Choice.{IsChoice, total, Chosen}
+use Rattle.assignment_problem.specs.Chosen.{chosen-is, chosen-total}
+use Rattle.assignment.specs.Pending.{idleCars, pendingStops, columns}
+use Rattle.assignment.specs.Cells.{sweepAfter, matrix, column, decision, answeredTotal}
+use Rattle.assignment.specs.CellLaws.{Small, idle-le, cells-fit, rows-fit, no-stop}
+use Rattle.outcome.specs.Outcome.{decisionsOf, cellsOf, sweepsOf}
+
+-- ---- "decisions below 32 entries, matrix below 2,048, or sweep below 32" are refused, and more are never needed
+
+pub record Fits (s : Sheet) : Type 0 where
+  pub decisions : idleCars s ≤ 32
+  pub cells : idleCars s * columns s ≤ 2048
+  pub sweeps : s .cars ≤ 32
+
+pub fits : (bytes : List ℕ) (c : Counts) → verdict bytes ≡ Accepted c → Fits (sheetOf bytes c)
+fits bytes c e =
+    let s = accepted bytes c e .sheet in
+    record {
+      decisions = omega (arith, idle-le (sheetOf bytes c), s .most-cars);
+      cells = cells-fit (sheetOf bytes c) (record { cars = s .most-cars; stops = s .most-stops });
+      sweeps = s .most-cars;
+    }
+
+-- so each buffer keeps its length
+pub decisions-length : (s : Sheet) (limit : ℕ) (entry : List ℕ) → Fits s → 32 ≤ length entry → length (decisionsOf s limit entry) ≡ length entry
+unfolding decisionsOf
+decisions-length s limit entry h l = tab-length (decision s limit) (idleCars s) entry _ (omega (arith, h .decisions)) refl
+
+pub cells-length : (s : Sheet) (limit : ℕ) (entry : List ℕ) → Fits s → 2048 ≤ length entry → length (cellsOf s limit entry) ≡ length entry
+unfolding cellsOf
+cells-length s limit entry h l = tabs-length (matrix s limit) (columns s) (idleCars s) (idleCars s * columns s) entry _ refl (omega (arith, h .cells)) refl
+
+pub sweeps-length : (s : Sheet) (entry : List ℕ) → Fits s → 32 ≤ length entry → length (sweepsOf s entry) ≡ length entry
+unfolding sweepsOf
+sweeps-length s entry h l = tab-length (λ i. sweepCode (sweepAfter s i)) (s .cars) entry _ (omega (arith, h .sweeps)) refl
+
+-- ---- no pending stop: "spare cells sentinel (also when m = 0)". With no idle car see no-car of assignment: CellLaws
+
+all-same : (n b : ℕ) {f : ℕ → ℕ} → ((k : ℕ) → k < n → f k ≡ b) → sum n f ≡ n * b
+unfolding sum
+all-same zero b h = omega arith
+all-same (suc n) b h = omega (arith, all-same n b (λ k l. h k (omega arith)), h n (omega arith), suc-mul n b)
+
+module _ (s : Sheet) (limit : ℕ) (none : pendingStops s ≡ 0) where
+  -- every choice has one total
+  every-total : (q : ℕ → ℕ) → total (idleCars s) (matrix s limit) q ≡ idleCars s * 281474976710656
+  unfolding total
+  every-total q = all-same (idleCars s) 281474976710656 {f = λ i. matrix s limit i (q i)} (λ i l. no-stop s limit i (q i) none)
+
+  pub no-stop-total : answeredTotal s limit ≡ idleCars s * 281474976710656
+  unfolding answeredTotal
+  no-stop-total = chosen-total (matrix s limit) (idleCars s) (columns s) (rows-fit s) ∙ every-total _
+
+  picked : Chosen (idleCars s) (columns s) (matrix s limit) (column s limit)
+  unfolding column
+  picked = chosen-is (matrix s limit) (idleCars s) (columns s) (rows-fit s)
+
+  -- column i for car i
+  straight : IsChoice (idleCars s) (columns s) (λ i. i)
+  straight = record { within = λ i l. omega (arith, rows-fit s); distinct = λ a b la lb e. e }
+
+  up-to : (k r : ℕ) → r < k → r < idleCars s → column s limit r ≡ r
+  up-to zero r l ln = absurd (omega arith)
+  up-to (suc k) r l ln =
+      let before : (t : ℕ) → t < r → column s limit t ≡ t = λ t lt. up-to k t (omega arith) (omega arith) in
+      let most : column s limit r ≤ r =
+      picked .lowest (λ i. i) straight (every-total (λ i. i) ∙ sym (every-total (column s limit))) r ln (λ t lt. sym (before t lt)) in
+      ⊎-elim
+      (λ (x : column s limit r < r).
+      absurd (let d = picked .choice .distinct (column s limit r) r (omega arith) ln (before (column s limit r) x) in omega arith))
+      (λ (x : r ≤ column s limit r). omega arith)
+      (less? (column s limit r) r)
+
+  -- the lowest columns in car order
+  pub no-stop-column : (r : ℕ) → r < idleCars s → column s limit r ≡ r
+  no-stop-column r l = up-to (suc r) r (omega arith) l
