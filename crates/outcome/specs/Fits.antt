@@ -11,6 +11,7 @@ use Rattle.laws.specs.Sums.{sum}
 use Rattle.laws.specs.Tables.{tabs-length, tab-length}
 use Rattle.layout.specs.declared.Counts.{Counts}
 use Rattle.layout.specs.declared.Reading.the-variants.{Accepted}
+use Rattle.layout.specs.Offsets.{endOf}
 use Rattle.layout.specs.Records.{sheetOf}
 use Rattle.layout.specs.Verdict.{verdict}
 use Rattle.accepted.specs.Accepted.{accepted}
@@ -39,7 +40,17 @@ fits bytes c e =
       sweeps = s .most-cars;
     }
 
--- so each buffer keeps its length
+-- and an accepted sheet has at most 26,083 bytes: every table full, one demand a stop
+pub most-bytes : (bytes : List ℕ) (c : Counts) → verdict bytes ≡ Accepted c → length bytes ≤ 26083
+unfolding sheetOf
+most-bytes bytes c e =
+    let a = accepted bytes c e in
+    let d : c .demands ≤ c .stops = a .sheet .most-demands in
+    let last : endOf c ≤ 208658 =
+    omega (arith, a .one-policy, a .small .stops, a .small .lines, a .small .cars, a .small .aboards, a .small .waits) in
+    omega (arith, a .whole)
+
+-- a buffer that is long enough keeps its length
 pub decisions-length : (s : Sheet) (limit : ℕ) (entry : List ℕ) → Fits s → 32 ≤ length entry → length (decisionsOf s limit entry) ≡ length entry
 unfolding decisionsOf
 decisions-length s limit entry h l = tab-length (decision s limit) (idleCars s) entry _ (omega (arith, h .decisions)) refl
