@@ -1,26 +1,33 @@
 -- What a pass writes fits the least buffers, and what it is on the sheets for which the Rust builds no matrix. Assumes nothing.
 use Prim.Native.Nat.{ℕ, zero, suc, _*_, _≤_, _<_}
 use mathlib.Core.Path.{_≡_, refl, sym, _∙_}
+use mathlib.Core.Bool.{Bool, true, false, _&&_, cond}
 use mathlib.Core.List.{List}
 use mathlib.Core.Logic.{⊎-elim}
 use native.Mathlib.Nat.{suc-mul}
 use native.Mathlib.Omega.{arith}
 use lib.ListN.{length}
+use borrow.Author.Tests.{le-ltb}
 use Rattle.laws.specs.Bools.{less?}
-use Rattle.laws.specs.Sums.{sum}
+use Rattle.laws.specs.Sums.{sum, sum-le}
 use Rattle.laws.specs.Tables.{tabs-length, tab-length}
 use Rattle.layout.specs.declared.Counts.{Counts}
 use Rattle.layout.specs.declared.Reading.the-variants.{Accepted}
+use Rattle.layout.specs.Offsets.{endOf}
 use Rattle.layout.specs.Records.{sheetOf}
 use Rattle.layout.specs.Verdict.{verdict}
 use Rattle.accepted.specs.Accepted.{accepted}
 use Rattle.components.specs.Sheet.{Sheet}
+use Rattle.components.specs.declared.Strategy.{Strategy}
+use Rattle.components.specs.declared.Strategy.the-variants.{Etd, Rsr, Scan, Unknown}
+use Rattle.scan.specs.Scan.{sheetSweep, preparedSweep}
 use Rattle.sweep.specs.Sweeps.{sweepCode}
 use Rattle.assignment_problem.specs.Choice.{IsChoice, total, Chosen}
 use Rattle.assignment_problem.specs.Chosen.{chosen-is, chosen-total}
-use Rattle.assignment.specs.Pending.{idleCars, pendingStops, columns}
-use Rattle.assignment.specs.Cells.{sweepAfter, matrix, column, decision, answeredTotal}
-use Rattle.assignment.specs.CellLaws.{Small, idle-le, cells-fit, rows-fit, no-stop}
+use Rattle.assignment_problem.specs.Recursion.{columnOf}
+use Rattle.assignment.specs.Pending.{idle, idleCars, pendingStops, columns}
+use Rattle.assignment.specs.Cells.{byStrategy, sweepAfter, matrix, column, goes, decision, answeredTotal}
+use Rattle.assignment.specs.CellLaws.{Small, idle-le, cells-fit, rows-fit, matrix-le, no-stop}
 use Rattle.outcome.specs.Outcome.{decisionsOf, cellsOf, sweepsOf}
 
 -- ---- "decisions below 32 entries, matrix below 2,048, or sweep below 32" are refused, and more are never needed
@@ -39,7 +46,27 @@ fits bytes c e =
       sweeps = s .most-cars;
     }
 
--- so each buffer keeps its length
+-- and an accepted sheet has at most 26,083 bytes: every table full, one demand a stop
+pub most-bytes : (bytes : List ℕ) (c : Counts) → verdict bytes ≡ Accepted c → length bytes ≤ 26083
+unfolding sheetOf
+most-bytes bytes c e =
+    let a = accepted bytes c e in
+    let d : c .demands ≤ c .stops = a .sheet .most-demands in
+    let last : endOf c ≤ 208658 =
+    omega (arith, a .one-policy, a .small .stops, a .small .lines, a .small .cars, a .small .aboards, a .small .waits) in
+    omega (arith, a .whole)
+
+-- the answered total is at most n sentinels, so at most 2^53
+pub total-most : (bytes : List ℕ) (c : Counts) (limit : ℕ) → verdict bytes ≡ Accepted c → answeredTotal (sheetOf bytes c) limit ≤ 9007199254740992
+unfolding answeredTotal total
+total-most bytes c limit e =
+    let s = sheetOf bytes c in
+    let n = fits bytes c e .decisions in
+    let is = chosen-total (matrix s limit) (idleCars s) (columns s) (rows-fit s) in
+    let most = sum-le (idleCars s) 281474976710656 {f = λ r. matrix s limit r (columnOf (matrix s limit) (idleCars s) (columns s) r)} (λ r l. matrix-le s limit r _) in
+    omega arith
+
+-- a buffer that is long enough keeps its length
 pub decisions-length : (s : Sheet) (limit : ℕ) (entry : List ℕ) → Fits s → 32 ≤ length entry → length (decisionsOf s limit entry) ≡ length entry
 unfolding decisionsOf
 decisions-length s limit entry h l = tab-length (decision s limit) (idleCars s) entry _ (omega (arith, h .decisions)) refl
@@ -92,3 +119,20 @@ module _ (s : Sheet) (limit : ℕ) (none : pendingStops s ≡ 0) where
   -- the lowest columns in car order
   pub no-stop-column : (r : ℕ) → r < idleCars s → column s limit r ≡ r
   no-stop-column r l = up-to (suc r) r (omega arith) l
+
+  -- and no car is sent
+  pub no-stop-decision : (r : ℕ) → decision s limit r ≡ 0
+  unfolding decision goes
+  no-stop-decision r = rw (le-ltb (column s limit r) (pendingStops s) (omega arith))
+
+-- "SCAN's prepare_car runs .. not with no pending stop": the sheet's sweeps stay
+pub no-stop-sweep : (s : Sheet) → pendingStops s ≡ 0 → (i : ℕ) → sweepAfter s i ≡ sheetSweep s i
+unfolding sweepAfter
+no-stop-sweep s none i = rw (le-ltb 0 (pendingStops s) (omega arith)) (stays (s .policy .strategy) (idle s i))
+  where
+    stays : (t : Strategy) (b : Bool) → byStrategy t (sheetSweep s i) (sheetSweep s i) (cond (b && false) (preparedSweep s i) (sheetSweep s i)) (sheetSweep s i) ≡ sheetSweep s i
+    stays Etd b = refl
+    stays Rsr b = refl
+    stays Scan true = refl
+    stays Scan false = refl
+    stays Unknown b = refl

@@ -5,6 +5,8 @@
 --   the choice                                       assignment_problem: Recursion, Choice
 --   what is answered and left in the buffers         Outcome, here
 --   demand 3, of two byte strings                    TwoSheets, here
+--   the pairs ranked are within their bound          Bound, here
+--   what is written fits; with no pending stop       Fits, here
 pub mod Outcome
 pub mod Written
 pub mod TwoSheets
