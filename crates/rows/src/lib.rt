@@ -13,6 +13,8 @@ ghost use mathlib.Core.List.{_++_};
 ghost use Prim.Native.Nat.{ℕ};
 ghost use lib.ListN.{drop};
 ghost use Rattle.laws.specs.Tables.{tab};
+ghost use Rattle.ranking.specs.RankingLaws.{HoldsRow};
+ghost use Rattle.rows.specs.HeldLaws.{Held};
 ghost use Rattle.rows.specs.RowLaws.{Listed, rowCell, Spared};
 use components::Car;
 use layout::Counts;
@@ -89,5 +91,43 @@ fn fill_spare(out: &mut [u64], m: usize)
     while k < out.len() {
         out[k] = scale::SENTINEL;
         k += 1;
+    }
+}
+
+// The row of car i, under a limit; the known destinations of its riders are left in dests.
+fn row_for<'a>(
+    s: &'a [u8],
+    c: Counts,
+    i: u32,
+    limit: u32,
+    ids: &'a [u32],
+    xs: &'a [f64],
+    acar: &'a [u32],
+    adest: &'a [u32],
+    stops: u64,
+    demand: u64,
+    dests: &mut [f64],
+) -> Row
+    requires { ⌜ Small c × (i < c .cars) × (length (now ids) ≡ 64) × (length (now xs) ≡ 64) × (length (now acar) ≡ 512) × (length (now adest) ≡ 512) × (length (now dests) ≡ 512) ⌝ }
+    requires { ⌜ Held (sheetOf (now s) c) (now ids) (now xs) (now acar) (now adest) stops demand ⌝ }
+    ensures { λ r. ⌜ HoldsRow (sheetOf (now (s .entry)) c) i limit r (now (dests .exit)) × (length (now (dests .exit)) ≡ length (now (dests .entry))) × (r .riders .count ≤ length (now (dests .exit))) ⌝ }
+{
+    let car = sheet::car_at(s, c, i);
+    let policy = sheet::policy_at(s, c);
+    let n = c.stops as usize;
+    let riders = riders::riders_of(ids, xs, n, acar, adest, c.aboards as usize, car.id, dests);
+    let phase = car.phase;
+    let goal = manifest::goal(ids, xs, n, phase);
+    let strategy = policy.strategy;
+    let sweep = ranking::sweep_after(strategy, car, stops, demand, xs, n);
+    let kept = kept_by(s, c, car, stops, ids, xs, limit);
+    Row {
+        policy,
+        car,
+        sweep,
+        goal,
+        riders,
+        demand,
+        kept,
     }
 }
