@@ -1,3 +1,4 @@
 pub mod KeptLaws
 pub mod RowLaws
 pub mod HeldLaws
+pub mod Gathered

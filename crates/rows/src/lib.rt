@@ -16,6 +16,7 @@ ghost use Rattle.laws.specs.Tables.{tab};
 ghost use Rattle.ranking.specs.RankingLaws.{HoldsRow};
 ghost use Rattle.rows.specs.HeldLaws.{Held};
 ghost use Rattle.rows.specs.RowLaws.{Listed, rowCell, Spared};
+ghost use Rattle.rows.specs.Gathered.{Gathered};
 use components::Car;
 use layout::Counts;
 use manifest::Waiters;
@@ -130,4 +131,29 @@ fn row_for<'a>(
         demand,
         kept,
     }
+}
+
+// What waits at each of n stops.
+pub fn waiters_of<'a>(
+    ids: &'a [u32],
+    xs: &'a [f64],
+    n: usize,
+    calls: u64,
+    wstop: &'a [u32],
+    wdest: &'a [u32],
+    wweight: &'a [f64],
+    wwait: &'a [u64],
+    nw: usize,
+) -> [Waiters; 64]
+    requires { ⌜ (n ≤ 64) × (n ≤ length (now ids)) × (n ≤ length (now xs)) × (nw ≤ length (now wstop)) × (nw ≤ length (now wdest)) × (nw ≤ length (now wweight)) × (nw ≤ length (now wwait)) ⌝ }
+    ensures { λ r. ⌜ Gathered (now (ids .entry)) (now (xs .entry)) n calls (now (wstop .entry)) (now (wdest .entry)) (now (wweight .entry)) (now (wwait .entry)) nw n r ⌝ }
+{
+    let mut all = [Waiters::none(false); 64];
+    let mut j: usize = 0;
+    while j < n {
+        let call = mask::has(calls, j);
+        all[j] = manifest::waiters_at(ids, xs, n, j, call, wstop, wdest, wweight, wwait, nw);
+        j += 1;
+    }
+    all
 }
