@@ -5,12 +5,14 @@ use mathlib.Core.Bool.{Bool, true, false, cond}
 use mathlib.Core.List.{List, _++_}
 use mathlib.Core.Logic.{⊎-elim}
 use native.Mathlib.Omega.{arith}
+use lib.Dec.{ltb}
 use lib.ListN.{length, getD, drop, set, length-set}
-use lib.Seq.{getD-set-same, getD-set-other}
+use lib.Seq.{getD-set-same, getD-set-other, ext-getD}
 use lib.Ieee.{Float, nan}
-use Rattle.laws.specs.Bools.{same?}
+use borrow.Author.Tests.{lt-ltb, le-ltb}
+use Rattle.laws.specs.Bools.{same?, less?}
 use Rattle.laws.specs.Folds.{count, count-le, count-yes, count-no}
-use Rattle.laws.specs.Tables.{filtered, filtered-take, filtered-skip}
+use Rattle.laws.specs.Tables.{tab, length-tab, getD-tab, getD-tab₀, filtered, filtered-take, filtered-skip}
 use Rattle.mask.specs.Mask.{has}
 use Rattle.scale.specs.Scale.{sentinel}
 use Rattle.manifest.specs.declared.Waiters.{Waiters}
@@ -81,3 +83,24 @@ sparing-next m k entry now h l =
           (λ ne. getD-set-other now k j sentinel 0 ne ∙ h .spare j a (omega arith))
           (same? j k);
     }
+
+-- ---- a whole row
+
+-- m cells, then spare ones
+unfoldable pub padded : (ℕ → ℕ) → ℕ → ℕ → ℕ
+padded f m k = cond (ltb k m) (f k) sentinel
+
+pub whole-row : (f : ℕ → ℕ) (m : ℕ) (entry : List ℕ) {mid exit : List ℕ} → length mid ≡ length entry → mid ≡ tab f m ++ drop m entry → Spared m mid exit
+    → exit ≡ tab (padded f m) (length entry)
+unfolding padded
+whole-row f m entry {mid} {exit} e d h =
+    ext-getD 0 exit (tab (padded f m) (length entry)) (h .size ∙ e ∙ sym (length-tab (padded f m) (length entry)))
+    (λ k lk.
+    let inside : k < length entry = omega (arith, h .size, e) in
+    ⊎-elim
+    (λ (l : k < m).
+    h .before k l ∙ ap (λ (x : List ℕ). getD x k 0) d ∙ getD-tab f m k (drop m entry) 0 l
+    ∙ sym (getD-tab₀ (padded f m) (length entry) k 0 inside ∙ rw (lt-ltb k m l)))
+    (λ (l : m ≤ k).
+    h .spare k l (omega (arith, e)) ∙ sym (getD-tab₀ (padded f m) (length entry) k 0 inside ∙ rw (le-ltb k m l)))
+    (less? k m))

@@ -15,7 +15,7 @@ ghost use lib.ListN.{drop};
 ghost use Rattle.laws.specs.Tables.{tab};
 ghost use Rattle.ranking.specs.RankingLaws.{HoldsRow};
 ghost use Rattle.rows.specs.HeldLaws.{Held};
-ghost use Rattle.rows.specs.RowLaws.{Listed, rowCell, Spared};
+ghost use Rattle.rows.specs.RowLaws.{Listed, rowCell, Spared, padded};
 ghost use Rattle.rows.specs.Gathered.{Gathered};
 use components::Car;
 use layout::Counts;
@@ -93,6 +93,24 @@ fn fill_spare(out: &mut [u64], m: usize)
         out[k] = scale::SENTINEL;
         k += 1;
     }
+}
+
+// The cells of a row: those of the first m columns, then spare ones.
+pub fn car_row<'a>(
+    row: Row,
+    dests: &'a [f64],
+    waiters: [Waiters; 64],
+    xs: &'a [f64],
+    n: usize,
+    stops: &'a [usize],
+    m: usize,
+    out: &mut [u64],
+)
+    requires { ⌜ (row .riders .count ≤ length (now dests)) × (n ≤ 64) × (n ≤ length (now xs)) × (m ≤ length (now stops)) × (m ≤ length (now out)) × ((k : ℕ) → k < m → getD (now stops) k 0 < n) ⌝ }
+    ensures { λ _. ⌜ now (out .exit) ≡ tab (padded (rowCell row (now (dests .entry)) waiters (now (xs .entry)) n (now (stops .entry))) m) (length (now (out .entry))) ⌝ }
+{
+    fill_row(row, dests, waiters, xs, n, stops, m, out);
+    fill_spare(out, m);
 }
 
 // The row of car i, under a limit; the known destinations of its riders are left in dests.
