@@ -10,7 +10,7 @@ use lib.ListN.{getD, drop}
 use lib.Ieee.{Float}
 use borrow.Author.Tests.{lt-ltb, le-ltb}
 use Rattle.laws.specs.Bools.{less?}
-use Rattle.laws.specs.Folds.{count, count-cong, nth, nth-next, nth-cong, nth-is}
+use Rattle.laws.specs.Folds.{count, count-le, count-cong, nth, nth-next, nth-cong, nth-is}
 use Rattle.laws.specs.Tables.{tab, tab-cong, filtered, getD-filtered}
 use Rattle.mask.specs.Mask.{has}
 use Rattle.components.specs.Sheet.{Sheet}
@@ -24,7 +24,7 @@ use Rattle.pending.specs.Same.{mask-has}
 use Rattle.ranking.specs.declared.Row.{Row}
 use Rattle.ranking.specs.RankingLaws.{HoldsRow, cell-is}
 use Rattle.rows.specs.KeptLaws.{count-below}
-use Rattle.rows.specs.HeldLaws.{below-has}
+use Rattle.rows.specs.HeldLaws.{Held, below-has}
 use Rattle.rows.specs.RowLaws.{nobody, rowCell, padded, Listed}
 
 -- what passes below n only is found there
@@ -88,3 +88,32 @@ module _ (s : Sheet) (few : s .stops ≤ 64) (mask : ℕ) (e : mask ≡ stopMask
     row-is ids xs hs r limit weighed row dests hr waiters hw n =
         tab-cong (padded (rowCell row dests waiters xs (s .stops) stops) m) (matrix s limit r) n
         (λ k l. cells-are ids xs hs r limit weighed row dests hr waiters hw k)
+
+-- a buffer of n cells that holds the row of car i, whichever row that is
+pub record FilledRow (s : Sheet) (limit i n : ℕ) (exit : List ℕ) : Type 0 where
+  pub row : (r : ℕ) → rowCar s r ≡ i → exit ≡ tab (matrix s limit r) n
+
+-- ---- what the pass has at hand when it fills rows
+
+pub record Ready (s : Sheet) (ids : List ℕ) (xs : List Float) (acar adest : List ℕ) (mask demand : ℕ) (waiters : List Waiters) (stops : List ℕ) (m : ℕ) : Type 0 where
+  pub held : Held s ids xs acar adest mask demand
+  pub waiting : (j : ℕ) → j < s .stops → HoldsWaiters s j (getD waiters j nobody)
+  pub weighed : (i : ℕ) → i < s .cars → Weighed s i
+  pub entry : List ℕ
+  pub listed : Listed mask entry m stops
+
+module _ (s : Sheet) (ids : List ℕ) (xs : List Float) (acar adest : List ℕ) (mask demand : ℕ) (waiters : List Waiters) (stops : List ℕ) (m : ℕ)
+    (h : Ready s ids xs acar adest mask demand waiters stops m) where
+  pub ready-few : m ≤ 64
+  ready-few = let few = count-le (has mask) 64 in omega (arith, h .listed .counted)
+
+  pub ready-below : (k : ℕ) → k < m → getD stops k 0 < s .stops
+  ready-below k l =
+      rw (listed-stop s (h .held .few) mask (h .held .stops-are) (h .entry) m stops (h .listed) k l)
+      (column-below s (h .held .few) mask (h .held .stops-are) (h .entry) m stops (h .listed) k l)
+
+  pub ready-row : (i limit : ℕ) (row : Row) {dests : List Float} → i < s .cars → HoldsRow s i limit row dests → (r n : ℕ) → rowCar s r ≡ i
+      → tab (padded (rowCell row dests waiters xs (s .stops) stops) m) n ≡ tab (matrix s limit r) n
+  ready-row i limit row {dests} l hr r n e =
+      row-is s (h .held .few) mask (h .held .stops-are) (h .entry) m stops (h .listed) ids xs (h .held .stops-held) r limit (rw e (h .weighed i l)) row dests
+      (rw e hr) waiters (h .waiting) n

@@ -17,6 +17,7 @@ ghost use Rattle.ranking.specs.RankingLaws.{HoldsRow};
 ghost use Rattle.rows.specs.HeldLaws.{Held};
 ghost use Rattle.rows.specs.RowLaws.{Listed, rowCell, Spared, padded};
 ghost use Rattle.rows.specs.Gathered.{Gathered};
+ghost use Rattle.rows.specs.MatrixLaws.{Ready, FilledRow};
 use components::Car;
 use layout::Counts;
 use manifest::Waiters;
@@ -107,7 +108,7 @@ pub fn car_row<'a>(
     out: &mut [u64],
 )
     requires { ⌜ (row .riders .count ≤ length (now dests)) × (n ≤ 64) × (n ≤ length (now xs)) × (m ≤ length (now stops)) × (m ≤ length (now out)) × ((k : ℕ) → k < m → getD (now stops) k 0 < n) ⌝ }
-    ensures { λ _. ⌜ now (out .exit) ≡ tab (padded (rowCell row (now (dests .entry)) waiters (now (xs .entry)) n (now (stops .entry))) m) (length (now (out .entry))) ⌝ }
+    ensures { λ _. ⌜ (length (now (out .exit)) ≡ length (now (out .entry))) × (now (out .exit) ≡ tab (padded (rowCell row (now (dests .entry)) waiters (now (xs .entry)) n (now (stops .entry))) m) (length (now (out .entry)))) ⌝ }
 {
     fill_row(row, dests, waiters, xs, n, stops, m, out);
     fill_spare(out, m);
@@ -174,4 +175,42 @@ pub fn waiters_of<'a>(
         j += 1;
     }
     all
+}
+
+// The cells of car i, as many as the buffer has.
+pub fn fill_car<'a>(
+    s: &'a [u8],
+    c: Counts,
+    i: u32,
+    limit: u32,
+    ids: &'a [u32],
+    xs: &'a [f64],
+    acar: &'a [u32],
+    adest: &'a [u32],
+    pending: u64,
+    demand: u64,
+    waiters: [Waiters; 64],
+    stops: &'a [usize],
+    m: usize,
+    out: &mut [u64],
+)
+    requires { ⌜ Small c × (i < c .cars) × (length (now ids) ≡ 64) × (length (now xs) ≡ 64) × (length (now acar) ≡ 512) × (length (now adest) ≡ 512) × (length (now stops) ≡ 64) × (m ≤ length (now out)) ⌝ }
+    requires { ⌜ Ready (sheetOf (now s) c) (now ids) (now xs) (now acar) (now adest) pending demand waiters (now stops) m ⌝ }
+    ensures { λ _. ⌜ FilledRow (sheetOf (now (s .entry)) c) limit i (length (now (out .entry))) (now (out .exit)) ⌝ }
+{
+    let mut dests = [0.0f64; 512];
+    let row = row_for(
+        s,
+        c,
+        i,
+        limit,
+        ids,
+        xs,
+        acar,
+        adest,
+        pending,
+        demand,
+        &mut dests,
+    );
+    car_row(row, &dests, waiters, xs, c.stops as usize, stops, m, out);
 }

@@ -18,8 +18,10 @@ same-length c = c .before .before .fill-spare .ensures .size ∙ c .before .befo
 returns : tie.Need-returns
 returns c =
     let a = c .before .before .before .before .before .before .before .before .before .before .before .before .args in
-    let filled = c .before .before .before .before .before .before .fill-row .ensures in
-    whole-row (rowCell (a .row) (a .dests .now) (a .waiters) (a .xs .now) (a .n) (a .stops .now)) (a .m) (a .out .now) (filled .0) (filled .1) (c .before .before .fill-spare .ensures)
+    let filled = c .before .before .before .before .before .before .fill-row .ensures in (
+      c .before .before .fill-spare .ensures .size ∙ filled .0,
+      whole-row (rowCell (a .row) (a .dests .now) (a .waiters) (a .xs .now) (a .n) (a .stops .now)) (a .m) (a .out .now) (filled .0) (filled .1) (c .before .before .fill-spare .ensures),
+    )
 
 pub car-row-spec : {M : Type 1} → statement M
 car-row-spec = tie.close (tie.spec fill-row-requires fill-spare-requires same-length returns)
