@@ -15,7 +15,7 @@ use Rattle.mask.specs.Mask.{pastStops}
 use Rattle.laws.specs.Bools.{which, never, either, either-right, neither-left, neither-right, both-left, both-right, not-both, same?, less?}
 use Rattle.laws.specs.Folds.{any, any-some, any-at, any-none, count, count-above, nth, nth-is}
 use Rattle.bits.specs.Field.{fieldAt}
-use Rattle.laws.specs.Counts.{pigeons}
+use Rattle.laws.specs.Counts.{pigeons, count-all}
 use Rattle.components.specs.declared.Kind.{Kind}
 use Rattle.components.specs.declared.Kind.the-variants.{Policy, Stop, Line, Car, Aboard, Waiting, Demand, Unknown}
 use Rattle.components.specs.declared.Phase.{Phase}
@@ -520,11 +520,6 @@ all-rising ids n h a (suc b) l m =
     (λ (e : a ≡ b). subst (λ x. ids x < ids (suc b)) (sym e) (h b m))
     (λ ne. omega (arith, all-rising ids n h a b (omega arith) (omega arith), h b m))
     (same? a b)
-
-count-all : (n : ℕ) → count (λ k. true) n ≡ n
-unfolding count
-count-all zero = refl
-count-all (suc n) = omega (arith, count-all n)
 
 -- each has a place of its own among the stops: there are no more of them
 no-more : (ids stops : ℕ → ℕ) (n m : ℕ) → Distinct ids n → ((i : ℕ) → i < n → Found stops m (ids i)) → n ≤ m

@@ -9,7 +9,7 @@ use native.Mathlib.Omega.{arith}
 use lib.Dec.{eqb}
 use lib.ListN.{length, set}
 use borrow.Author.Tests.{eq-eqb, ne-eqb}
-use Rattle.laws.specs.Bools.{same?, less?}
+use Rattle.laws.specs.Bools.{same?, less?, cond-one}
 use Rattle.laws.specs.Sums.{sum, sum-lt}
 use Rattle.assignment_problem.specs.Choice.{IsChoice, total, cellAt}
 use Rattle.assignment_problem.specs.Recursion.{leastTotal, columnOf}
@@ -391,13 +391,9 @@ pub unseen-most : (cols : ℕ) (se : List ℕ) → unseen cols se ≤ cols
 unfolding unseen sum
 unseen-most cols se = le-cols cols
   where
-    part : (b : Bool) → cond b 1 0 ≤ 1
-    part true = omega arith
-    part false = omega arith
-
     le-cols : (x : ℕ) → sum x (λ j. cond (eqb (at se j) 0) 1 0) ≤ x
     le-cols zero = omega arith
-    le-cols (suc x) = omega (arith, le-cols x, part (eqb (at se x) 0))
+    le-cols (suc x) = omega (arith, le-cols x, cond-one (eqb (at se x) 0))
 
 -- row i at the stand
 pub prepared : {cells : List ℕ} {n cols i f : ℕ} {u w ro co : List ℕ} (di fr se : List ℕ)

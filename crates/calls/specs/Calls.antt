@@ -2,7 +2,7 @@
 use Prim.Native.Nat.{ℕ, zero, suc, _<_, _≤_}
 use native.Mathlib.Omega.{arith}
 use mathlib.Core.Path.{_≡_, refl, sym, ap, ap₂, _∙_}
-use mathlib.Core.Bool.{Bool, true, false, _&&_, _||_, cond, or-false}
+use mathlib.Core.Bool.{Bool, true, false, _&&_, _||_, cond, or-false, and-comm}
 use mathlib.Core.List.{List}
 use lib.Dec.{eqb, ltb}
 use lib.Ieee.{Float}
@@ -64,13 +64,7 @@ module _ (s : Sheet) (ids : List ℕ) (xs : List Float) (n : ℕ) (hs : HoldsSto
   grown test j l (suc k) =
       has-marked (fold (λ m d. marked m n (stopIndex ids n (s .demand d .stop)) (test d)) 0 k) n (stopIndex ids n (s .demand k .stop)) (test k) j (omega arith)
       ∙ ap₂ (λ (a b : Bool). a || b) (grown test j l k)
-      (ap (λ (b : Bool). test k && b) (index-is s ids xs n hs ds j (s .demand k .stop) l) ∙ swap (test k) (eqb (s .demand k .stop) (stopId s j)))
-    where
-      swap : (a b : Bool) → (a && b) ≡ (b && a)
-      swap true true = refl
-      swap true false = refl
-      swap false true = refl
-      swap false false = refl
+      (ap (λ (b : Bool). test k && b) (index-is s ids xs n hs ds j (s .demand k .stop) l) ∙ and-comm (test k) (eqb (s .demand k .stop) (stopId s j)))
 
   -- the masks after every record
   abbrev pub calls : Calls

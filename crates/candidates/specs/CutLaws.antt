@@ -1,7 +1,7 @@
 -- Laws of the cut: nothing is cut off where the viable stops are not more than the limit; and it is the sheet's. Assumes nothing.
 use Prim.Native.Nat.{ℕ, _+_, _*_, _^_, _≤_, _<_, min}
 use mathlib.Core.Path.{_≡_, refl, sym, ap, _∙_}
-use mathlib.Core.Bool.{Bool, true, false, not, _&&_, _||_}
+use mathlib.Core.Bool.{Bool, true, false, not, _&&_, _||_, or-true}
 use mathlib.Core.List.{List}
 use mathlib.Core.Logic.{⊎-elim}
 use native.Mathlib.Omega.{arith}
@@ -56,7 +56,3 @@ few-cut viable ds limit e small =
     let b = before-less viable ds j l v in
     rw (lt-ltb (count (comesBefore viable ds j) 64) limit (omega arith)) (or-true (eqb limit noLimit)))
     small
-  where
-    or-true : (b : Bool) → (b || true) ≡ true
-    or-true true = refl
-    or-true false = refl

@@ -9,7 +9,7 @@ use lib.Dec.{eqb}
 use lib.ListN.{getD}
 use lib.Ieee.{Float, nan, le}
 use borrow.Author.Tests.{ne-eqb}
-use Rattle.laws.specs.Bools.{which}
+use Rattle.laws.specs.Bools.{which, kept-id}
 use Rattle.laws.specs.Folds.{fold, any, every, fold-cong, any-cong, every-cong}
 use Rattle.fp.specs.Num.{zero, plus}
 use Rattle.mask.specs.Mask.{has, built}
@@ -40,25 +40,12 @@ unfoldable pub coveredIn : List ℕ → List ℕ → List Float → ℕ → List
 coveredIn targets lines rooms n ids nl stops required weights nw asked names j =
     has asked j && coveredBy targets lines rooms n ids nl stops required weights nw (getD names j 0)
 
--- a target of 0 is no stop's id
-served : (b : Bool) (t id : ℕ) → 0 < id → eqb (cond b t 0) id ≡ (eqb t id && b)
-served true t id h = and-true (eqb t id)
-  where
-    and-true : (a : Bool) → a ≡ (a && true)
-    and-true true = refl
-    and-true false = refl
-served false t id h = ne-eqb 0 id (λ e. absurd (omega arith)) ∙ and-false (eqb t id)
-  where
-    and-false : (a : Bool) → false ≡ (a && false)
-    and-false true = refl
-    and-false false = refl
-
 module _ (s : Sheet) (targets lines : List ℕ) (rooms : List Float) (ids stops required : List ℕ) (weights : List Float)
     (h : HoldsCars s targets lines rooms ids) (k : HoldsWaits s stops required weights) (j : ℕ) (pos : 0 < stopId s j) where
   serves-same : (i : ℕ) → i < s .cars → servesBy targets (stopId s j) i ≡ serves s j i
   unfolding serves
   serves-same i l =
-      ap (λ (t : ℕ). eqb t (stopId s j)) (h .target i l) ∙ served (servicing (s .car i .phase)) (s .car i .target) (stopId s j) pos
+      ap (λ (t : ℕ). eqb t (stopId s j)) (h .target i l) ∙ kept-id (servicing (s .car i .phase)) (s .car i .target) (stopId s j) pos
 
   any-same : contains targets (s .cars) (stopId s j) ≡ any (serves s j) (s .cars)
   unfolding contains

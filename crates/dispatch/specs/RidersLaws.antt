@@ -2,11 +2,12 @@
 use Prim.Native.Nat.{ℕ, _<_, _≤_}
 use native.Mathlib.Omega.{arith}
 use mathlib.Core.Path.{_≡_, refl, sym, ap, ap₂, _∙_}
-use mathlib.Core.Bool.{Bool, true, false, not, _&&_, _||_, cond}
+use mathlib.Core.Bool.{Bool, true, false, not, _&&_, _||_, cond, and-assoc}
 use mathlib.Core.List.{List, _++_}
 use lib.Dec.{eqb, ltb}
 use lib.ListN.{getD, drop}
 use lib.Ieee.{Float, nan}
+use Rattle.laws.specs.Bools.{both-right}
 use Rattle.laws.specs.Folds.{any, any-cong, count, count-cong}
 use Rattle.laws.specs.Collected.{collected, collected-cong, any-collected}
 use Rattle.mask.specs.Mask.{has}
@@ -75,24 +76,15 @@ module _ (s : Sheet) (ids : List ℕ) (xs : List Float) (n : ℕ) (hs : HoldsSto
   dest-is a l e =
       rw (ha .bound-for a l)
       (place-is (s .aboard a .destination)
-      (place-known (s .aboard a .destination) ∙ right (rides s i a) (isAt (boundFor s i a)) (sym (known-is a l) ∙ e)))
-    where
-      right : (x y : Bool) → (x && y) ≡ true → y ≡ true
-      right true y h = h
-      right false true h = refl
-      right false false h = h
+      (place-known (s .aboard a .destination) ∙ both-right (rides s i a) (isAt (boundFor s i a)) (sym (known-is a l) ∙ e)))
 
   exit-one : (j a : ℕ) → j < n → a < na
       → (knownAt ids n acar adest (s .car i .id) a && eqb j (stopIndex ids n (getD adest a 0)))
       ≡ (rides s i a && eqb (s .aboard a .destination) (stopId s j))
   exit-one j a l la =
       rw (ha .car-of a la, ha .bound-for a la)
-      (regroup (rides s i a) (ltb (stopIndex ids n (s .aboard a .destination)) n) (eqb j (stopIndex ids n (s .aboard a .destination)))
+      (and-assoc (rides s i a) (ltb (stopIndex ids n (s .aboard a .destination)) n) (eqb j (stopIndex ids n (s .aboard a .destination)))
       ∙ ap (λ (b : Bool). rides s i a && b) (index-is s ids xs n hs ds j (s .aboard a .destination) l))
-    where
-      regroup : (x y z : Bool) → ((x && y) && z) ≡ (x && (y && z))
-      regroup true y z = refl
-      regroup false y z = refl
 
   exit-is : (j : ℕ) → j < n → has (exitsIn ids n acar adest (s .car i .id) na) j ≡ canExitHere s i j
   unfolding exitsIn canExitHere

@@ -7,7 +7,7 @@ use Prim.Native.Nat.{ℕ, zero, suc, _+_, _≤_, _<_}
 use native.Mathlib.Omega.{arith}
 use lib.Dec.{ltb}
 use borrow.Author.Tests.{lt-ltb, le-ltb}
-use Rattle.laws.specs.Bools.{same?, less?}
+use Rattle.laws.specs.Bools.{same?, less?, cond-one}
 use Rattle.assignment_problem.specs.Choice.{IsChoice, total}
 use Rattle.assignment_problem.specs.Prices.{tight-every}
 use Rattle.assignment_problem.specs.Insertion.{Matched, Priced, May, matched-choice, priced-tight}
@@ -61,10 +61,6 @@ module _ {n m i : ℕ} {c : ℕ → ℕ → ℕ} {ro co u w se : ℕ → ℕ}
   in-no : (y : ℕ) → se y ≡ 0 → in-set y ≡ 0
   in-no y s = rw (le-ltb 0 (se y) (omega arith))
 
-  in-one : (b : Bool) → cond b 1 0 ≤ 1
-  in-one true = omega arith
-  in-one false = omega arith
-
   is-in : (y : ℕ) → in-set y ≡ 1 → 0 < se y
   is-in y e = ⊎-elim (λ z. absurd (let a = in-no y z in omega arith)) (λ ne. omega arith) (same? (se y) 0)
 
@@ -83,7 +79,7 @@ module _ {n m i : ℕ} {c : ℕ → ℕ → ℕ} {ro co u w se : ℕ → ℕ}
   -- case: some free column is outside, so every column inside has a price
   case-lower : (x : ℕ) → x < m → n ≤ ro x → se x ≡ 0 → total n c co < total n c q
   case-lower x lx fx ox =
-      lower hp (priced-tight h g) (g .under) i li in-set (λ j. in-one (ltb 0 (se j))) (λ r lr. in-no (co r) (fixed-out r lr)) q hq agree
+      lower hp (priced-tight h g) (g .under) i li in-set (λ j. cond-one (ltb 0 (se j))) (λ r lr. in-no (co r) (fixed-out r lr)) q hq agree
       (λ j lj e. ⊎-elim
       (λ z. absurd (re .closed x j lx lj ox (omega arith) (is-in j e) (record { row = λ l. absurd (omega arith); none = λ l. z })))
       (λ ne. omega arith)

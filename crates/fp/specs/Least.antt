@@ -2,7 +2,7 @@
 use Prim.Native.Nat.{ℕ, zero, suc, _+_, _<_}
 use native.Mathlib.Omega.{arith}
 use mathlib.Core.Path.{_≡_, refl, sym, ap, _∙_}
-use mathlib.Core.Bool.{Bool, true, false, not, _&&_, _||_, cond, or-false}
+use mathlib.Core.Bool.{Bool, true, false, not, _&&_, _||_, cond, or-false, or-assoc}
 use mathlib.Core.Logic.{⊎-elim}
 use lib.Ieee.{Float, nan, inf, fin, ofBits, lt, le, div}
 use Rattle.laws.specs.Bools.{never, same?}
@@ -58,10 +58,6 @@ lesser-room room a b p q = by (lt b a) (lt room a) (lt room b) refl refl refl
     by false true true e f g = ap not f
     by false true false e f g = ap not (le-through a b room q e g)
     by false false v e f g = ap not f
-
-or-assoc : (a b c : Bool) → ((a || b) || c) ≡ (a || (b || c))
-or-assoc true b c = refl
-or-assoc false b c = refl
 
 infinity-real : real infinity ≡ true
 unfolding div ofBits

@@ -1,11 +1,11 @@
 -- What a test that came out tells of its parts. Assumes nothing.
 use mathlib.Core.Path.{_≡_, refl, sym, _∙_}
-use mathlib.Core.Bool.{Bool, true, false, not, _&&_, _||_, cond, true≢false}
+use mathlib.Core.Bool.{Bool, true, false, not, _&&_, _||_, cond, true≢false, and-true, and-false}
 use mathlib.Core.Logic.{_⊎_, inl, inr, ⊎-elim, _≢_}
-use Prim.Native.Nat.{ℕ, _≤_, _<_}
+use Prim.Native.Nat.{ℕ, _+_, _≤_, _<_, min, max}
 use native.Mathlib.Omega.{arith}
 use lib.Dec.{eqb, ltb}
-use borrow.Author.Tests.{eqb-true, eqb-false, ltb-true, ltb-false}
+use borrow.Author.Tests.{eqb-true, eqb-false, ne-eqb, ltb-true, ltb-false}
 
 -- 1 for true, 0 for false
 abbrev pub bit : Bool → ℕ
@@ -15,6 +15,32 @@ bit false = 0
 pub bit-lt : (b : Bool) → bit b < 2
 bit-lt true = omega arith
 bit-lt false = omega arith
+
+pub bit-and : (a b : Bool) → min (bit a) (bit b) ≡ bit (a && b)
+bit-and true true = refl
+bit-and true false = refl
+bit-and false true = refl
+bit-and false false = refl
+
+pub bit-or : (a b : Bool) → max (bit a) (bit b) ≡ bit (a || b)
+bit-or true true = refl
+bit-or true false = refl
+bit-or false true = refl
+bit-or false false = refl
+
+pub bit-not : (a : Bool) → bit (not a) + bit a ≡ 1
+bit-not true = refl
+bit-not false = refl
+
+pub bit-inj : (a b : Bool) → bit a ≡ bit b → a ≡ b
+bit-inj true true e = refl
+bit-inj true false e = absurd (omega arith)
+bit-inj false true e = absurd (omega arith)
+bit-inj false false e = refl
+
+pub cond-one : (b : Bool) → cond b 1 0 ≤ 1
+cond-one true = omega arith
+cond-one false = omega arith
 
 -- a test comes out one way or the other
 pub which : (b : Bool) → (b ≡ true) ⊎ (b ≡ false)
@@ -65,6 +91,15 @@ same-test false true f g = g refl
 same-test false false f g = refl
 
 -- ---- numbers
+
+-- 0 stands for no id: a number that is kept or replaced by 0 is an id where it was one and is kept
+pub kept-id : (b : Bool) (v id : ℕ) → 0 < id → eqb (cond b v 0) id ≡ (eqb v id && b)
+kept-id true v id h = sym (and-true (eqb v id))
+kept-id false v id h = ne-eqb 0 id (λ e. absurd (omega arith)) ∙ sym (and-false (eqb v id))
+
+pub dropped-id : (b : Bool) (v id : ℕ) → 0 < id → eqb (cond b 0 v) id ≡ (eqb v id && not b)
+dropped-id true v id h = kept-id false v id h
+dropped-id false v id h = kept-id true v id h
 
 -- two numbers are equal or not
 pub same? : (a b : ℕ) → (a ≡ b) ⊎ (a ≢ b)

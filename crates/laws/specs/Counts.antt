@@ -36,6 +36,11 @@ unfolding count
 count-none p zero h = refl
 count-none p (suc n) h = omega (arith, count-none p n (λ k l. h k (omega arith)), ap bit (h n (omega arith)))
 
+pub count-all : (n : ℕ) → count (λ k. true) n ≡ n
+unfolding count
+count-all zero = refl
+count-all (suc n) = omega (arith, count-all n)
+
 -- at most one, where any two that pass are the same
 pub count-one : (p : ℕ → Bool) (n : ℕ) → ((a b : ℕ) → a < n → b < n → p a ≡ true → p b ≡ true → a ≡ b) → count p n ≤ 1
 unfolding count

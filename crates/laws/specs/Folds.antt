@@ -202,6 +202,20 @@ nth-here p k e = rw (nth-next, e, eq-eqb (count p k) (count p k) refl)
 pub nth-before : (p : ℕ → Bool) (k c : ℕ) → c < count p k → nth p (k + 1) c ≡ nth p k c
 nth-before p k c l = rw (nth-next, ne-eqb (count p k) c (λ q. absurd (omega arith)), and-false)
 
+-- what passes below n only is counted, and found, there
+pub count-below : (p : ℕ → Bool) (n k : ℕ) → ((j : ℕ) → n ≤ j → j < n + k → p j ≡ false) → count p (n + k) ≡ count p n
+unfolding count
+count-below p n zero h = let e : n + 0 ≡ n = omega arith in ap (count p) e
+count-below p n (suc k) h =
+    let e : n + suc k ≡ suc (n + k) = omega arith in
+    ap (count p) e ∙ omega (arith, count-below p n k (λ j a b. h j a (omega arith)), ap bit (h (n + k) (omega arith) (omega arith)))
+
+pub nth-below : (p : ℕ → Bool) (n k c : ℕ) → ((j : ℕ) → n ≤ j → j < n + k → p j ≡ false) → nth p (n + k) c ≡ nth p n c
+nth-below p n zero c h = let e : n + 0 ≡ n = omega arith in ap (λ (z : ℕ). nth p z c) e
+nth-below p n (suc k) c h =
+    let e : n + suc k ≡ (n + k) + 1 = omega arith in
+    ap (λ (z : ℕ). nth p z c) e ∙ nth-next p (n + k) c ∙ rw (h (n + k) (omega arith) (omega arith)) (nth-below p n k c (λ j a b. h j a (omega arith)))
+
 -- an index that passes is counted above itself
 pub count-above : (p : ℕ → Bool) (j n : ℕ) → j < n → p j ≡ true → count p j < count p n
 unfolding count

@@ -44,6 +44,12 @@ unfolding sum
 sum-le zero b h = omega arith
 sum-le (suc n) b h = omega (arith, sum-le n b (λ k l. h k (omega arith)), h n (omega arith), suc-mul n b)
 
+-- n parts of b each
+pub sum-same : (n b : ℕ) {f : ℕ → ℕ} → ((k : ℕ) → k < n → f k ≡ b) → sum n f ≡ n * b
+unfolding sum
+sum-same zero b h = omega arith
+sum-same (suc n) b h = omega (arith, sum-same n b (λ k l. h k (omega arith)), h n (omega arith), suc-mul n b)
+
 -- one part of a sum is at most the sum
 pub sum-part : (n : ℕ) (f : ℕ → ℕ) (k : ℕ) → k < n → f k ≤ sum n f
 unfolding sum

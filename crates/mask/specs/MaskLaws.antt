@@ -12,7 +12,7 @@ use lib.Bits.{bitAnd, bitOr, and-step, or-step, and-zero-l, or-zero-l}
 use lib.Count.{ones, ones-step}
 use lib.Pow.{shr-shr, pow-mono, pow-add, pow-pos, shl-lt, low}
 use borrow.Author.Tests.{eq-eqb, ne-eqb, le-leb, lt-leb, leb-true}
-use Rattle.laws.specs.Bools.{bit, bit-lt, which, same?, both, both-left, both-right, not-both, same-test}
+use Rattle.laws.specs.Bools.{bit, bit-lt, which, same?, both, both-left, both-right, not-both, same-test, bit-and, bit-or, bit-not, bit-inj}
 use Rattle.laws.specs.Folds.{count, any, any-some, any-none, none-any, any-at}
 use Rattle.mask.specs.Mask.{has, built, pastStops}
 
@@ -44,22 +44,6 @@ unfolding built
 built-cong f g zero h = refl
 built-cong f g (suc n) h =
     ap₂ (λ (x y : ℕ). x * 2 + y) (built-cong f g n (λ j k. h j (omega arith))) (ap bit (h n (omega arith)))
-
-bit-and : (a b : Bool) → min (bit a) (bit b) ≡ bit (a && b)
-bit-and true true = refl
-bit-and true false = refl
-bit-and false true = refl
-bit-and false false = refl
-
-bit-or : (a b : Bool) → max (bit a) (bit b) ≡ bit (a || b)
-bit-or true true = refl
-bit-or true false = refl
-bit-or false true = refl
-bit-or false false = refl
-
-bit-not : (a : Bool) → bit (not a) + bit a ≡ 1
-bit-not true = refl
-bit-not false = refl
 
 pub built-and : (f g : ℕ → Bool) (n : ℕ) → bitAnd (built f n) (built g n) ≡ built (λ j. f j && g j) n
 unfolding built
@@ -99,12 +83,6 @@ built-has m (suc j) h k =
 
 pub built-of : (m : ℕ) → m < 2 ^ 64 → built (has m) 64 ≡ m
 built-of m h = built-has m 64 h (le-refl 64) ∙ omega arith
-
-bit-inj : (a b : Bool) → bit a ≡ bit b → a ≡ b
-bit-inj true true e = refl
-bit-inj true false e = absurd (omega arith)
-bit-inj false true e = absurd (omega arith)
-bit-inj false false e = refl
 
 -- equal masks have the same stops
 pub built-inj : (f g : ℕ → Bool) (n : ℕ) → built f n ≡ built g n → (j : ℕ) → j < n → f j ≡ g j

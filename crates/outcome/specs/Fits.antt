@@ -4,12 +4,11 @@ use mathlib.Core.Path.{_≡_, refl, sym, _∙_}
 use mathlib.Core.Bool.{Bool, true, false, _&&_, cond}
 use mathlib.Core.List.{List}
 use mathlib.Core.Logic.{⊎-elim}
-use native.Mathlib.Nat.{suc-mul}
 use native.Mathlib.Omega.{arith}
 use lib.ListN.{length}
 use borrow.Author.Tests.{le-ltb}
 use Rattle.laws.specs.Bools.{less?}
-use Rattle.laws.specs.Sums.{sum, sum-le}
+use Rattle.laws.specs.Sums.{sum-le, sum-same}
 use Rattle.laws.specs.Tables.{tabs-length, tab-length}
 use Rattle.layout.specs.declared.Counts.{Counts}
 use Rattle.layout.specs.declared.Reading.the-variants.{Accepted}
@@ -81,16 +80,11 @@ sweeps-length s entry h l = tab-length (λ i. sweepCode (sweepAfter s i)) (s .ca
 
 -- ---- no pending stop: "spare cells sentinel (also when m = 0)". With no idle car see no-car of assignment: CellLaws
 
-all-same : (n b : ℕ) {f : ℕ → ℕ} → ((k : ℕ) → k < n → f k ≡ b) → sum n f ≡ n * b
-unfolding sum
-all-same zero b h = omega arith
-all-same (suc n) b h = omega (arith, all-same n b (λ k l. h k (omega arith)), h n (omega arith), suc-mul n b)
-
 module _ (s : Sheet) (limit : ℕ) (none : pendingStops s ≡ 0) where
   -- every choice has one total
   every-total : (q : ℕ → ℕ) → total (idleCars s) (matrix s limit) q ≡ idleCars s * 281474976710656
   unfolding total
-  every-total q = all-same (idleCars s) 281474976710656 {f = λ i. matrix s limit i (q i)} (λ i l. no-stop s limit i (q i) none)
+  every-total q = sum-same (idleCars s) 281474976710656 {f = λ i. matrix s limit i (q i)} (λ i l. no-stop s limit i (q i) none)
 
   pub no-stop-total : answeredTotal s limit ≡ idleCars s * 281474976710656
   unfolding answeredTotal

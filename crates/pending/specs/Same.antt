@@ -9,7 +9,7 @@ use native.Mathlib.Omega.{arith}
 use lib.Dec.{eqb, ltb}
 use lib.ListN.{getD}
 use borrow.Author.Tests.{eq-eqb, ne-eqb, ltb-true, lt-ltb, le-ltb, eqb-true}
-use Rattle.laws.specs.Bools.{which, same?, less?, both-left}
+use Rattle.laws.specs.Bools.{which, same?, less?, both-left, dropped-id}
 use Rattle.laws.specs.Folds.{any, any-cong, any-next, none-any}
 use Rattle.bits.specs.Field.{fieldAt, field-lt}
 use Rattle.mask.specs.Mask.{has, built}
@@ -24,41 +24,10 @@ use Rattle.pending.specs.Masks.{stopMask, lineStop, HoldsNames}
 
 -- ---- stops named in a column
 
--- an id of 0 is no stop's
-pub guarded-is : (b : Bool) (v id : ℕ) → 0 < id → eqb (cond b 0 v) id ≡ (eqb v id && not b)
-guarded-is true v id h = ne-eqb 0 id (λ e. absurd (omega arith)) ∙ and-false (eqb v id)
-  where
-    and-false : (a : Bool) → false ≡ (a && false)
-    and-false true = refl
-    and-false false = refl
-guarded-is false v id h = and-true (eqb v id)
-  where
-    and-true : (a : Bool) → a ≡ (a && true)
-    and-true true = refl
-    and-true false = refl
-
 pub guarded-column : (b : List ℕ) (at off guard w id : ℕ) → 0 < id
     → eqb (guarded b at off guard w) id ≡ (eqb (fieldAt b (at + off) 32) id && not (eqb (fieldAt b (at + guard) w) 0))
 unfolding guarded
-guarded-column b at off guard w id h = guarded-is (eqb (fieldAt b (at + guard) w) 0) (fieldAt b (at + off) 32) id h
-
-pub cond-is : (b : Bool) (v id : ℕ) → 0 < id → eqb (cond b v 0) id ≡ (eqb v id && b)
-cond-is true v id h = and-true (eqb v id)
-  where
-    and-true : (a : Bool) → a ≡ (a && true)
-    and-true true = refl
-    and-true false = refl
-cond-is false v id h = ne-eqb 0 id (λ e. absurd (omega arith)) ∙ and-false (eqb v id)
-  where
-    and-false : (a : Bool) → false ≡ (a && false)
-    and-false true = refl
-    and-false false = refl
-
-pub and-swap : (a b : Bool) → (a && b) ≡ (b && a)
-and-swap true true = refl
-and-swap true false = refl
-and-swap false true = refl
-and-swap false false = refl
+guarded-column b at off guard w id h = dropped-id (eqb (fieldAt b (at + guard) w) 0) (fieldAt b (at + off) 32) id h
 
 -- a single bit is one where it is not zero
 pub flag-is : (s : List ℕ) (at : ℕ) → not (eqb (fieldAt s at 1) 0) ≡ eqb (fieldAt s at 1) 1

@@ -10,7 +10,7 @@ use lib.ListN.{getD}
 use lib.Ieee.{Float, nan, lt}
 use borrow.Author.Tests.{lt-ltb, le-ltb, ltb-true}
 use Rattle.laws.specs.Bools.{bit, which, same?, less?, both-left, same-test}
-use Rattle.laws.specs.Folds.{any, count, count-cong}
+use Rattle.laws.specs.Folds.{any, count, count-cong, count-below}
 use Rattle.laws.specs.Tables.{tab, getD-tab₀}
 use Rattle.fp.specs.Num.{distance}
 use Rattle.mask.specs.Mask.{has, built}
@@ -42,6 +42,10 @@ pub kept-of : (s : Sheet) (i limit j : ℕ) → keptOf s (s .car i) limit j ≡ 
 unfolding keptOf nearerOf viableOf kept nearer viable lineServes
 kept-of s i limit j = refl
 
+-- how many pairs of car i are ranked
+unfoldable pub keptNumber : Sheet → ℕ → ℕ → ℕ
+keptNumber s limit i = count (kept s i limit) (s .stops)
+
 -- ---- ids rise with the index
 
 id-order : (s : Sheet) → Rising s → (a b : ℕ) → a < s .stops → b < s .stops → ltb a b ≡ ltb (stopId s a) (stopId s b)
@@ -53,14 +57,6 @@ id-order s h a b la lb =
     (sym (le-ltb (stopId s a) (stopId s b)
     (⊎-elim (λ (e : a ≡ b). rw e (omega arith)) (λ ne. let r = h .rising b a (omega arith) la in omega arith) (same? a b)))))
     (less? a b)
-
--- what passes below n only is counted there
-pub count-below : (p : ℕ → Bool) (n k : ℕ) → ((j : ℕ) → n ≤ j → j < n + k → p j ≡ false) → count p (n + k) ≡ count p n
-unfolding count
-count-below p n zero h = let e : n + 0 ≡ n = omega arith in ap (count p) e
-count-below p n (suc k) h =
-    let e : n + suc k ≡ suc (n + k) = omega arith in
-    ap (count p) e ∙ omega (arith, count-below p n k (λ j a b. h j a (omega arith)), ap bit (h (n + k) (omega arith) (omega arith)))
 
 -- ---- the masks
 

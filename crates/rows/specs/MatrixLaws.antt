@@ -1,93 +1,115 @@
 -- A row of cells is that of the sheet's matrix. Assumes nothing.
-use Prim.Native.Nat.{ℕ, zero, suc, _+_, _-_, _≤_, _<_}
-use mathlib.Core.Path.{_≡_, refl, sym, ap, _∙_}
+use Prim.Native.Nat.{ℕ, _+_, _*_, _-_, _≤_, _<_}
+use mathlib.Core.Path.{_≡_, refl, sym, ap, ap₂, _∙_}
 use mathlib.Core.Bool.{Bool, true, false, _&&_, cond}
 use mathlib.Core.List.{List, _++_}
 use mathlib.Core.Logic.{⊎-elim}
 use native.Mathlib.Omega.{arith}
 use lib.Dec.{ltb}
-use lib.ListN.{getD, drop}
+use lib.ListN.{length, getD, take, drop, length-take, length-drop}
 use lib.Ieee.{Float}
 use borrow.Author.Tests.{lt-ltb, le-ltb}
 use Rattle.laws.specs.Bools.{less?}
-use Rattle.laws.specs.Folds.{count, count-le, count-cong, nth, nth-next, nth-cong, nth-is}
-use Rattle.laws.specs.Tables.{tab, tab-cong, filtered, getD-filtered}
-use Rattle.mask.specs.Mask.{has}
+use Rattle.laws.specs.Folds.{count, count-le, count-cong, count-below, nth, nth-cong, nth-is, nth-below}
+use Rattle.laws.specs.Tables.{tab, tabs, tab-cong, tabs-next, tabs-length, mul-next, filtered, getD-filtered}
+use Rattle.laws.specs.Sums.{sum, sum-next}
+use Rattle.mask.specs.Mask.{has, built}
+use Rattle.mask.specs.MaskLaws.{has-built}
+use Rattle.components.specs.declared.Car.{Car}
 use Rattle.components.specs.Sheet.{Sheet}
 use Rattle.manifest.specs.declared.Waiters.{Waiters}
 use Rattle.manifest.specs.Stops.{HoldsStops}
 use Rattle.dispatch.specs.WaitersLaws.{Weighed, HoldsWaiters}
-use Rattle.assignment.specs.Pending.{pending, pendingStops, columnStop, rowCar}
+use Rattle.assignment.specs.Pending.{pending, pendingStops, columnStop, idleCars, rowCar}
+use Rattle.assignment.specs.Candidates.{kept}
 use Rattle.assignment.specs.Cells.{matrix, cell}
 use Rattle.pending.specs.Masks.{stopMask}
-use Rattle.pending.specs.Same.{mask-has}
 use Rattle.ranking.specs.declared.Row.{Row}
 use Rattle.ranking.specs.RankingLaws.{HoldsRow, cell-is}
-use Rattle.rows.specs.KeptLaws.{count-below}
-use Rattle.rows.specs.HeldLaws.{Held, below-has}
+use Rattle.rows.specs.KeptLaws.{keptOf, keptNumber, kept-of}
+use Rattle.rows.specs.HeldLaws.{Held}
 use Rattle.rows.specs.RowLaws.{nobody, rowCell, padded, Listed}
 
--- what passes below n only is found there
-nth-below : (p : ℕ → Bool) (n k c : ℕ) → ((j : ℕ) → n ≤ j → j < n + k → p j ≡ false) → nth p (n + k) c ≡ nth p n c
-nth-below p n zero c h = let e : n + 0 ≡ n = omega arith in ap (λ (z : ℕ). nth p z c) e
-nth-below p n (suc k) c h =
-    let e : n + suc k ≡ (n + k) + 1 = omega arith in
-    ap (λ (z : ℕ). nth p z c) e ∙ nth-next p (n + k) c ∙ rw (h (n + k) (omega arith) (omega arith)) (nth-below p n k c (λ j a b. h j a (omega arith)))
+-- ---- the pending stops, listed from their mask, are the columns'; the idle cars, the rows'
 
--- ---- the pending stops, listed from their mask, are the columns'
-
-module _ (s : Sheet) (few : s .stops ≤ 64) (mask : ℕ) (e : mask ≡ stopMask s (pending s)) where
-  whole : s .stops + (64 - s .stops) ≡ 64
+-- the numbers below n that pass, as a mask of 64
+module _ (p : ℕ → Bool) (n : ℕ) (few : n ≤ 64) (mask : ℕ) (e : mask ≡ built (λ j. ltb j n && p j) 64) where
+  whole : n + (64 - n) ≡ 64
   whole = omega arith
 
-  past : (j : ℕ) → s .stops ≤ j → j < s .stops + (64 - s .stops) → has mask j ≡ false
-  past j a b = mask-has s (pending s) mask e j (omega arith) ∙ rw (le-ltb j (s .stops) a)
+  mask-at : (j : ℕ) → j < 64 → has mask j ≡ (ltb j n && p j)
+  mask-at j l = ap (λ (m : ℕ). has m j) e ∙ has-built (λ k. ltb k n && p k) j l
 
-  pub listed-count : count (has mask) 64 ≡ pendingStops s
+  inside : (j : ℕ) → j < n → has mask j ≡ p j
+  inside j l = mask-at j (omega arith) ∙ rw (lt-ltb j n l)
+
+  past : (j : ℕ) → n ≤ j → j < n + (64 - n) → has mask j ≡ false
+  past j a b = mask-at j (omega arith) ∙ rw (le-ltb j n a)
+
+  pub masked-count : count (has mask) 64 ≡ count p n
+  masked-count =
+      ap (count (has mask)) (sym whole) ∙ count-below (has mask) n (64 - n) past ∙ count-cong (has mask) p n inside
+
+  masked-nth : (c : ℕ) → nth (has mask) 64 c ≡ nth p n c
+  masked-nth c =
+      ap (λ (z : ℕ). nth (has mask) z c) (sym whole) ∙ nth-below (has mask) n (64 - n) c past ∙ nth-cong (has mask) p n c inside
+
+  module _ (entry : List ℕ) (m : ℕ) (list : List ℕ) (h : Listed mask entry m list) where
+    pub listed-number : m ≡ count p n
+    listed-number = h .counted ∙ masked-count
+
+    pub listed-at : (k : ℕ) → k < m → getD list k 0 ≡ nth p n k
+    listed-at k l =
+        ap (λ (z : List ℕ). getD z k 0) (h .held) ∙ getD-filtered (has mask) 64 k (drop m entry) (omega (arith, h .counted)) ∙ masked-nth k
+
+    pub listed-below : (k : ℕ) → k < m → nth p n k < n
+    listed-below k l = nth-is p n k (omega (arith, listed-number)) .below
+
+module _ (s : Sheet) (few : s .stops ≤ 64) (mask : ℕ) (e : mask ≡ stopMask s (pending s)) (entry : List ℕ) (m : ℕ) (stops : List ℕ)
+    (h : Listed mask entry m stops) where
+  pub listed-count : m ≡ pendingStops s
   unfolding pendingStops
-  listed-count =
-      ap (count (has mask)) (sym whole) ∙ count-below (has mask) (s .stops) (64 - s .stops) past
-      ∙ count-cong (has mask) (pending s) (s .stops) (below-has s (pending s) mask few e)
+  listed-count = listed-number (pending s) (s .stops) few mask e entry m stops h
 
-  listed-nth : (c : ℕ) → nth (has mask) 64 c ≡ columnStop s c
+  pub listed-stop : (k : ℕ) → k < m → getD stops k 0 ≡ columnStop s k
   unfolding columnStop
-  listed-nth c =
-      ap (λ (z : ℕ). nth (has mask) z c) (sym whole) ∙ nth-below (has mask) (s .stops) (64 - s .stops) c past
-      ∙ nth-cong (has mask) (pending s) (s .stops) c (below-has s (pending s) mask few e)
+  listed-stop = listed-at (pending s) (s .stops) few mask e entry m stops h
 
-  module _ (entry : List ℕ) (m : ℕ) (stops : List ℕ) (h : Listed mask entry m stops) where
-    pub listed-stop : (k : ℕ) → k < m → getD stops k 0 ≡ columnStop s k
-    listed-stop k l =
-        ap (λ (z : List ℕ). getD z k 0) (h .held) ∙ getD-filtered (has mask) 64 k (drop m entry) (omega (arith, h .counted)) ∙ listed-nth k
+  pub column-below : (k : ℕ) → k < m → columnStop s k < s .stops
+  unfolding columnStop
+  column-below = listed-below (pending s) (s .stops) few mask e entry m stops h
 
-    pub column-below : (k : ℕ) → k < m → columnStop s k < s .stops
-    unfolding columnStop pendingStops
-    column-below k l = nth-is (pending s) (s .stops) k (omega (arith, h .counted, listed-count)) .below
+  -- ---- the cells
 
-    -- ---- the cells
+  pub cells-are : (ids : List ℕ) (xs : List Float) → HoldsStops s ids xs (s .stops) → (r limit : ℕ) → Weighed s (rowCar s r)
+      → (row : Row) (dests : List Float) → HoldsRow s (rowCar s r) limit row dests → (waiters : List Waiters)
+      → ((j : ℕ) → j < s .stops → HoldsWaiters s j (getD waiters j nobody)) → (k : ℕ)
+      → padded (rowCell row dests waiters xs (s .stops) stops) m k ≡ matrix s limit r k
+  unfolding padded rowCell matrix
+  cells-are ids xs hs r limit weighed row dests hr waiters hw k =
+      let same = listed-count in
+      ⊎-elim
+      (λ (l : k < m).
+      let b = column-below k l in
+      rw (lt-ltb k m l, lt-ltb k (pendingStops s) (omega arith), listed-stop k l)
+      (cell-is s ids xs hs (rowCar s r) limit weighed row dests hr (columnStop s k) (getD waiters (columnStop s k) nobody) (hw (columnStop s k) b) b))
+      (λ (l : m ≤ k). rw (le-ltb k m l, le-ltb k (pendingStops s) (omega arith)))
+      (less? k m)
 
-    pub cells-are : (ids : List ℕ) (xs : List Float) → HoldsStops s ids xs (s .stops) → (r limit : ℕ) → Weighed s (rowCar s r)
-        → (row : Row) (dests : List Float) → HoldsRow s (rowCar s r) limit row dests → (waiters : List Waiters)
-        → ((j : ℕ) → j < s .stops → HoldsWaiters s j (getD waiters j nobody)) → (k : ℕ)
-        → padded (rowCell row dests waiters xs (s .stops) stops) m k ≡ matrix s limit r k
-    unfolding padded rowCell matrix
-    cells-are ids xs hs r limit weighed row dests hr waiters hw k =
-        let same : m ≡ pendingStops s = h .counted ∙ listed-count in
-        ⊎-elim
-        (λ (l : k < m).
-        let b = column-below k l in
-        rw (lt-ltb k m l, lt-ltb k (pendingStops s) (omega arith), listed-stop k l)
-        (cell-is s ids xs hs (rowCar s r) limit weighed row dests hr (columnStop s k) (getD waiters (columnStop s k) nobody) (hw (columnStop s k) b) b))
-        (λ (l : m ≤ k). rw (le-ltb k m l, le-ltb k (pendingStops s) (omega arith)))
-        (less? k m)
+  pub row-is : (ids : List ℕ) (xs : List Float) → HoldsStops s ids xs (s .stops) → (r limit : ℕ) → Weighed s (rowCar s r)
+      → (row : Row) (dests : List Float) → HoldsRow s (rowCar s r) limit row dests → (waiters : List Waiters)
+      → ((j : ℕ) → j < s .stops → HoldsWaiters s j (getD waiters j nobody)) → (n : ℕ)
+      → tab (padded (rowCell row dests waiters xs (s .stops) stops) m) n ≡ tab (matrix s limit r) n
+  row-is ids xs hs r limit weighed row dests hr waiters hw n =
+      tab-cong (padded (rowCell row dests waiters xs (s .stops) stops) m) (matrix s limit r) n
+      (λ k l. cells-are ids xs hs r limit weighed row dests hr waiters hw k)
 
-    pub row-is : (ids : List ℕ) (xs : List Float) → HoldsStops s ids xs (s .stops) → (r limit : ℕ) → Weighed s (rowCar s r)
-        → (row : Row) (dests : List Float) → HoldsRow s (rowCar s r) limit row dests → (waiters : List Waiters)
-        → ((j : ℕ) → j < s .stops → HoldsWaiters s j (getD waiters j nobody)) → (n : ℕ)
-        → tab (padded (rowCell row dests waiters xs (s .stops) stops) m) n ≡ tab (matrix s limit r) n
-    row-is ids xs hs r limit weighed row dests hr waiters hw n =
-        tab-cong (padded (rowCell row dests waiters xs (s .stops) stops) m) (matrix s limit r) n
-        (λ k l. cells-are ids xs hs r limit weighed row dests hr waiters hw k)
+-- the mask of the stops that car i is ranked for has so many
+pub kept-size : (s : Sheet) (i limit m : ℕ) (car : Car) → s .stops ≤ 64 → car ≡ s .car i → m ≡ stopMask s (keptOf s car limit) → count (has m) 64 ≡ keptNumber s limit i
+unfolding keptNumber
+kept-size s i limit m car few ec e =
+    masked-count (keptOf s car limit) (s .stops) few m e
+    ∙ count-cong (keptOf s car limit) (kept s i limit) (s .stops) (λ j l. ap (λ (k : Car). keptOf s k limit j) ec ∙ kept-of s i limit j)
 
 -- a buffer of n cells that holds the row of car i, whichever row that is
 pub record FilledRow (s : Sheet) (limit i n : ℕ) (exit : List ℕ) : Type 0 where
@@ -117,3 +139,60 @@ module _ (s : Sheet) (ids : List ℕ) (xs : List Float) (acar adest : List ℕ) 
   ready-row i limit row {dests} l hr r n e =
       row-is s (h .held .few) mask (h .held .stops-are) (h .entry) m stops (h .listed) ids xs (h .held .stops-held) r limit (rw e (h .weighed i l)) row dests
       (rw e hr) waiters (h .waiting) n
+
+-- ---- the rows
+
+-- the idle cars are listed
+pub record Rows (s : Sheet) (cars : List ℕ) (n : ℕ) : Type 0 where
+  pub number : n ≡ idleCars s
+  pub few : n ≤ 32
+  pub car-of : (r : ℕ) → r < n → getD cars r 0 ≡ rowCar s r
+  pub below : (r : ℕ) → r < n → rowCar s r < s .cars
+
+-- n rows stand in the buffer, and so many of their pairs are ranked
+pub record FilledRows (s : Sheet) (limit n columns : ℕ) (entry : List ℕ) (ranked : ℕ) (exit : List ℕ) : Type 0 where
+  pub size : length exit ≡ length entry
+  pub rows : exit ≡ tabs (matrix s limit) columns n ++ drop (n * columns) entry
+  pub counted : ranked ≡ sum n (λ r. keptNumber s limit (rowCar s r))
+
+-- r rows stand up to a cell
+pub record Filling (s : Sheet) (limit columns r at : ℕ) (entry : List ℕ) (ranked : ℕ) (now : List ℕ) : Type 0 where
+  pub near : at ≤ r * 64
+  pub exact : at ≡ r * columns
+  pub few : ranked ≤ r * 64
+  pub held : FilledRows s limit r columns entry ranked now
+
+pub filling-start : (s : Sheet) (limit columns : ℕ) (entry : List ℕ) → Filling s limit columns 0 0 entry 0 entry
+unfolding tabs sum
+filling-start s limit columns entry =
+    let none : 0 ≡ 0 * columns = omega arith in
+    record {
+      near = omega arith;
+      exact = none;
+      few = omega arith;
+      held = record { size = refl; rows = ap (λ (z : ℕ). drop z entry) none; counted = refl };
+    }
+
+-- a row of the buffer, lent
+pub part-length : (at columns : ℕ) (now : List ℕ) → at + columns ≤ length now → length (take (at + columns - at) (drop at now)) ≡ columns
+part-length at columns now l = simp (length-take, length-drop) (omega arith)
+
+pub filling-next : (s : Sheet) (limit columns r at i ranked few′ k n : ℕ) (entry now row : List ℕ) → columns ≤ 64 → s .stops ≤ 64 → at + columns ≤ length entry
+    → Filling s limit columns r at entry ranked now → rowCar s r ≡ i → k ≡ columns → n ≡ columns → FilledRow s limit i n row → few′ ≡ keptNumber s limit i
+    → Filling s limit columns (r + 1) (at + columns) entry (ranked + few′) (take at now ++ (row ++ drop k (drop at now)))
+unfolding keptNumber
+filling-next s limit columns r at i ranked few′ k n entry now row lc few room h e ek en f number =
+    let q : at + columns ≡ (r + 1) * columns = omega (arith, mul-next r columns, h .exact) in
+    let rows : take at now ++ (row ++ drop k (drop at now)) ≡ tabs (matrix s limit) columns (r + 1) ++ drop (at + columns) entry =
+    tabs-next (matrix s limit) columns r at k n entry now row (h .exact)
+    (h .held .rows ∙ ap (λ (z : ℕ). tabs (matrix s limit) columns r ++ drop z entry) (sym (h .exact))) ek (f .row r e) en in
+    record {
+      near = omega (arith, h .near);
+      exact = q;
+      few = omega (arith, h .few, number, count-le (kept s i limit) (s .stops));
+      held = record {
+        size = tabs-length (matrix s limit) columns (r + 1) (at + columns) entry _ q room rows;
+        rows = rows ∙ ap (λ (z : ℕ). tabs (matrix s limit) columns (r + 1) ++ drop z entry) q;
+        counted = ap₂ (λ (a b : ℕ). a + b) (h .held .counted) (number ∙ ap (keptNumber s limit) (sym e)) ∙ sym (sum-next r (λ x. keptNumber s limit (rowCar s x)));
+      };
+    }

@@ -8,16 +8,18 @@ ghost use Rattle.manifest.specs.Stops.{HoldsStops};
 ghost use Rattle.assignment.specs.Pending.{pending};
 ghost use Rattle.assignment.specs.Demand3.{Rising};
 ghost use Rattle.pending.specs.Masks.{stopMask};
-ghost use Rattle.rows.specs.KeptLaws.{keptOf};
+ghost use Rattle.rows.specs.KeptLaws.{keptOf, keptNumber};
 ghost use mathlib.Core.List.{_++_};
 ghost use Prim.Native.Nat.{ℕ};
 ghost use lib.ListN.{drop};
-ghost use Rattle.laws.specs.Tables.{tab};
+ghost use Rattle.laws.specs.Folds.{count};
+ghost use Rattle.laws.specs.Tables.{tab, tabs};
+ghost use Rattle.mask.specs.Mask.{has};
 ghost use Rattle.ranking.specs.RankingLaws.{HoldsRow};
 ghost use Rattle.rows.specs.HeldLaws.{Held};
 ghost use Rattle.rows.specs.RowLaws.{Listed, rowCell, Spared, padded};
 ghost use Rattle.rows.specs.Gathered.{Gathered};
-ghost use Rattle.rows.specs.MatrixLaws.{Ready, FilledRow};
+ghost use Rattle.rows.specs.MatrixLaws.{Ready, FilledRow, Rows, FilledRows};
 use components::Car;
 use layout::Counts;
 use manifest::Waiters;
@@ -44,8 +46,8 @@ pub fn kept_by<'a>(
     candidates::kept_stops(viable, &ds, limit)
 }
 
-// The stops of a mask in order, and how many they are.
-pub fn list_stops(mask: u64, stops: &mut [usize]) -> usize
+// The places of a mask's ones in order, and how many they are.
+pub fn list_ones(mask: u64, stops: &mut [usize]) -> usize
     requires { ⌜ length (now stops) ≡ 64 ⌝ }
     ensures { λ r. ⌜ Listed mask (now (stops .entry)) r (now (stops .exit)) ⌝ }
 {
@@ -130,7 +132,7 @@ fn row_for<'a>(
 ) -> Row
     requires { ⌜ Small c × (i < c .cars) × (length (now ids) ≡ 64) × (length (now xs) ≡ 64) × (length (now acar) ≡ 512) × (length (now adest) ≡ 512) × (length (now dests) ≡ 512) ⌝ }
     requires { ⌜ Held (sheetOf (now s) c) (now ids) (now xs) (now acar) (now adest) stops demand ⌝ }
-    ensures { λ r. ⌜ HoldsRow (sheetOf (now (s .entry)) c) i limit r (now (dests .exit)) × (length (now (dests .exit)) ≡ length (now (dests .entry))) × (r .riders .count ≤ length (now (dests .exit))) ⌝ }
+    ensures { λ r. ⌜ HoldsRow (sheetOf (now (s .entry)) c) i limit r (now (dests .exit)) × (length (now (dests .exit)) ≡ length (now (dests .entry))) × (r .riders .count ≤ length (now (dests .exit))) × (count (has (r .kept)) 64 ≡ keptNumber (sheetOf (now (s .entry)) c) limit i) ⌝ }
 {
     let car = sheet::car_at(s, c, i);
     let policy = sheet::policy_at(s, c);
@@ -177,7 +179,7 @@ pub fn waiters_of<'a>(
     all
 }
 
-// The cells of car i, as many as the buffer has.
+// The cells of car i, as many as the buffer has, and how many of its pairs are ranked.
 pub fn fill_car<'a>(
     s: &'a [u8],
     c: Counts,
@@ -193,10 +195,10 @@ pub fn fill_car<'a>(
     stops: &'a [usize],
     m: usize,
     out: &mut [u64],
-)
+) -> u32
     requires { ⌜ Small c × (i < c .cars) × (length (now ids) ≡ 64) × (length (now xs) ≡ 64) × (length (now acar) ≡ 512) × (length (now adest) ≡ 512) × (length (now stops) ≡ 64) × (m ≤ length (now out)) ⌝ }
     requires { ⌜ Ready (sheetOf (now s) c) (now ids) (now xs) (now acar) (now adest) pending demand waiters (now stops) m ⌝ }
-    ensures { λ _. ⌜ FilledRow (sheetOf (now (s .entry)) c) limit i (length (now (out .entry))) (now (out .exit)) ⌝ }
+    ensures { λ r. ⌜ FilledRow (sheetOf (now (s .entry)) c) limit i (length (now (out .entry))) (now (out .exit)) × (r ≡ keptNumber (sheetOf (now (s .entry)) c) limit i) × (length (now (out .exit)) ≡ length (now (out .entry))) ⌝ }
 {
     let mut dests = [0.0f64; 512];
     let row = row_for(
@@ -213,4 +215,55 @@ pub fn fill_car<'a>(
         &mut dests,
     );
     car_row(row, &dests, waiters, xs, c.stops as usize, stops, m, out);
+    mask::size(row.kept)
+}
+
+// The cells of n cars, a row each, and how many of their pairs are ranked.
+pub fn fill_rows<'a>(
+    s: &'a [u8],
+    c: Counts,
+    limit: u32,
+    ids: &'a [u32],
+    xs: &'a [f64],
+    acar: &'a [u32],
+    adest: &'a [u32],
+    pending: u64,
+    demand: u64,
+    waiters: [Waiters; 64],
+    stops: &'a [usize],
+    m: usize,
+    cars: &'a [usize],
+    n: usize,
+    columns: usize,
+    matrix: &mut [u64],
+) -> u64
+    requires { ⌜ Small c × (length (now ids) ≡ 64) × (length (now xs) ≡ 64) × (length (now acar) ≡ 512) × (length (now adest) ≡ 512) × (length (now stops) ≡ 64) × (length (now cars) ≡ 64) × (m ≤ columns) × (columns ≤ 64) × (2048 ≤ length (now matrix)) ⌝ }
+    requires { ⌜ Ready (sheetOf (now s) c) (now ids) (now xs) (now acar) (now adest) pending demand waiters (now stops) m × Rows (sheetOf (now s) c) (now cars) n ⌝ }
+    ensures { λ r. ⌜ FilledRows (sheetOf (now (s .entry)) c) limit n columns (now (matrix .entry)) r (now (matrix .exit)) ⌝ }
+{
+    let mut ranked: u64 = 0;
+    let mut at: usize = 0;
+    let mut r: usize = 0;
+    while r < n {
+        let e = at + columns;
+        ranked += fill_car(
+            s,
+            c,
+            cars[r] as u32,
+            limit,
+            ids,
+            xs,
+            acar,
+            adest,
+            pending,
+            demand,
+            waiters,
+            stops,
+            m,
+            &mut matrix[at..e],
+        ) as u64;
+        at = e;
+        r += 1;
+    }
+    ranked
 }

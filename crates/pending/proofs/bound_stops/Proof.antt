@@ -1,5 +1,6 @@
 -- pending::bound_stops meets its contract.
 use Prim.Native.Nat.{ℕ, _+_, _*_, _<_}
+use Rattle.laws.specs.Bools.{kept-id}
 use Rattle.assignment.specs.Pending.{idle, idleBound}
 use Rattle.bits.specs.Field.{fieldAt}
 use Rattle.columns.specs.Held.{held}
@@ -8,11 +9,11 @@ use Rattle.laws.specs.Folds.{any, any-cong}
 use Rattle.layout.specs.Records.{carOf, aboardOf, sheetOf}
 use Rattle.manifest.specs.World.{stopId}
 use Rattle.pending.specs.Masks.{boundId}
-use Rattle.pending.specs.Same.{guarded-column, flag-is, cond-is, and-swap, named-mask}
+use Rattle.pending.specs.Same.{guarded-column, flag-is, named-mask}
 use borrow.Author.Needs.{needs}
 use lib.Dec.{eqb}
 use lib.ListN.{getD}
-use mathlib.Core.Bool.{Bool, _&&_}
+use mathlib.Core.Bool.{Bool, _&&_, and-comm}
 use mathlib.Core.List.{List}
 use mathlib.Core.Path.{_≡_, sym, ap, _∙_}
 use Rattle.pending.proofs.bound_stops.Statement.{statement}
@@ -34,7 +35,7 @@ in-idle c x pos =
     ∙ guarded-column b (at .result + 737 * i) 22 154 1 x pos
     ∙ ap (λ (t : Bool). eqb (fieldAt b (at .result + 737 * i + 22) 32) x && t) (flag-is b (at .result + 737 * i + 154))
     ∙ ap (λ (y : ℕ). eqb (fieldAt b (y + 737 * i + 22) 32) x && eqb (fieldAt b (y + 737 * i + 154) 1) 1) (at .ensures)
-    ∙ and-swap (eqb (s .car i .id) x) (s .car i .listed))
+    ∙ and-comm (eqb (s .car i .id) x) (s .car i .listed))
 
 returns : tie.Need-returns
 unfolding idleBound boundId sheetOf aboardOf
@@ -50,7 +51,7 @@ returns c =
     (λ j i lj li.
     ap (λ (x : ℕ). eqb x (stopId s j)) (held (λ k. boundId b (c .before .before .before .before .before .before .before .before .before .fill-guarded .last .1 .1 .1 .1 .1 .1 .1 .0) (a .c .cars) (at .result + 87 * k)) (a .c .aboards) _ _ (c .before .before .before .before .fill-bound .ensures .1) 0 i li)
     ∙ ap (λ (x : ℕ). eqb (boundId b (c .before .before .before .before .before .before .before .before .before .fill-guarded .last .1 .1 .1 .1 .1 .1 .1 .0) (a .c .cars) (x + 87 * i)) (stopId s j)) (at .ensures)
-    ∙ cond-is (contains (c .before .before .before .before .before .before .before .before .before .fill-guarded .last .1 .1 .1 .1 .1 .1 .1 .0) (a .c .cars) (s .aboard i .car)) (s .aboard i .destination) (stopId s j) (names .above-zero j lj)
+    ∙ kept-id (contains (c .before .before .before .before .before .before .before .before .before .fill-guarded .last .1 .1 .1 .1 .1 .1 .1 .0) (a .c .cars) (s .aboard i .car)) (s .aboard i .destination) (stopId s j) (names .above-zero j lj)
     ∙ ap (λ (t : Bool). eqb (s .aboard i .destination) (stopId s j) && t) (in-idle c (s .aboard i .car) (boarded .above-zero i li)))
 
 pub bound-stops-spec : {M : Type 1} → statement M

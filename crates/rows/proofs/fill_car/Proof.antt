@@ -27,18 +27,23 @@ car-row-requires c κs =
     )
 
 same-length : tie.Need-same-length
-same-length c = c .before .before .car-row .ensures .0
+same-length c = c .before .before .before .car-row .ensures .0
 
 returns : tie.Need-returns
 unfolding sheetOf
 returns c =
-    let a = c .before .before .before .before .before .before .before .before .before .before .before .before .before .before .before .before .args in
-    let p = c .before .before .before .before .before .before .before .before .before .before .before .before .before .before .before .before .pre in
-    record {
-      row = λ r e. c .before .before .car-row .ensures .1 ∙ ready-row (sheetOf (a .s .now) (a .c)) (a .ids .now) (a .xs .now) (a .acar .now) (a .adest .now) (a .pending) (a .demand) (a .waiters) (a .stops .now) (a .m) (p .1) (a .i) (a .limit) (c .before .before .before .before .before .before .before .row-for .result) (p .0 .1) (c .before .before .before .before .before .before .before .row-for .ensures .0) r (length (a .out .now)) e;
-    }
+    let a = c .before .before .before .before .before .before .before .before .before .before .before .before .before .before .before .before .before .args in
+    let p = c .before .before .before .before .before .before .before .before .before .before .before .before .before .before .before .before .before .pre in
+    let row = c .before .before .before .before .before .before .before .before .row-for in
+    let filled = c .before .before .before .car-row .ensures in (
+      record {
+        row = λ r e. filled .1 ∙ ready-row (sheetOf (a .s .now) (a .c)) (a .ids .now) (a .xs .now) (a .acar .now) (a .adest .now) (a .pending) (a .demand) (a .waiters) (a .stops .now) (a .m) (p .1) (a .i) (a .limit) (row .result) (p .0 .1) (row .ensures .0) r (length (a .out .now)) e;
+      },
+      c .size .ensures ∙ row .ensures .3,
+      filled .0,
+    )
 
 pub fill-car-spec : {M : Type 1} → statement M
 fill-car-spec =
     tie.close
-    (tie.spec (λ c. search needs) row-for-requires (λ c. search needs) (λ c. search needs) car-row-requires same-length returns)
+    (tie.spec (λ c. search needs) row-for-requires (λ c. search needs) (λ c. search needs) car-row-requires (λ c κs. search needs) same-length returns)

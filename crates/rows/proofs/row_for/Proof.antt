@@ -1,6 +1,7 @@
 -- rows::row_for meets its contract.
 use Rattle.layout.specs.Records.{sheetOf}
 use Rattle.rows.specs.HeldLaws.{Held, seats-length, row-held}
+use Rattle.rows.specs.MatrixLaws.{kept-size}
 use borrow.Author.Needs.{needs}
 use native.Mathlib.Omega.{arith}
 use Rattle.rows.proofs.row_for.Statement.{statement}
@@ -49,6 +50,7 @@ returns c =
           (policy .ensures) (car .ensures) (riders .ensures) (goal .ensures) (sweep .ensures) (c .kept-by .ensures),
       len .0,
       len .1,
+      kept-size (sheetOf (a .s .now) (a .c)) (a .i) (a .limit) (c .kept-by .result) (car .result) (p .0 .0 .stops) (car .ensures) (c .kept-by .ensures),
     )
 
 pub row-for-spec : {M : Type 1} → statement M

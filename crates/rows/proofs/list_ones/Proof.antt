@@ -1,4 +1,4 @@
--- rows::list_stops meets its contract.
+-- rows::list_ones meets its contract.
 use Prim.Native.Nat.{ℕ, _-_, _+_, _≤_}
 use Rattle.laws.specs.Folds.{count, count-le}
 use Rattle.laws.specs.Tables.{filtered}
@@ -10,8 +10,8 @@ use mathlib.Core.List.{List, _++_}
 use mathlib.Core.Logic.{⊎-elim}
 use mathlib.Core.Path.{_≡_, refl, sym, ap, ap₂, _∙_, subst}
 use native.Mathlib.Omega.{arith}
-use Rattle.rows.proofs.list_stops.Statement.{statement}
-use Rattle.rows.proofs.list_stops.Tie as tie
+use Rattle.rows.proofs.list_ones.Statement.{statement}
+use Rattle.rows.proofs.list_ones.Tie as tie
 
 abbrev Inv-loop : tie.InvT-loop
 Inv-loop mask stops₀ m₀ j₀ stops m j = Listing mask stops₀ j m stops
@@ -67,8 +67,8 @@ returns c =
       held = l .inv .held ∙ ap (λ (n : ℕ). filtered (has (a .mask)) n ++ drop (l .m) (a .stops .now)) e;
     }
 
-pub list-stops-spec : {M : Type 1} → statement M
-list-stops-spec =
+pub list-ones-spec : {M : Type 1} → statement M
+list-ones-spec =
     tie.close
     (tie.spec Inv-loop μ-loop loop-holds has-requires mul-stops slice-write-stops add-m add-j (λ c. search needs) loop-again same-length
     returns)
