@@ -1,0 +1,30 @@
+-- cells::fill_aboard meets its contract.
+use Prim.Native.Nat.{ℕ, _+_, _*_}
+use Rattle.bits.specs.Field.{fieldAt}
+use Rattle.laws.specs.Tables.{tab}
+use Rattle.layout.specs.Records.{sheetOf, aboardOf}
+use borrow.Author.Needs.{needs}
+use lib.Ieee.{ofBits, binary64}
+use lib.ListN.{drop}
+use mathlib.Core.List.{List, _++_}
+use mathlib.Core.Path.{_≡_, ap, _∙_}
+use Rattle.cells.proofs.fill_aboard.Statement.{statement}
+use Rattle.cells.proofs.fill_aboard.Tie as tie
+
+returns : tie.Need-returns
+unfolding sheetOf aboardOf
+returns c =
+    let a = c .before .before .before .before .before .before .before .before .before .before .before .before .before .args in
+    let b = a .s .now in
+    let n = a .c .aboards in
+    let at = c .before .before .before .before .before .before .before .before .aboards-from in
+    let first = c .before .before .before .before .before .before .fill32 in
+    let second = c .before .before .fill322 in (
+      (first .ensures .0, first .ensures .1 ∙ ap (λ (x : ℕ). tab (λ i. fieldAt b (x + 87 * i + 22) 32) n ++ drop n (a .acar .now)) (at .ensures)),
+      (second .ensures .0, second .ensures .1 ∙ ap (λ (x : ℕ). tab (λ i. fieldAt b (x + 87 * i + 55) 32) n ++ drop n (a .adest .now)) (at .ensures)),
+    )
+
+pub fill-aboard-spec : {M : Type 1} → statement M
+fill-aboard-spec =
+    tie.close
+    (tie.spec (λ c. search needs) (λ c κs. search needs) (λ c κs. search needs) (λ c κs. search needs) (λ c. search needs) (λ c. search needs) returns)

@@ -1,0 +1,47 @@
+-- cells::fill_matrix meets its contract.
+use Rattle.accepted.specs.Accepted.{accepted}
+use Rattle.cells.specs.Survey.{Survey, holds-aboard, ready}
+use Rattle.layout.specs.Records.{sheetOf}
+use borrow.Author.Needs.{needs}
+use lib.ListN.{length}
+use mathlib.Core.Path.{_≡_, refl, _∙_}
+use native.Mathlib.Omega.{arith}
+use Rattle.cells.proofs.fill_matrix.Statement.{statement}
+use Rattle.cells.proofs.fill_matrix.Tie as tie
+
+fill-aboard-requires : tie.Need-fill-aboard-requires
+fill-aboard-requires c κs =
+    let a = c .before .before .before .before .before .before .before .before .args in
+    let p = c .before .before .before .before .before .before .before .before .pre in
+    (accepted (a .s .now) (a .c) (p .0 .0) .small, refl, refl)
+
+waiting-requires : tie.Need-waiting-requires
+unfolding sheetOf
+waiting-requires c κs =
+    let a = c .before .before .before .before .before .before .before .before .before .before .before .args in
+    let p = c .before .before .before .before .before .before .before .before .before .before .before .pre in
+    (accepted (a .s .now) (a .c) (p .0 .0) .small, p .0 .1, p .0 .2, p .1 .stops-held, p .1 .calls-are)
+
+fill-rows-requires : tie.Need-fill-rows-requires
+unfolding sheetOf
+fill-rows-requires c κs =
+    let a = c .before .before .before .before .before .before .before .before .before .before .before .before .before .before .before .args in
+    let p = c .before .before .before .before .before .before .before .before .before .before .before .before .before .before .before .pre in
+    let b = a .s .now in
+    let aboard = c .before .before .before .before .before .before .fill-aboard .ensures in
+    let held = holds-aboard (sheetOf b (a .c)) _ _ _ _ (aboard .0 .1) (aboard .1 .1) in (
+      (accepted b (a .c) (p .0 .0) .small, p .0 .1, p .0 .2, aboard .0 .0, aboard .1 .0, p .0 .3, p .0 .4, p .0 .5, p .0 .6, p .0 .7),
+      (ready b (a .c) (p .0 .0) (a .ids .now) (a .xs .now) (a .calls) (a .demand) (a .pending) (a .stops .now) (a .m) (a .cars .now) (a .n) (p .1) _ _ held _ (c .before .before .before .waiting .ensures), p .1 .rows),
+    )
+
+same-length : tie.Need-same-length
+same-length c = c .before .before .fill-rows .ensures .size
+
+returns : tie.Need-returns
+returns c = c .before .before .fill-rows .ensures
+
+pub fill-matrix-spec : {M : Type 1} → statement M
+fill-matrix-spec =
+    tie.close
+    (tie.spec (λ c. search needs) (λ c. search needs) fill-aboard-requires waiting-requires (λ c. search needs) (λ c. search needs) fill-rows-requires
+    same-length returns)

@@ -1,0 +1,139 @@
+-- What a pass has read of an accepted sheet before it fills rows. Assumes nothing.
+use Prim.Native.Nat.{ℕ, _+_, _*_, _≤_, _<_}
+use mathlib.Core.Path.{_≡_, refl, sym, ap, _∙_}
+use mathlib.Core.Bool.{Bool, _&&_}
+use mathlib.Core.List.{List, _++_}
+use native.Mathlib.Omega.{arith}
+use lib.Dec.{ltb}
+use lib.ListN.{length, getD}
+use lib.Ieee.{Float, nan, ofBits, binary64}
+use Rattle.laws.specs.Folds.{count-le}
+use Rattle.laws.specs.Tables.{tab, filtered, length-filtered, front-length}
+use Rattle.mask.specs.Mask.{has, built}
+use Rattle.bits.specs.Field.{fieldAt}
+use Rattle.columns.specs.Held.{held}
+use Rattle.components.specs.Sheet.{Sheet}
+use Rattle.layout.specs.declared.Counts.{Counts}
+use Rattle.layout.specs.declared.Reading.the-variants.{Accepted}
+use Rattle.layout.specs.Offsets.{waitsFrom}
+use Rattle.layout.specs.Records.{sheetOf, waitingOf}
+use Rattle.layout.specs.Verdict.{verdict}
+use Rattle.accepted.specs.Sound.{SoundSheet}
+use Rattle.accepted.specs.Accepted.{accepted}
+use Rattle.fp.specs.Order.{finite-real}
+use Rattle.fp.specs.Inside.{mass-finite}
+use Rattle.fp.specs.Distances.{room-finite}
+use Rattle.manifest.specs.declared.Waiters.{Waiters}
+use Rattle.manifest.specs.World.{stopId, stopAt}
+use Rattle.manifest.specs.Manifest.{riderlessCall, demandStop}
+use Rattle.manifest.specs.Holds.{HoldsAboard, HoldsWaiting}
+use Rattle.manifest.specs.Stops.{HoldsStops}
+use Rattle.dispatch.specs.WaitersLaws.{Weighed, HoldsWaiters}
+use Rattle.assignment.specs.Pending.{pending, idle, idleCars, rowCar}
+use Rattle.assignment.specs.Demand3.{Rising}
+use Rattle.outcome.specs.TwoSheets.{rising-of}
+use Rattle.pending.specs.Masks.{stopMask}
+use Rattle.rows.specs.RowLaws.{nobody, Listed}
+use Rattle.rows.specs.HeldLaws.{Held}
+use Rattle.rows.specs.MatrixLaws.{Ready, Rows, listed-number, listed-at, listed-below}
+
+-- what waits at every stop
+pub record Waiting (s : Sheet) (waiters : List Waiters) : Type 0 where
+  pub at : (j : ℕ) → j < s .stops → HoldsWaiters s j (getD waiters j nobody)
+
+-- the stops with their ids and positions, the masks of those with a call without a rider, with demand, and pending; the pending stops and the idle cars, listed
+pub record Survey (s : Sheet) (ids : List ℕ) (xs : List Float) (calls demand mask : ℕ) (stops : List ℕ) (m : ℕ) (cars : List ℕ) (n : ℕ) : Type 0 where
+  pub stops-held : HoldsStops s ids xs (s .stops)
+  pub calls-are : calls ≡ stopMask s (riderlessCall s)
+  pub demand-is : demand ≡ stopMask s (demandStop s)
+  pub stops-are : mask ≡ stopMask s (pending s)
+  pub entry : List ℕ
+  pub listed : Listed mask entry m stops
+  pub rows : Rows s cars n
+
+-- ---- columns that were filled hold the sheet's records
+
+pub holds-stops : (s : Sheet) (ids : List ℕ) (xs : List Float) (r : List ℕ) (q : List Float) → ids ≡ tab (stopId s) (s .stops) ++ r
+    → xs ≡ tab (stopAt s) (s .stops) ++ q → HoldsStops s ids xs (s .stops)
+holds-stops s ids xs r q e f =
+    record {
+      counted = refl;
+      id-of = λ j l. held (stopId s) (s .stops) r ids e 0 j l;
+      at = λ j l. held (stopAt s) (s .stops) q xs f nan j l;
+    }
+
+pub holds-aboard : (s : Sheet) (acar adest r q : List ℕ) → acar ≡ tab (λ a. s .aboard a .car) (s .aboards) ++ r
+    → adest ≡ tab (λ a. s .aboard a .destination) (s .aboards) ++ q → HoldsAboard s acar adest (s .aboards)
+holds-aboard s acar adest r q e f =
+    record {
+      counted = refl;
+      car-of = λ j l. held (λ a. s .aboard a .car) (s .aboards) r acar e 0 j l;
+      bound-for = λ j l. held (λ a. s .aboard a .destination) (s .aboards) q adest f 0 j l;
+    }
+
+-- read from a bit on
+pub holds-waiting : (b : List ℕ) (c : Counts) (at : ℕ) → at ≡ waitsFrom c → (wstop wdest : List ℕ) (wweight : List Float) (wwait : List ℕ)
+    (r q : List ℕ) (u : List Float) (t : List ℕ)
+    → wstop ≡ tab (λ i. fieldAt b (at + 248 * i + 22) 32) (c .waits) ++ r → wdest ≡ tab (λ i. fieldAt b (at + 248 * i + 88) 32) (c .waits) ++ q
+    → wweight ≡ tab (λ i. ofBits binary64 (fieldAt b (at + 248 * i + 120) 64)) (c .waits) ++ u
+    → wwait ≡ tab (λ i. fieldAt b (at + 248 * i + 184) 64) (c .waits) ++ t → HoldsWaiting (sheetOf b c) wstop wdest wweight wwait (c .waits)
+unfolding sheetOf waitingOf
+holds-waiting b c at base wstop wdest wweight wwait r q u t e f g h =
+    record {
+      counted = refl;
+      stop-of = λ j l. held (λ i. fieldAt b (at + 248 * i + 22) 32) (c .waits) r wstop e 0 j l ∙ ap (λ (x : ℕ). fieldAt b (x + 248 * j + 22) 32) base;
+      bound-for = λ j l. held (λ i. fieldAt b (at + 248 * i + 88) 32) (c .waits) q wdest f 0 j l ∙ ap (λ (x : ℕ). fieldAt b (x + 248 * j + 88) 32) base;
+      weight-of = λ j l.
+          held (λ i. ofBits binary64 (fieldAt b (at + 248 * i + 120) 64)) (c .waits) u wweight g nan j l
+          ∙ ap (λ (x : ℕ). ofBits binary64 (fieldAt b (x + 248 * j + 120) 64)) base;
+      ticks-of = λ j l. held (λ i. fieldAt b (at + 248 * i + 184) 64) (c .waits) t wwait h 0 j l ∙ ap (λ (x : ℕ). fieldAt b (x + 248 * j + 184) 64) base;
+    }
+
+-- ---- the idle cars
+
+pub rows-listed : (s : Sheet) (mask : ℕ) (entry cars : List ℕ) (n : ℕ) → s .cars ≤ 32 → mask ≡ built (λ i. ltb i (s .cars) && idle s i) 64 → Listed mask entry n cars → Rows s cars n
+unfolding idleCars rowCar
+rows-listed s mask entry cars n few e h =
+    let fit : s .cars ≤ 64 = omega arith in
+    let number = listed-number (idle s) (s .cars) fit mask e entry n cars h in
+    record {
+      number = number;
+      few = omega (arith, number, count-le (idle s) (s .cars));
+      car-of = listed-at (idle s) (s .cars) fit mask e entry n cars h;
+      below = listed-below (idle s) (s .cars) fit mask e entry n cars h;
+    }
+
+-- a listing keeps the length of its buffer
+pub listed-length : (mask : ℕ) (entry : List ℕ) (m : ℕ) (list : List ℕ) → Listed mask entry m list → length entry ≡ 64 → length list ≡ length entry
+listed-length mask entry m list h e =
+    front-length (filtered (has mask) 64) entry list m (length-filtered (has mask) 64 ∙ sym (h .counted)) (omega (arith, h .counted, count-le (has mask) 64)) (h .held)
+
+-- ---- ready to fill rows
+
+-- no weight is a NaN, and what a car still takes is finite
+pub weighed-of : (s : Sheet) → SoundSheet s → (i : ℕ) → i < s .cars → Weighed s i
+weighed-of s h i l =
+    record {
+      weights = λ w lw. finite-real (s .waiting w .weight) (mass-finite (s .waiting w .weight) (h .waiting w lw .weight));
+      room = room-finite (s .car i .capacity) (s .car i .load) (h .car i l .capacity) (h .car i l .load);
+    }
+
+pub ready : (bytes : List ℕ) (c : Counts) → verdict bytes ≡ Accepted c → (ids : List ℕ) (xs : List Float) (calls demand mask : ℕ) (stops : List ℕ) (m : ℕ) (cars : List ℕ) (n : ℕ)
+    → Survey (sheetOf bytes c) ids xs calls demand mask stops m cars n → (acar adest : List ℕ) → HoldsAboard (sheetOf bytes c) acar adest (sheetOf bytes c .aboards)
+    → (waiters : List Waiters) → Waiting (sheetOf bytes c) waiters → Ready (sheetOf bytes c) ids xs acar adest mask demand waiters stops m
+ready bytes c e ids xs calls demand mask stops m cars n h acar adest ha waiters hw =
+    let sound = accepted bytes c e .sheet in
+    record {
+      held = record {
+        stops-held = h .stops-held;
+        aboard-held = ha;
+        rising = rising-of bytes c e;
+        few = sound .most-stops;
+        stops-are = h .stops-are;
+        demand-is = h .demand-is;
+      };
+      waiting = hw .at;
+      weighed = weighed-of (sheetOf bytes c) sound;
+      entry = h .entry;
+      listed = h .listed;
+    }

@@ -1,0 +1,153 @@
+// From an accepted sheet to its cells: what is read of it once, and the rows of its idle cars.
+ghost use mathlib.Core.Path.{_≡_};
+ghost use mathlib.Core.Bool.{_&&_};
+ghost use mathlib.Core.List.{_++_};
+ghost use Prim.Native.Nat.{_<_, _≤_};
+ghost use lib.Dec.{ltb};
+ghost use lib.ListN.{length, drop};
+ghost use Rattle.laws.specs.Tables.{tab};
+ghost use Rattle.mask.specs.Mask.{built};
+ghost use Rattle.layout.specs.declared.Reading.the-variants.{Accepted};
+ghost use Rattle.layout.specs.Offsets.{Small};
+ghost use Rattle.layout.specs.Records.{sheetOf};
+ghost use Rattle.layout.specs.Verdict.{verdict};
+ghost use Rattle.manifest.specs.World.{stopId, stopAt};
+ghost use Rattle.manifest.specs.Stops.{HoldsStops};
+ghost use Rattle.manifest.specs.Manifest.{riderlessCall};
+ghost use Rattle.assignment.specs.Pending.{idle};
+ghost use Rattle.pending.specs.Masks.{stopMask};
+ghost use Rattle.rows.specs.MatrixLaws.{Rows, FilledRows};
+ghost use Rattle.cells.specs.Survey.{Survey, Waiting};
+use layout::Counts;
+use manifest::Waiters;
+
+// The ids and the positions of the stops.
+pub fn fill_stops(s: &[u8], c: Counts, ids: &mut [u32], xs: &mut [f64])
+    requires { ⌜ Small c × (length (now ids) ≡ 64) × (length (now xs) ≡ 64) ⌝ }
+    ensures ids { λ _. ⌜ (length (now (ids .exit)) ≡ length (now (ids .entry))) × (now (ids .exit) ≡ tab (stopId (sheetOf (now (s .entry)) c)) (c .stops) ++ drop (c .stops) (now (ids .entry))) ⌝ }
+    ensures positions { λ _. ⌜ (length (now (xs .exit)) ≡ length (now (xs .entry))) × (now (xs .exit) ≡ tab (stopAt (sheetOf (now (s .entry)) c)) (c .stops) ++ drop (c .stops) (now (xs .entry))) ⌝ }
+{
+    let n = c.stops as usize;
+    let at = c.stops_from();
+    columns::fill32(s, at, 118, 22, n, ids);
+    columns::fill_doubles(s, at, 118, 54, n, xs);
+}
+
+// The cars and the destinations of those aboard.
+fn fill_aboard(s: &[u8], c: Counts, acar: &mut [u32], adest: &mut [u32])
+    requires { ⌜ Small c × (length (now acar) ≡ 512) × (length (now adest) ≡ 512) ⌝ }
+    ensures cars { λ _. ⌜ (length (now (acar .exit)) ≡ length (now (acar .entry))) × (now (acar .exit) ≡ tab (λ a. sheetOf (now (s .entry)) c .aboard a .car) (c .aboards) ++ drop (c .aboards) (now (acar .entry))) ⌝ }
+    ensures destinations { λ _. ⌜ (length (now (adest .exit)) ≡ length (now (adest .entry))) × (now (adest .exit) ≡ tab (λ a. sheetOf (now (s .entry)) c .aboard a .destination) (c .aboards) ++ drop (c .aboards) (now (adest .entry))) ⌝ }
+{
+    let n = c.aboards as usize;
+    let at = c.aboards_from();
+    columns::fill32(s, at, 87, 22, n, acar);
+    columns::fill32(s, at, 87, 55, n, adest);
+}
+
+// What waits at each stop.
+fn waiting<'a>(s: &'a [u8], c: Counts, ids: &'a [u32], xs: &'a [f64], calls: u64) -> [Waiters; 64]
+    requires { ⌜ Small c × (length (now ids) ≡ 64) × (length (now xs) ≡ 64) × HoldsStops (sheetOf (now s) c) (now ids) (now xs) (c .stops) × (calls ≡ stopMask (sheetOf (now s) c) (riderlessCall (sheetOf (now s) c))) ⌝ }
+    ensures { λ r. ⌜ Waiting (sheetOf (now (s .entry)) c) r ⌝ }
+{
+    let mut wstop = [0u32; 512];
+    let mut wdest = [0u32; 512];
+    let mut wweight = [0.0f64; 512];
+    let mut wwait = [0u64; 512];
+    let n = c.waits as usize;
+    let at = c.waits_from();
+    columns::fill32(s, at, 248, 22, n, &mut wstop);
+    columns::fill32(s, at, 248, 88, n, &mut wdest);
+    columns::fill_doubles(s, at, 248, 120, n, &mut wweight);
+    columns::fill64(s, at, 248, 184, n, &mut wwait);
+    rows::waiters_of(
+        ids,
+        xs,
+        c.stops as usize,
+        calls,
+        &wstop,
+        &wdest,
+        &wweight,
+        &wwait,
+        n,
+    )
+}
+
+// Whether there is a car record i, and it is idle-listed.
+fn is_idle(s: &[u8], c: Counts, i: usize) -> bool
+    requires { ⌜ Small c ⌝ }
+    ensures { λ r. ⌜ r ≡ (ltb i (c .cars) && idle (sheetOf (now (s .entry)) c) i) ⌝ }
+{
+    if c.cars as usize <= i {
+        return false;
+    }
+    let car = sheet::car_at(s, c, i as u32);
+    car.listed
+}
+
+// The idle cars, as a mask of their records.
+fn idle_cars(s: &[u8], c: Counts) -> u64
+    requires { ⌜ Small c ⌝ }
+    ensures { λ r. ⌜ r ≡ built (λ i. ltb i (c .cars) && idle (sheetOf (now (s .entry)) c) i) 64 ⌝ }
+{
+    let mut m: u64 = 0;
+    let mut i: usize = 0;
+    while i < 64 {
+        m = mask::pushed(m, is_idle(s, c, i));
+        i += 1;
+    }
+    m
+}
+
+// The records of the idle cars in order, and how many they are.
+pub fn list_cars(s: &[u8], c: Counts, cars: &mut [usize]) -> usize
+    requires { ⌜ Small c × (length (now cars) ≡ 64) ⌝ }
+    ensures { λ r. ⌜ Rows (sheetOf (now (s .entry)) c) (now (cars .exit)) r × (length (now (cars .exit)) ≡ length (now (cars .entry))) ⌝ }
+{
+    rows::list_ones(idle_cars(s, c), cars)
+}
+
+// The cells of the n idle cars, a row each, and how many pairs are ranked.
+pub fn fill_matrix<'a>(
+    s: &'a [u8],
+    c: Counts,
+    limit: u32,
+    ids: &'a [u32],
+    xs: &'a [f64],
+    calls: u64,
+    demand: u64,
+    pending: u64,
+    stops: &'a [usize],
+    m: usize,
+    cars: &'a [usize],
+    n: usize,
+    columns: usize,
+    matrix: &mut [u64],
+) -> u64
+    requires { ⌜ (verdict (now s) ≡ Accepted c) × (length (now ids) ≡ 64) × (length (now xs) ≡ 64) × (length (now stops) ≡ 64) × (length (now cars) ≡ 64) × (m ≤ columns) × (columns ≤ 64) × (2048 ≤ length (now matrix)) ⌝ }
+    requires { ⌜ Survey (sheetOf (now s) c) (now ids) (now xs) calls demand pending (now stops) m (now cars) n ⌝ }
+    ensures { λ r. ⌜ FilledRows (sheetOf (now (s .entry)) c) limit n columns (now (matrix .entry)) r (now (matrix .exit)) ⌝ }
+{
+    let mut acar = [0u32; 512];
+    let mut adest = [0u32; 512];
+    fill_aboard(s, c, &mut acar, &mut adest);
+    let waiters = waiting(s, c, ids, xs, calls);
+    rows::fill_rows(
+        s,
+        c,
+        limit,
+        ids,
+        xs,
+        &acar,
+        &adest,
+        pending,
+        demand,
+        waiters,
+        stops,
+        m,
+        cars,
+        n,
+        columns,
+        matrix,
+    )
+}
