@@ -1,0 +1,78 @@
+// From a filled matrix to the decisions and their total.
+ghost use mathlib.Core.Path.{_≡_};
+ghost use mathlib.Core.List.{_++_};
+ghost use Prim.Native.Nat.{ℕ, _<_, _≤_};
+ghost use lib.ListN.{length, getD, drop};
+ghost use Rattle.laws.specs.Tables.{tab};
+ghost use Rattle.assignment_problem.specs.Choice.{cellAt};
+ghost use Rattle.assignment_problem.specs.Recursion.{leastTotal};
+ghost use Rattle.matcher.specs.Promise.{totalOr};
+ghost use Rattle.decisions.specs.Decisions.{Filled, told, toldAt, decisionBy};
+use matcher::Matching;
+
+// What a car is told: the stop of its column, or 0 where the column is spare or its cell is the sentinel.
+fn decision<'a>(place: usize, cell: u64, m: usize, stops: &'a [usize], ids: &'a [u32]) -> u32
+    requires { ⌜ (length (now stops) ≡ 64) × (length (now ids) ≡ 64) × (m ≤ 64) × ((k : ℕ) → k < m → getD (now stops) k 0 < 64) ⌝ }
+    ensures { λ r. ⌜ r ≡ told (now (stops .entry)) (now (ids .entry)) m place cell ⌝ }
+{
+    if m <= place {
+        return 0;
+    }
+    if scale::SENTINEL <= cell {
+        return 0;
+    }
+    let j = stops[place];
+    ids[j]
+}
+
+// The decisions of the first n cars, whose columns are placed.
+fn write<'a>(
+    cells: &'a [u64],
+    n: usize,
+    columns: usize,
+    places: &'a [u32],
+    m: usize,
+    stops: &'a [usize],
+    ids: &'a [u32],
+    decisions: &mut [u32],
+)
+    requires { ⌜ Filled (now cells) n columns m (now stops) (now ids) (length (now decisions)) × (length (now places) ≡ 32) × ((r : ℕ) → r < n → getD (now places) r 0 < columns) ⌝ }
+    ensures { λ _. ⌜ (length (now (decisions .exit)) ≡ length (now (decisions .entry))) × (now (decisions .exit) ≡ tab (toldAt (now (cells .entry)) columns (now (places .entry)) m (now (stops .entry)) (now (ids .entry))) n ++ drop n (now (decisions .entry))) ⌝ }
+{
+    let mut r: usize = 0;
+    while r < n {
+        let place = places[r] as usize;
+        let cell = alternating_tree::cell(cells, columns, r, place);
+        decisions[r] = decision(place, cell, m, stops, ids);
+        r += 1;
+    }
+}
+
+// The total of a matching, 0 where there is none.
+fn total(answer: Matching) -> u64
+    ensures { λ r. ⌜ r ≡ totalOr 0 answer ⌝ }
+{
+    match answer {
+        Matching::Least(least) => least,
+        Matching::None => 0,
+    }
+}
+
+// The decisions of n cars and their total.
+pub fn decide<'a>(
+    cells: &'a [u64],
+    n: usize,
+    columns: usize,
+    m: usize,
+    stops: &'a [usize],
+    ids: &'a [u32],
+    decisions: &mut [u32],
+) -> u64
+    requires { ⌜ Filled (now cells) n columns m (now stops) (now ids) (length (now decisions)) ⌝ }
+    ensures { λ r. ⌜ (r ≡ leastTotal (cellAt (now (cells .entry)) columns) n columns) × (length (now (decisions .exit)) ≡ length (now (decisions .entry))) × (now (decisions .exit) ≡ tab (decisionBy (now (cells .entry)) n columns m (now (stops .entry)) (now (ids .entry))) n ++ drop n (now (decisions .entry))) ⌝ }
+{
+    let mut places = [0u32; 32];
+    let answer = matcher::assign(n, columns, cells, &mut places);
+    write(cells, n, columns, &places, m, stops, ids, decisions);
+    total(answer)
+}
