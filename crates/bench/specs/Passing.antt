@@ -1,0 +1,123 @@
+-- The stages of a pass put together. Assumes nothing.
+use Prim.Native.Nat.{ℕ, _+_, _*_, _≤_, _<_, max}
+use mathlib.Core.Path.{_≡_, refl, sym, ap, _∙_, subst}
+use mathlib.Core.List.{List, _++_}
+use native.Mathlib.Omega.{arith}
+use lib.ListN.{length, getD, take, drop, length-take}
+use lib.Ieee.{Float}
+use lib.Seq.{take-at}
+use Rattle.laws.specs.Folds.{count}
+use Rattle.laws.specs.Sums.{sum}
+use Rattle.laws.specs.Tables.{tab, tabs, length-tabs}
+use Rattle.components.specs.Sheet.{Sheet}
+use Rattle.layout.specs.declared.Counts.{Counts}
+use Rattle.layout.specs.declared.Reading.the-variants.{Accepted}
+use Rattle.layout.specs.Records.{sheetOf, limitOf}
+use Rattle.layout.specs.Verdict.{verdict}
+use Rattle.accepted.specs.Accepted.{accepted}
+use Rattle.manifest.specs.Manifest.{riderlessCall, demandStop}
+use Rattle.manifest.specs.Stops.{HoldsStops}
+use Rattle.assignment_problem.specs.Choice.{cellAt}
+use Rattle.assignment_problem.specs.Recursion.{leastTotal}
+use Rattle.assignment.specs.Pending.{pending, idleCars, rowCar, pendingStops, columnStop, columns}
+use Rattle.assignment.specs.Candidates.{kept}
+use Rattle.assignment.specs.Cells.{matrix, answeredTotal}
+use Rattle.assignment.specs.CellLaws.{Small, columns-le, cells-fit}
+use Rattle.pending.specs.Masks.{stopMask}
+use Rattle.rows.specs.KeptLaws.{keptNumber}
+use Rattle.rows.specs.RowLaws.{Listed}
+use Rattle.rows.specs.MatrixLaws.{Rows, FilledRows, listed-count, listed-stop}
+use Rattle.cells.specs.Survey.{Survey}
+use Rattle.decisions.specs.Decisions.{Filled, decisionBy}
+use Rattle.decisions.specs.DecisionLaws.{total-same, filled, decisions-same}
+use Rattle.outcome.specs.Outcome.{decisionsOf, cellsOf, rankedMost}
+use Rattle.outcome.specs.Bound.{ranked-bound}
+
+-- the stops with their ids and positions, and the masks of those with a call without a rider, with demand, and pending
+pub record Masks (s : Sheet) (ids : List ℕ) (xs : List Float) (calls demand mask : ℕ) : Type 0 where
+  pub stops-held : HoldsStops s ids xs (s .stops)
+  pub calls-are : calls ≡ stopMask s (riderlessCall s)
+  pub demand-is : demand ≡ stopMask s (demandStop s)
+  pub stops-are : mask ≡ stopMask s (pending s)
+
+pub survey : (s : Sheet) (ids : List ℕ) (xs : List Float) (calls demand mask : ℕ) → Masks s ids xs calls demand mask
+    → (entry : List ℕ) (m : ℕ) (stops : List ℕ) → Listed mask entry m stops → (cars : List ℕ) (n : ℕ) → Rows s cars n → Survey s ids xs calls demand mask stops m cars n
+survey s ids xs calls demand mask h entry m stops l cars n r =
+    record {
+      stops-held = h .stops-held;
+      calls-are = h .calls-are;
+      demand-is = h .demand-is;
+      stops-are = h .stops-are;
+      entry = entry;
+      listed = l;
+      rows = r;
+    }
+
+pub small-of : (bytes : List ℕ) (c : Counts) → verdict bytes ≡ Accepted c → Small (sheetOf bytes c)
+small-of bytes c e = let s = accepted bytes c e .sheet in record { cars = s .most-cars; stops = s .most-stops }
+
+-- rows under a limit, by its other name
+pub under : (s : Sheet) {limit′ n w : ℕ} {entry : List ℕ} {ranked : ℕ} {exit : List ℕ} (limit : ℕ) → limit′ ≡ limit → FilledRows s limit′ n w entry ranked exit
+    → FilledRows s limit n w entry ranked exit
+under s {limit′} {n} {w} {entry} {ranked} {exit} limit e h = subst (λ (l : ℕ). FilledRows s l n w entry ranked exit) e h
+
+pub prefix-length : (k : ℕ) (l : List ℕ) → k ≤ length l → k ≡ length (take k l)
+prefix-length k l h = simp length-take (omega arith)
+
+-- ---- from the filled rows to the decisions
+
+module _ (s : Sheet) (limit : ℕ) (small : Small s) (ids : List ℕ) (xs : List Float) (calls demand mask : ℕ) (stops : List ℕ) (m : ℕ) (cars : List ℕ) (n : ℕ)
+    (h : Survey s ids xs calls demand mask stops m cars n) (w : ℕ) (ew : w ≡ max n m) where
+  pub car-number : n ≡ idleCars s
+  car-number = h .rows .number
+
+  pub stop-number : m ≡ pendingStops s
+  stop-number = listed-count s (small .stops) mask (h .stops-are) (h .entry) m stops (h .listed)
+
+  width : w ≡ columns s
+  unfolding columns
+  width = rw (sym car-number, sym stop-number) ew
+
+  pub narrow : w ≤ 64
+  narrow = omega (arith, width, columns-le s small)
+
+  pub wide : m ≤ w
+  wide = omega arith
+
+  product : n * w ≡ idleCars s * columns s
+  product = rw (car-number, width)
+
+  pub fits : n * w ≤ 2048
+  fits = omega (arith, product, cells-fit s small)
+
+  module _ (entry exit : List ℕ) (ranked : ℕ) (f : FilledRows s limit n w entry ranked exit) where
+    pub cells-are : exit ≡ cellsOf s limit entry
+    unfolding cellsOf
+    cells-are = rw (car-number, width) at (f .rows)
+
+    -- so many pairs are ranked
+    pub ranked-is : ranked ≡ sum (idleCars s) (λ r. count (kept s (rowCar s r) limit) (s .stops))
+    unfolding keptNumber
+    ranked-is = f .counted ∙ ap (λ (k : ℕ). sum k (λ r. count (kept s (rowCar s r) limit) (s .stops))) car-number
+
+    module _ (k : ℕ) (ek : k ≡ n * w) where
+      prefix : take k exit ≡ tabs (matrix s limit) (columns s) (idleCars s)
+      unfolding cellsOf
+      prefix =
+          rw cells-are
+          (take-at (tabs (matrix s limit) (columns s) (idleCars s)) (drop (idleCars s * columns s) entry) k
+          (length-tabs (matrix s limit) (columns s) (idleCars s) ∙ sym (ek ∙ product)))
+
+      listed : (j : ℕ) → j < m → getD stops j 0 ≡ columnStop s j
+      listed = listed-stop s (small .stops) mask (h .stops-are) (h .entry) m stops (h .listed)
+
+      pub can-decide : (room : ℕ) → length stops ≡ 64 → length ids ≡ 64 → 32 ≤ room → Filled (take k exit) n w m stops ids room
+      can-decide room l₁ l₂ l₃ = rw (car-number, width) (filled s limit (take k exit) prefix m stops ids stop-number listed room small l₁ l₂ l₃)
+
+      pub total-is : (total : ℕ) → total ≡ leastTotal (cellAt (take k exit) w) n w → total ≡ answeredTotal s limit
+      total-is total e = (rw (car-number, width) at e) ∙ total-same s limit (take k exit) prefix
+
+      pub decisions-are : (before after : List ℕ) → after ≡ tab (decisionBy (take k exit) n w m stops ids) n ++ drop n before → after ≡ decisionsOf s limit before
+      unfolding decisionsOf
+      decisions-are before after e =
+          (rw (car-number, width) at e) ∙ decisions-same s limit (take k exit) prefix m stops ids stop-number listed (h .stops-held .id-of) before

@@ -1,0 +1,91 @@
+// A pass over a byte string: refused by number and place, or every idle car with its decision.
+ghost use mathlib.Core.Path.{_≡_};
+ghost use Prim.Native.Nat.{_<_, _≤_, max};
+ghost use lib.ListN.{length};
+ghost use Rattle.layout.specs.declared.Reading.the-variants.{Accepted};
+ghost use Rattle.layout.specs.Offsets.{Small};
+ghost use Rattle.layout.specs.Records.{sheetOf, limitOf};
+ghost use Rattle.layout.specs.Verdict.{verdict};
+ghost use Rattle.outcome.specs.Outcome.{refusal1, outcome, decisionsOf, cellsOf, sweepsOf, decisionsLeft, cellsLeft, sweepsLeft};
+ghost use Rattle.bench.specs.Answers.{answerOf, rankedOf, rankedBound};
+ghost use Rattle.bench.specs.Passing.{Masks};
+use layout::Counts;
+use layout::Reading;
+
+// What a pass answers.
+pub enum Answer {
+    Passed {
+        cars: u64,
+        stops: u64,
+        total: u64,
+        ranked: u64,
+    },
+    Refused {
+        number: u32,
+        offset: u64,
+    },
+}
+
+// "Columns max(n, m)".
+fn columns(n: usize, m: usize) -> usize
+    ensures { λ r. ⌜ r ≡ max n m ⌝ }
+{
+    if n < m { m } else { n }
+}
+
+// The candidate limit of a sheet.
+fn limit(s: &[u8]) -> u32
+    ensures { λ r. ⌜ r ≡ limitOf (now (s .entry)) ⌝ }
+{
+    sheet::limit(s) as u32
+}
+
+// The cells and the decisions, where the stops and the masks of an accepted sheet are at hand.
+fn send<'a>(
+    s: &'a [u8],
+    c: Counts,
+    ids: &'a [u32],
+    xs: &'a [f64],
+    calls: u64,
+    demand: u64,
+    pending: u64,
+    decisions: &mut [u32],
+    matrix: &mut [u64],
+) -> Answer
+    requires { ⌜ (verdict (now s) ≡ Accepted c) × (length (now ids) ≡ 64) × (length (now xs) ≡ 64) × (32 ≤ length (now decisions)) × (2048 ≤ length (now matrix)) × Masks (sheetOf (now s) c) (now ids) (now xs) calls demand pending ⌝ }
+    ensures answer { λ r. ⌜ r ≡ answerOf (Accepted c) (now (s .entry)) (rankedOf r) ⌝ }
+    ensures ranked { λ r. ⌜ rankedOf r ≤ rankedBound (Accepted c) (now (s .entry)) ⌝ }
+    ensures decisions { λ _. ⌜ (length (now (decisions .exit)) ≡ length (now (decisions .entry))) × (now (decisions .exit) ≡ decisionsOf (sheetOf (now (s .entry)) c) (limitOf (now (s .entry))) (now (decisions .entry))) ⌝ }
+    ensures matrix { λ _. ⌜ (length (now (matrix .exit)) ≡ length (now (matrix .entry))) × (now (matrix .exit) ≡ cellsOf (sheetOf (now (s .entry)) c) (limitOf (now (s .entry))) (now (matrix .entry))) ⌝ }
+{
+    let mut stops = [0usize; 64];
+    let mut cars = [0usize; 64];
+    let m = rows::list_ones(pending, &mut stops);
+    let n = cells::list_cars(s, c, &mut cars);
+    let w = columns(n, m);
+    let most = limit(s);
+    let ranked = cells::fill_matrix(
+        s,
+        c,
+        most,
+        ids,
+        xs,
+        calls,
+        demand,
+        pending,
+        &stops,
+        m,
+        &cars,
+        n,
+        w,
+        matrix,
+    );
+    let e = n * w;
+    let total = decisions::decide(&matrix[..e], n, w, m, &stops, ids, decisions);
+    Answer::Passed {
+        cars: n as u64,
+        stops: m as u64,
+        total,
+        ranked,
+    }
+}
