@@ -38,6 +38,11 @@ told stops ids m place cell = cond (ltb place m && ltb cell sentinel) (getD ids 
 unfoldable pub toldAt : List ℕ → ℕ → List ℕ → ℕ → List ℕ → List ℕ → ℕ → ℕ
 toldAt cells columns places m stops ids r = told stops ids m (getD places r 0) (cellAt cells columns r (getD places r 0))
 
+pub told-next : (cells : List ℕ) (columns : ℕ) (places : List ℕ) (m : ℕ) (stops ids : List ℕ) (r : ℕ) {cell d : ℕ}
+    → cell ≡ cellAt cells columns r (getD places r 0) → d ≡ told stops ids m (getD places r 0) cell → d ≡ toldAt cells columns places m stops ids r
+unfolding toldAt
+told-next cells columns places m stops ids r e d = d ∙ ap (told stops ids m (getD places r 0)) e
+
 -- of row r, whose column is the choice's
 unfoldable pub decisionBy : List ℕ → ℕ → ℕ → ℕ → List ℕ → List ℕ → ℕ → ℕ
 decisionBy cells n columns m stops ids r =
