@@ -1,13 +1,13 @@
 -- Decisions from a filled matrix. Assumes nothing.
 use Prim.Native.Nat.{ℕ, _+_, _*_, _≤_, _<_}
-use mathlib.Core.Path.{_≡_, refl, sym, ap, _∙_}
-use mathlib.Core.Bool.{Bool, true, false, _&&_, cond}
+use mathlib.Core.Path.{_≡_, ap, _∙_}
+use mathlib.Core.Bool.{false, _&&_, cond}
 use mathlib.Core.List.{List, _++_}
 use native.Mathlib.Omega.{arith}
 use lib.Dec.{ltb}
 use lib.ListN.{length, getD, drop, List·getD-append}
 use borrow.Author.Tests.{le-ltb}
-use Rattle.laws.specs.Folds.{any, none-any}
+use Rattle.laws.specs.Folds.{none-any}
 use Rattle.laws.specs.Tables.{tab, tab-cong}
 use Rattle.scale.specs.Scale.{sentinel}
 use Rattle.assignment_problem.specs.Choice.{cellAt}

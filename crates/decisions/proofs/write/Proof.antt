@@ -1,12 +1,12 @@
 -- decisions::write meets its contract.
 use Prim.Native.Nat.{ℕ, _≤_, _-_}
 use Rattle.alternating_tree.specs.State.{row-in}
-use Rattle.decisions.specs.Decisions.{Filled, toldAt, told-next}
+use Rattle.decisions.specs.Decisions.{toldAt, told-next}
 use Rattle.laws.specs.Folds.{ended}
 use Rattle.laws.specs.Tables.{tab, tab-next}
 use borrow.Author.Needs.{needs}
 use lib.ListN.{length, drop, length-set}
-use mathlib.Core.List.{List, _++_}
+use mathlib.Core.List.{_++_}
 use mathlib.Core.Path.{_≡_, refl}
 use native.Mathlib.Omega.{arith}
 use Rattle.decisions.proofs.write.Statement.{statement}

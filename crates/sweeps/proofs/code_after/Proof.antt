@@ -1,6 +1,6 @@
 -- sweeps::code_after meets its contract.
 use Rattle.layout.specs.Records.{sheetOf}
-use Rattle.sweeps.specs.Swept.{Positioned, code-is}
+use Rattle.sweeps.specs.Swept.{code-is}
 use borrow.Author.Needs.{needs}
 use Rattle.sweeps.proofs.code_after.Statement.{statement}
 use Rattle.sweeps.proofs.code_after.Tie as tie

@@ -4,10 +4,10 @@ use Rattle.components.specs.declared.Policy.{Policy}
 use Rattle.laws.specs.Folds.{ended}
 use Rattle.laws.specs.Tables.{tab, tab-next}
 use Rattle.layout.specs.Records.{sheetOf}
-use Rattle.sweeps.specs.Swept.{Positioned, codeAfter}
+use Rattle.sweeps.specs.Swept.{codeAfter}
 use borrow.Author.Needs.{needs}
 use lib.ListN.{length, drop, length-set}
-use mathlib.Core.List.{List, _++_}
+use mathlib.Core.List.{_++_}
 use mathlib.Core.Path.{_≡_, refl, ap}
 use native.Mathlib.Omega.{arith}
 use Rattle.sweeps.proofs.fill_sweeps.Statement.{statement}
