@@ -1,13 +1,11 @@
 -- The total and the decisions of a sheet's matrix are the sheet's. Assumes nothing.
 use Prim.Native.Nat.{ℕ, _+_, _*_, _≤_, _<_}
-use mathlib.Core.Path.{_≡_, refl, sym, ap, ap₂, _∙_, subst}
-use mathlib.Core.Bool.{Bool, true, false, _&&_, cond}
+use mathlib.Core.Path.{_≡_, sym, ap, _∙_, subst}
 use mathlib.Core.List.{List, [], _++_, append-nil}
 use mathlib.Core.Logic.{⊎-elim}
 use native.Mathlib.Omega.{arith}
-use lib.Dec.{ltb}
 use lib.ListN.{length, getD, drop}
-use borrow.Author.Tests.{lt-ltb, le-ltb}
+use borrow.Author.Tests.{le-ltb}
 use Rattle.laws.specs.Bools.{less?}
 use Rattle.laws.specs.Folds.{nth-is}
 use Rattle.laws.specs.Tables.{tab, tab-cong, tabs, length-tabs, getD-tabs, tabs-every}
@@ -15,7 +13,7 @@ use Rattle.scale.specs.Scale.{sentinel}
 use Rattle.components.specs.Sheet.{Sheet}
 use Rattle.manifest.specs.World.{stopId}
 use Rattle.assignment_problem.specs.Choice.{cellAt}
-use Rattle.assignment_problem.specs.Recursion.{chosen, leastTotal, columnOf}
+use Rattle.assignment_problem.specs.Recursion.{leastTotal, columnOf}
 use Rattle.assignment_problem.specs.Chosen.{chosen-same, chosen-choice}
 use Rattle.assignment.specs.Pending.{pending, idleCars, pendingStops, columnStop, columns}
 use Rattle.assignment.specs.Cells.{matrix, column, answeredTotal, goes, decision}

@@ -1,13 +1,13 @@
 -- Decisions from a filled matrix. Assumes nothing.
 use Prim.Native.Nat.{ℕ, _+_, _*_, _≤_, _<_}
-use mathlib.Core.Path.{_≡_, refl, sym, ap, _∙_}
-use mathlib.Core.Bool.{Bool, true, false, _&&_, cond}
+use mathlib.Core.Path.{_≡_, ap, _∙_}
+use mathlib.Core.Bool.{false, _&&_, cond}
 use mathlib.Core.List.{List, _++_}
 use native.Mathlib.Omega.{arith}
 use lib.Dec.{ltb}
 use lib.ListN.{length, getD, drop, List·getD-append}
 use borrow.Author.Tests.{le-ltb}
-use Rattle.laws.specs.Folds.{any, none-any}
+use Rattle.laws.specs.Folds.{none-any}
 use Rattle.laws.specs.Tables.{tab, tab-cong}
 use Rattle.scale.specs.Scale.{sentinel}
 use Rattle.assignment_problem.specs.Choice.{cellAt}
@@ -37,6 +37,11 @@ told stops ids m place cell = cond (ltb place m && ltb cell sentinel) (getD ids 
 -- of row r, whose column is placed
 unfoldable pub toldAt : List ℕ → ℕ → List ℕ → ℕ → List ℕ → List ℕ → ℕ → ℕ
 toldAt cells columns places m stops ids r = told stops ids m (getD places r 0) (cellAt cells columns r (getD places r 0))
+
+pub told-next : (cells : List ℕ) (columns : ℕ) (places : List ℕ) (m : ℕ) (stops ids : List ℕ) (r : ℕ) {cell d : ℕ}
+    → cell ≡ cellAt cells columns r (getD places r 0) → d ≡ told stops ids m (getD places r 0) cell → d ≡ toldAt cells columns places m stops ids r
+unfolding toldAt
+told-next cells columns places m stops ids r e d = d ∙ ap (told stops ids m (getD places r 0)) e
 
 -- of row r, whose column is the choice's
 unfoldable pub decisionBy : List ℕ → ℕ → ℕ → ℕ → List ℕ → List ℕ → ℕ → ℕ

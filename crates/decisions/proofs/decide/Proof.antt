@@ -1,8 +1,7 @@
 -- decisions::decide meets its contract.
-use Rattle.decisions.specs.Decisions.{Filled, least-told, placed-below, all-told}
+use Rattle.decisions.specs.Decisions.{least-told, placed-below, all-told}
 use borrow.Author.Needs.{needs}
 use lib.ListN.{length, drop, replicate}
-use mathlib.Core.Path.{_≡_}
 use native.Mathlib.Omega.{arith}
 use Rattle.decisions.proofs.decide.Statement.{statement}
 use Rattle.decisions.proofs.decide.Tie as tie

@@ -1,13 +1,13 @@
 -- decisions::write meets its contract.
 use Prim.Native.Nat.{ℕ, _≤_, _-_}
 use Rattle.alternating_tree.specs.State.{row-in}
-use Rattle.decisions.specs.Decisions.{Filled, toldAt, told}
+use Rattle.decisions.specs.Decisions.{toldAt, told-next}
 use Rattle.laws.specs.Folds.{ended}
 use Rattle.laws.specs.Tables.{tab, tab-next}
 use borrow.Author.Needs.{needs}
-use lib.ListN.{length, getD, drop, length-set}
-use mathlib.Core.List.{List, _++_}
-use mathlib.Core.Path.{_≡_, refl, ap, _∙_}
+use lib.ListN.{length, drop, length-set}
+use mathlib.Core.List.{_++_}
+use mathlib.Core.Path.{_≡_, refl}
 use native.Mathlib.Omega.{arith}
 use Rattle.decisions.proofs.write.Statement.{statement}
 use Rattle.decisions.proofs.write.Tie as tie
@@ -52,7 +52,6 @@ add-r : tie.Need-add-r Inv-loop μ-loop
 add-r c = omega (arith, c .before .before .before .before .before .before .before .before .before .before .pre .0 .few, c .before .before .before .loop-test .taken)
 
 loop-again : tie.Need-loop-again Inv-loop μ-loop
-unfolding toldAt
 loop-again c =
     let l = c .before .before .before .before .loop in
     let a = c .before .before .before .before .before .before .before .before .before .before .args in
@@ -60,7 +59,7 @@ loop-again c =
       omega (arith, c .before .before .before .loop-test .taken),
       simp length-set (l .inv .1),
       tab-next (toldAt (a .cells .now) (a .columns) (a .places .now) (a .m) (a .stops .now) (a .ids .now)) (a .decisions .now) (l .decisions) (l .r) (c .decision .result) (omega (arith, p .few, p .room, c .before .before .before .loop-test .taken)) (l .inv .2)
-          (c .decision .ensures ∙ ap (told (a .stops .now) (a .ids .now) (a .m) (getD (a .places .now) (l .r) 0)) (c .before .cell .ensures)),
+          (told-next (a .cells .now) (a .columns) (a .places .now) (a .m) (a .stops .now) (a .ids .now) (l .r) (c .before .cell .ensures) (c .decision .ensures)),
     )
 
 same-length : tie.Need-same-length Inv-loop μ-loop
