@@ -1,20 +1,26 @@
 -- The stages of a pass put together. Assumes nothing.
 use Prim.Native.Nat.{ℕ, _+_, _*_, _≤_, _<_, max}
 use mathlib.Core.Path.{_≡_, refl, sym, ap, _∙_, subst}
+use mathlib.Core.Bool.{Bool, true, false, _||_}
 use mathlib.Core.List.{List, _++_}
 use native.Mathlib.Omega.{arith}
+use lib.Dec.{ltb}
 use lib.ListN.{length, getD, take, drop, length-take}
 use lib.Ieee.{Float}
 use lib.Seq.{take-at}
+use borrow.Author.Tests.{ltb-false}
+use Rattle.laws.specs.Bools.{neither-left, neither-right}
 use Rattle.laws.specs.Folds.{count}
 use Rattle.laws.specs.Sums.{sum}
 use Rattle.laws.specs.Tables.{tab, tabs, length-tabs}
 use Rattle.components.specs.Sheet.{Sheet}
 use Rattle.layout.specs.declared.Counts.{Counts}
-use Rattle.layout.specs.declared.Reading.the-variants.{Accepted}
+use Rattle.layout.specs.declared.Reading.{Reading}
+use Rattle.layout.specs.declared.Reading.the-variants.{Refused, Accepted}
 use Rattle.layout.specs.Records.{sheetOf, limitOf}
 use Rattle.layout.specs.Verdict.{verdict}
 use Rattle.accepted.specs.Accepted.{accepted}
+use Rattle.manifest.specs.World.{stopId, stopAt}
 use Rattle.manifest.specs.Manifest.{riderlessCall, demandStop}
 use Rattle.manifest.specs.Stops.{HoldsStops}
 use Rattle.assignment_problem.specs.Choice.{cellAt}
@@ -23,15 +29,18 @@ use Rattle.assignment.specs.Pending.{pending, idleCars, rowCar, pendingStops, c
 use Rattle.assignment.specs.Candidates.{kept}
 use Rattle.assignment.specs.Cells.{matrix, answeredTotal}
 use Rattle.assignment.specs.CellLaws.{Small, columns-le, cells-fit}
-use Rattle.pending.specs.Masks.{stopMask}
+use Rattle.pending.specs.Masks.{stopMask, HoldsNames, Boarded}
 use Rattle.rows.specs.KeptLaws.{keptNumber}
 use Rattle.rows.specs.RowLaws.{Listed}
 use Rattle.rows.specs.MatrixLaws.{Rows, FilledRows, listed-count, listed-stop}
-use Rattle.cells.specs.Survey.{Survey}
+use Rattle.cells.specs.Survey.{Survey, holds-stops}
 use Rattle.decisions.specs.Decisions.{Filled, decisionBy}
 use Rattle.decisions.specs.DecisionLaws.{total-same, filled, decisions-same}
-use Rattle.outcome.specs.Outcome.{decisionsOf, cellsOf, rankedMost}
+use Rattle.outcome.specs.Outcome.{decisionsOf, cellsOf, rankedMost, refusal1, outcome, decisionsLeft, cellsLeft, sweepsLeft}
+use Rattle.bench.specs.declared.Answer.{Answer}
+use Rattle.bench.specs.Answers.{answerOf, rankedOf, rankedBound}
 use Rattle.outcome.specs.Bound.{ranked-bound}
+use Rattle.outcome.specs.TwoSheets.{rising-of}
 
 -- the stops with their ids and positions, and the masks of those with a call without a rider, with demand, and pending
 pub record Masks (s : Sheet) (ids : List ℕ) (xs : List Float) (calls demand mask : ℕ) : Type 0 where
@@ -121,3 +130,61 @@ module _ (s : Sheet) (limit : ℕ) (small : Small s) (ids : List ℕ) (xs : List
       unfolding decisionsOf
       decisions-are before after e =
           (rw (car-number, width) at e) ∙ decisions-same s limit (take k exit) prefix m stops ids stop-number listed (h .stops-held .id-of) before
+
+-- ---- the masks of an accepted sheet
+
+-- what an accepted sheet's counts and names give the stages
+pub record Begun (bytes : List ℕ) (c : Counts) (ids : List ℕ) (xs : List Float) : Type 0 where
+  pub stops-held : HoldsStops (sheetOf bytes c) ids xs (c .stops)
+  pub names : HoldsNames (sheetOf bytes c) ids
+  pub boarded : Boarded (sheetOf bytes c)
+  pub few-demands : c .demands ≤ 64
+
+pub begun : (bytes : List ℕ) (c : Counts) → verdict bytes ≡ Accepted c → (ids : List ℕ) (xs : List Float) (r : List ℕ) (q : List Float)
+    → ids ≡ tab (stopId (sheetOf bytes c)) (c .stops) ++ r → xs ≡ tab (stopAt (sheetOf bytes c)) (c .stops) ++ q → Begun bytes c ids xs
+unfolding sheetOf
+begun bytes c e ids xs r q ei ex =
+    let sound = accepted bytes c e .sheet in
+    let held = holds-stops (sheetOf bytes c) ids xs r q ei ex in
+    record {
+      stops-held = held;
+      names = record { held = held .id-of; above-zero = rising-of bytes c e .above-zero };
+      boarded = record { above-zero = λ a l. let (i, b, q) = sound .aboard a l in omega (arith, q, sound .car i b .id) };
+      few-demands = omega (arith, sound .most-demands, sound .most-stops);
+    }
+
+-- ---- refusal 1 in front
+
+-- what a pass with this outcome answers, and leaves in its buffers
+abbrev pub Left : Reading → List ℕ → Answer → List ℕ → List ℕ → List ℕ → List ℕ → List ℕ → List ℕ → Type 0
+Left v bytes r decisions decisions′ cells cells′ sweeps sweeps′ =
+    (r ≡ answerOf v bytes (rankedOf r))
+    × ((rankedOf r ≤ rankedBound v bytes)
+    × ((decisions′ ≡ decisionsLeft v bytes decisions) × ((cells′ ≡ cellsLeft v bytes cells) × (sweeps′ ≡ sweepsLeft v bytes sweeps))))
+
+-- by another name of its outcome
+pub left-as : {v o : Reading} → o ≡ v → (bytes d m w : List ℕ) {r : Answer} {d′ m′ w′ : List ℕ} → Left v bytes r d d′ m m′ w w′ → Left o bytes r d d′ m m′ w w′
+left-as {v} {o} e bytes d m w {r} {d′} {m′} {w′} h = subst (λ (x : Reading). Left x bytes r d d′ m m′ w w′) (sym e) h
+
+pub short : (bytes : List ℕ) (d m w : ℕ) → refusal1 d m w ≡ true → outcome bytes d m w ≡ Refused 1 0
+unfolding outcome
+short bytes d m w e = rw e
+
+pub long : (bytes : List ℕ) (d m w : ℕ) {v : Reading} → refusal1 d m w ≡ false → v ≡ verdict bytes → outcome bytes d m w ≡ v
+unfolding outcome
+long bytes d m w {v} e f = rw e (sym f)
+
+pub record Room (d m w : ℕ) : Type 0 where
+  pub decisions : 32 ≤ d
+  pub cells : 2048 ≤ m
+  pub sweeps : 32 ≤ w
+
+pub room : (d m w : ℕ) → refusal1 d m w ≡ false → Room d m w
+unfolding refusal1
+room d m w e =
+    let rest = neither-right (ltb d 32) (ltb m 2048 || ltb w 32) e in
+    record {
+      decisions = ltb-false d 32 (neither-left (ltb d 32) (ltb m 2048 || ltb w 32) e);
+      cells = ltb-false m 2048 (neither-left (ltb m 2048) (ltb w 32) rest);
+      sweeps = ltb-false w 32 (neither-right (ltb m 2048) (ltb w 32) rest);
+    }

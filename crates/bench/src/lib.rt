@@ -89,3 +89,50 @@ fn send<'a>(
         ranked,
     }
 }
+
+// A pass of an accepted sheet into buffers that are long enough.
+fn run(s: &[u8], c: Counts, decisions: &mut [u32], matrix: &mut [u64], sweeps: &mut [u8]) -> Answer
+    requires { ⌜ (verdict (now s) ≡ Accepted c) × (32 ≤ length (now decisions)) × (2048 ≤ length (now matrix)) × (32 ≤ length (now sweeps)) ⌝ }
+    ensures answer { λ r. ⌜ r ≡ answerOf (Accepted c) (now (s .entry)) (rankedOf r) ⌝ }
+    ensures ranked { λ r. ⌜ rankedOf r ≤ rankedBound (Accepted c) (now (s .entry)) ⌝ }
+    ensures decisions { λ _. ⌜ (length (now (decisions .exit)) ≡ length (now (decisions .entry))) × (now (decisions .exit) ≡ decisionsOf (sheetOf (now (s .entry)) c) (limitOf (now (s .entry))) (now (decisions .entry))) ⌝ }
+    ensures matrix { λ _. ⌜ (length (now (matrix .exit)) ≡ length (now (matrix .entry))) × (now (matrix .exit) ≡ cellsOf (sheetOf (now (s .entry)) c) (limitOf (now (s .entry))) (now (matrix .entry))) ⌝ }
+    ensures sweeps { λ _. ⌜ (length (now (sweeps .exit)) ≡ length (now (sweeps .entry))) × (now (sweeps .exit) ≡ sweepsOf (sheetOf (now (s .entry)) c) (now (sweeps .entry))) ⌝ }
+{
+    let mut ids = [0u32; 64];
+    let mut xs = [0.0f64; 64];
+    cells::fill_stops(s, c, &mut ids, &mut xs);
+    let calls = pending::call_stops(s, c, &ids);
+    let demand = pending::demand_stops(s, c, calls, &ids);
+    let stops = pending::pending_stops(s, c, demand, &ids);
+    sweeps::fill_sweeps(s, c, stops, demand, &xs, sweeps);
+    send(s, c, &ids, &xs, calls, demand, stops, decisions, matrix)
+}
+
+// Whether a buffer is too short: refusal 1.
+fn too_short(decisions: usize, cells: usize, sweeps: usize) -> bool
+    ensures { λ r. ⌜ r ≡ refusal1 decisions cells sweeps ⌝ }
+{
+    (decisions < 32) | ((cells < 2048) | (sweeps < 32))
+}
+
+// A pass. A refusal leaves the buffers as they are; a pass writes the decision of each idle car, the cells row by row, and for each car record
+// 2 × sweep + mode, and leaves what stands past them.
+pub fn pass(s: &[u8], decisions: &mut [u32], matrix: &mut [u64], sweeps: &mut [u8]) -> Answer
+    ensures answer { λ r. ⌜ r ≡ answerOf (outcome (now (s .entry)) (length (now (decisions .entry))) (length (now (matrix .entry))) (length (now (sweeps .entry)))) (now (s .entry)) (rankedOf r) ⌝ }
+    ensures ranked { λ r. ⌜ rankedOf r ≤ rankedBound (outcome (now (s .entry)) (length (now (decisions .entry))) (length (now (matrix .entry))) (length (now (sweeps .entry)))) (now (s .entry)) ⌝ }
+    ensures decisions { λ _. ⌜ now (decisions .exit) ≡ decisionsLeft (outcome (now (s .entry)) (length (now (decisions .entry))) (length (now (matrix .entry))) (length (now (sweeps .entry)))) (now (s .entry)) (now (decisions .entry)) ⌝ }
+    ensures matrix { λ _. ⌜ now (matrix .exit) ≡ cellsLeft (outcome (now (s .entry)) (length (now (decisions .entry))) (length (now (matrix .entry))) (length (now (sweeps .entry)))) (now (s .entry)) (now (matrix .entry)) ⌝ }
+    ensures sweeps { λ _. ⌜ now (sweeps .exit) ≡ sweepsLeft (outcome (now (s .entry)) (length (now (decisions .entry))) (length (now (matrix .entry))) (length (now (sweeps .entry)))) (now (s .entry)) (now (sweeps .entry)) ⌝ }
+{
+    if too_short(decisions.len(), matrix.len(), sweeps.len()) {
+        return Answer::Refused {
+            number: 1,
+            offset: 0,
+        };
+    }
+    match sheet::read(s) {
+        Reading::Refused { number, offset } => Answer::Refused { number, offset },
+        Reading::Accepted(c) => run(s, c, decisions, matrix, sweeps),
+    }
+}
