@@ -8,7 +8,8 @@ ghost use Rattle.layout.specs.Records.{sheetOf, limitOf};
 ghost use Rattle.layout.specs.Verdict.{verdict};
 ghost use Rattle.outcome.specs.Outcome.{refusal1, outcome, decisionsOf, cellsOf, sweepsOf, decisionsLeft, cellsLeft, sweepsLeft};
 ghost use Rattle.bench.specs.Answers.{answerOf, rankedOf, rankedBound};
-ghost use Rattle.bench.specs.Passing.{Masks};
+ghost use Rattle.bench.specs.Passing.{Masks, Left};
+ghost use Rattle.bench.specs.TwoPasses.{Claim};
 use layout::Counts;
 use layout::Reading;
 
@@ -134,5 +135,34 @@ pub fn pass(s: &[u8], decisions: &mut [u32], matrix: &mut [u64], sweeps: &mut [u
     match sheet::read(s) {
         Reading::Refused { number, offset } => Answer::Refused { number, offset },
         Reading::Accepted(c) => run(s, c, decisions, matrix, sweeps),
+    }
+}
+
+// The answers of two passes.
+pub struct Answers {
+    pub first: Answer,
+    pub second: Answer,
+}
+
+// Two passes, each into its own buffers: demand 3.
+pub fn pass_two<'a>(
+    first: &'a [u8],
+    decisions: &mut [u32],
+    matrix: &mut [u64],
+    sweeps: &mut [u8],
+    second: &'a [u8],
+    decisions2: &mut [u32],
+    matrix2: &mut [u64],
+    sweeps2: &mut [u8],
+) -> Answers
+    ensures first { λ r. ⌜ Left (outcome (now (first .entry)) (length (now (decisions .entry))) (length (now (matrix .entry))) (length (now (sweeps .entry)))) (now (first .entry)) (r .first) (now (decisions .entry)) (now (decisions .exit)) (now (matrix .entry)) (now (matrix .exit)) (now (sweeps .entry)) (now (sweeps .exit)) ⌝ }
+    ensures second { λ r. ⌜ Left (outcome (now (second .entry)) (length (now (decisions2 .entry))) (length (now (matrix2 .entry))) (length (now (sweeps2 .entry)))) (now (second .entry)) (r .second) (now (decisions2 .entry)) (now (decisions2 .exit)) (now (matrix2 .entry)) (now (matrix2 .exit)) (now (sweeps2 .entry)) (now (sweeps2 .exit)) ⌝ }
+    ensures demand3 { λ r. ⌜ Claim (now (first .entry)) (now (second .entry)) (length (now (decisions .entry))) (length (now (matrix .entry))) (length (now (sweeps .entry))) (length (now (decisions2 .entry))) (length (now (matrix2 .entry))) (length (now (sweeps2 .entry))) (now (decisions .exit)) (now (matrix .exit)) (r .first) (now (decisions2 .exit)) (now (matrix2 .exit)) (r .second) ⌝ }
+{
+    let a = pass(first, decisions, matrix, sweeps);
+    let b = pass(second, decisions2, matrix2, sweeps2);
+    Answers {
+        first: a,
+        second: b,
     }
 }
