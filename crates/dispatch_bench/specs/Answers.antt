@@ -1,5 +1,9 @@
 -- What the functions of the C interface answer for each case, and leave in what they are lent. Assumes nothing.
 use Prim.Native.Nat.{ℕ}
+use mathlib.Core.Path.{_≡_, sym, ap, _∙_}
+use mathlib.Core.List.{List}
+use Rattle.bench.specs.declared.Answer.{Answer}
+use Rattle.bench.specs.Answers.{answerOf, rankedOf}
 use Rattle.layout.specs.declared.Reading.{Reading}
 use Rattle.layout.specs.declared.Reading.the-variants.{Refused, Accepted}
 
@@ -12,3 +16,9 @@ readingNumber (Accepted c) = 0
 abbrev pub readingOffset : Reading → ℕ → ℕ
 readingOffset (Refused number offset) before = offset
 readingOffset (Accepted c) before = before
+
+-- ---- law
+
+-- an answer that was matched
+pub told : (v : Reading) (bytes : List ℕ) (r a : Answer) → r ≡ a → r ≡ answerOf v bytes (rankedOf r) → a ≡ answerOf v bytes (rankedOf a)
+told v bytes r a e h = sym e ∙ h ∙ ap (λ (x : Answer). answerOf v bytes (rankedOf x)) e

@@ -4,6 +4,9 @@ ghost use lib.ListN.{length};
 ghost use Rattle.layout.specs.Verdict.{verdict};
 ghost use Rattle.matcher.specs.Promise.{matching, written, numberOf, totalOr};
 ghost use Rattle.dispatch_bench.specs.Answers.{readingNumber, readingOffset};
+ghost use Rattle.bench.specs.Answers.{answerOf, numberOf as answerNumber, carsOr, stopsOr, totalOr as answeredOr, offsetOr, RankedLeft};
+ghost use Rattle.outcome.specs.Outcome.{outcome, decisionsLeft, cellsLeft, sweepsLeft};
+use bench::Answer;
 use layout::Reading;
 use matcher::Matching;
 
@@ -41,5 +44,48 @@ pub extern "C" fn dispatch_bench_choose(
             1
         }
         Matching::None => 0,
+    }
+}
+
+// A pass: 0, with what it answers and writes, and offset keeps its contents; else the refusal's number, with its offset, and nothing else is written.
+#[no_mangle]
+pub extern "C" fn dispatch_bench_pass(
+    sheet: &[u8],
+    decisions: &mut [u32],
+    matrix: &mut [u64],
+    sweeps: &mut [u8],
+    cars: &mut u64,
+    stops: &mut u64,
+    total: &mut u64,
+    ranked: &mut u64,
+    offset: &mut u64,
+) -> u32
+    ensures number { λ r. ⌜ r ≡ answerNumber (answerOf (outcome (now (sheet .entry)) (length (now (decisions .entry))) (length (now (matrix .entry))) (length (now (sweeps .entry)))) (now (sheet .entry)) 0) ⌝ }
+    ensures decisions { λ _. ⌜ now (decisions .exit) ≡ decisionsLeft (outcome (now (sheet .entry)) (length (now (decisions .entry))) (length (now (matrix .entry))) (length (now (sweeps .entry)))) (now (sheet .entry)) (now (decisions .entry)) ⌝ }
+    ensures matrix { λ _. ⌜ now (matrix .exit) ≡ cellsLeft (outcome (now (sheet .entry)) (length (now (decisions .entry))) (length (now (matrix .entry))) (length (now (sweeps .entry)))) (now (sheet .entry)) (now (matrix .entry)) ⌝ }
+    ensures sweeps { λ _. ⌜ now (sweeps .exit) ≡ sweepsLeft (outcome (now (sheet .entry)) (length (now (decisions .entry))) (length (now (matrix .entry))) (length (now (sweeps .entry)))) (now (sheet .entry)) (now (sweeps .entry)) ⌝ }
+    ensures cars { λ _. ⌜ now (cars .exit) ≡ carsOr (answerOf (outcome (now (sheet .entry)) (length (now (decisions .entry))) (length (now (matrix .entry))) (length (now (sweeps .entry)))) (now (sheet .entry)) 0) (now (cars .entry)) ⌝ }
+    ensures stops { λ _. ⌜ now (stops .exit) ≡ stopsOr (answerOf (outcome (now (sheet .entry)) (length (now (decisions .entry))) (length (now (matrix .entry))) (length (now (sweeps .entry)))) (now (sheet .entry)) 0) (now (stops .entry)) ⌝ }
+    ensures total { λ _. ⌜ now (total .exit) ≡ answeredOr (answerOf (outcome (now (sheet .entry)) (length (now (decisions .entry))) (length (now (matrix .entry))) (length (now (sweeps .entry)))) (now (sheet .entry)) 0) (now (total .entry)) ⌝ }
+    ensures ranked { λ _. ⌜ RankedLeft (outcome (now (sheet .entry)) (length (now (decisions .entry))) (length (now (matrix .entry))) (length (now (sweeps .entry)))) (now (sheet .entry)) (now (ranked .entry)) (now (ranked .exit)) ⌝ }
+    ensures offset { λ _. ⌜ now (offset .exit) ≡ offsetOr (answerOf (outcome (now (sheet .entry)) (length (now (decisions .entry))) (length (now (matrix .entry))) (length (now (sweeps .entry)))) (now (sheet .entry)) 0) (now (offset .entry)) ⌝ }
+{
+    match bench::pass(sheet, decisions, matrix, sweeps) {
+        Answer::Passed {
+            cars: n,
+            stops: m,
+            total: t,
+            ranked: k,
+        } => {
+            *cars = n;
+            *stops = m;
+            *total = t;
+            *ranked = k;
+            0
+        }
+        Answer::Refused { number, offset: at } => {
+            *offset = at;
+            number
+        }
     }
 }
