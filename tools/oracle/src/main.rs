@@ -9,6 +9,7 @@ mod compare;
 mod lists;
 mod paper;
 mod rust_pass;
+mod timing;
 
 use std::io::{Read, Write};
 use std::process::ExitCode;
@@ -24,6 +25,7 @@ oracle papers SEED COUNT [PROFILE]
                                the papers' definitions against the Rust, with no library
 oracle selftest [COUNT [FAULT]]
                                benches that are wrong on purpose must be found out
+oracle time LIBRARY [ROUNDS]   from bytes to decisions, the bench beside the Rust, in microseconds a sheet
 oracle limits SEED COUNT       a higher limit never raises the total, by the Rust
 oracle survey SEED COUNT       what the sheets of each profile are like
 oracle list refusals|passes|ranks SEED FILE
@@ -80,6 +82,11 @@ fn run(args: &[&str]) -> Result<(), String> {
         }
         ["program", path, seed, count] => {
             return clean(compare::program(path, number(seed)?, number(count)?));
+        }
+        ["time", library, rest @ ..] if rest.len() < 2 => {
+            let rounds = rest.first().map_or(Ok(9), |word| number(word))?;
+            timing::table(&mut bench::Linked::load(library)?, rounds.max(1) as usize);
+            return Ok(());
         }
         ["limits", seed, count] => return clean(compare::limits(number(seed)?, number(count)?)),
         ["survey", seed, count] => {

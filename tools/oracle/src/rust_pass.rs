@@ -3,6 +3,7 @@
 
 use std::collections::{HashMap, HashSet};
 use std::sync::atomic::{AtomicU64, Ordering};
+use std::time::{Duration, Instant};
 
 use sheetgen::Sheet;
 use sheetgen::sheet::{ETD, NO_LIMIT, RSR, SCAN, mask_bit};
@@ -429,9 +430,8 @@ impl Rust {
         }
     }
 
-    /// The pass over an accepted sheet.
-    pub fn pass(&mut self, sheet: &Sheet, with_ranks: bool) -> RustPass {
-        let mut built = build(sheet, &self.traffic);
+    /// The sheet's strategy, with its weights, its limit and, of SCAN, the sweeps of its cars.
+    fn strategy(&mut self, sheet: &Sheet, cars: &[EntityId]) -> Limited {
         let p = &sheet.policy;
         let inner: Box<dyn DispatchStrategy> = match p.strategy {
             ETD => {
@@ -455,18 +455,47 @@ impl Rust {
             }
             _ => {
                 let mut scan = ScanDispatch::new();
-                for (c, entity) in sheet.cars.iter().zip(&built.cars) {
+                for (c, entity) in sheet.cars.iter().zip(cars) {
                     self.probe.set(&mut scan, *entity, c.sweep_down, c.lenient);
                 }
                 Box::new(scan)
             }
         };
         let limit = (p.limit != NO_LIMIT).then_some(usize::from(p.limit));
-        let mut strategy = Limited {
+        Limited {
             inner,
             limit,
             ranked: AtomicU64::new(0),
-        };
+        }
+    }
+
+    /// How long it takes from bytes to decisions: reading and building the Rust's world, and the group pass alone.
+    pub fn timed(&mut self, bytes: &[u8]) -> (Duration, Duration) {
+        let began = Instant::now();
+        assert!(sheetgen::reader::read(bytes).is_none());
+        let sheet = Sheet::of_accepted(bytes);
+        let mut built = build(&sheet, &self.traffic);
+        let mut strategy = self.strategy(&sheet, &built.cars);
+        let ready = Instant::now();
+        strategy.pre_dispatch(&built.group, &built.manifest, &mut built.world);
+        self.scratch.clear_all();
+        let result = assign_with_scratch(
+            &mut strategy,
+            &built.idle,
+            &built.group,
+            &built.manifest,
+            &built.world,
+            &mut self.scratch,
+        );
+        std::hint::black_box(&result);
+        (ready - began, ready.elapsed())
+    }
+
+    /// The pass over an accepted sheet.
+    pub fn pass(&mut self, sheet: &Sheet, with_ranks: bool) -> RustPass {
+        let mut built = build(sheet, &self.traffic);
+        let p = &sheet.policy;
+        let mut strategy = self.strategy(sheet, &built.cars);
         strategy.pre_dispatch(&built.group, &built.manifest, &mut built.world);
         self.scratch.clear_all();
         let result = assign_with_scratch(

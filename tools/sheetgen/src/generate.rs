@@ -70,6 +70,33 @@ pub fn generate(profile: Profile, seed: u64, index: u64) -> Vec<u8> {
     }
 }
 
+/// A valid sheet of a strategy with so many stops, cars and riders, on one line for every eight cars.
+pub fn sized(
+    strategy: u8,
+    stops: usize,
+    cars: usize,
+    riders: usize,
+    seed: u64,
+    index: u64,
+) -> Sheet {
+    let rng = &mut Rng::new(seed, 1000 + u64::from(strategy), index);
+    let size = Size {
+        stops,
+        lines: cars.div_ceil(8),
+        cars,
+        aboard: riders / 2,
+        waiting: riders - riders / 2,
+        demands: stops / 4,
+    };
+    let profile = Profile::Valid;
+    loop {
+        let sheet = Maker { rng, profile }.sheet(&size);
+        if sheet.policy.strategy == strategy {
+            return sheet;
+        }
+    }
+}
+
 /// A sheet of one of the accepted profiles.
 pub fn accepted(profile: Profile, rng: &mut Rng) -> Sheet {
     let size = if profile == Profile::Full {

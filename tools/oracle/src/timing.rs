@@ -1,0 +1,87 @@
+//! From bytes to decisions: the bench beside the Rust, on the same sheets in one process.
+
+use crate::bench::{Bench, Lent};
+use crate::rust_pass::Rust;
+use std::time::{Duration, Instant};
+
+/// Name, stops, cars and riders.
+const SIZES: [(&str, usize, usize, usize); 3] = [
+    ("small", 4, 2, 6),
+    ("typical", 12, 4, 40),
+    ("full", 64, 32, 1024),
+];
+
+const STRATEGIES: [(&str, u8); 3] = [("ETD", 0), ("RSR", 1), ("SCAN", 2)];
+
+/// The least time of a few rounds over the same sheets: what other programs take of the machine only adds.
+fn least(rounds: usize, mut round: impl FnMut() -> Duration) -> Duration {
+    (0..rounds).map(|_| round()).min().unwrap()
+}
+
+fn micros(time: Duration, sheets: usize) -> f64 {
+    time.as_secs_f64() * 1e6 / sheets as f64
+}
+
+const PAINTED: usize = 512 * 1024;
+
+/// Fills the stack below its caller, and says where.
+#[inline(never)]
+fn paint() -> usize {
+    let mut area = [0xa5u8; PAINTED];
+    std::hint::black_box(&mut area).as_ptr() as usize
+}
+
+/// How much of the painted stack a call has overwritten.
+fn stack_of(mut call: impl FnMut()) -> usize {
+    let low = paint();
+    call();
+    let kept = (low..low + PAINTED)
+        .take_while(|&at| unsafe { std::ptr::read_volatile(at as *const u8) } == 0xa5)
+        .count();
+    PAINTED - kept
+}
+
+/// A line for each size and strategy.
+pub fn table(bench: &mut dyn Bench, rounds: usize) {
+    let mut rust = Rust::new();
+    let mut lent = Lent::new(32, 2048, 32);
+    let full = sheetgen::generate::sized(0, 64, 32, 1024, 7, 0).write();
+    let stack = stack_of(|| assert_eq!(bench.pass(&full, &mut lent), 0));
+    println!("stack of a pass over a full sheet: {stack} bytes");
+    println!("sheets       bench us   Rust pass us   Rust all us   bench / pass   bench / all");
+    for (size, stops, cars, riders) in SIZES {
+        for (name, strategy) in STRATEGIES {
+            let count = if size == "full" { 40 } else { 400 };
+            let sheets: Vec<Vec<u8>> = (0..count)
+                .map(|i| sheetgen::generate::sized(strategy, stops, cars, riders, 7, i).write())
+                .collect();
+            let ours = least(rounds, || {
+                let began = Instant::now();
+                for sheet in &sheets {
+                    assert_eq!(bench.pass(sheet, &mut lent), 0);
+                }
+                began.elapsed()
+            });
+            let (mut pass, mut all) = (Duration::MAX, Duration::MAX);
+            for _ in 0..rounds {
+                let (mut built, mut passed) = (Duration::ZERO, Duration::ZERO);
+                for sheet in &sheets {
+                    let (b, p) = rust.timed(sheet);
+                    built += b;
+                    passed += p;
+                }
+                pass = pass.min(passed);
+                all = all.min(built + passed);
+            }
+            let n = sheets.len();
+            println!(
+                "{size:<8}{name:<5}{:8.2}{:15.2}{:14.2}{:15.2}{:14.2}",
+                micros(ours, n),
+                micros(pass, n),
+                micros(all, n),
+                ours.as_secs_f64() / pass.as_secs_f64(),
+                ours.as_secs_f64() / all.as_secs_f64()
+            );
+        }
+    }
+}
