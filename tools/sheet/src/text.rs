@@ -3,7 +3,7 @@
 use sheetgen::bits::Writer;
 use sheetgen::sheet::{BODY_BITS, EDITION};
 
-use crate::fields::{self, Absence, Field, Form, KINDS, STRATEGIES};
+use crate::fields::{self, Field, KINDS};
 use crate::value::{self, Stops};
 
 /// A line that says no record: its number, from 1, and what is wrong with it.
@@ -56,6 +56,14 @@ impl<'t> Line<'t> {
             line: self.number,
             what,
         }
+    }
+
+    fn lacks(&self, field: &Field) -> Fault {
+        let expected = value::expected(field);
+        self.fault(format!(
+            "{}: expected {expected}, but the line has none",
+            field.name
+        ))
     }
 
     /// No field but these.
@@ -249,46 +257,24 @@ fn named_record(writer: &mut Writer, line: &Line, kind: usize, stops: &Stops) ->
         let text = match line.get(field.name) {
             Some(text) => text,
             None if field.can_be_none() => "none",
-            None => {
-                let expected = value::expected(field);
-                let what = format!("{}: expected {expected}, but the line has none", field.name);
-                return Err(line.fault(what));
-            }
+            None => return Err(line.lacks(field)),
         };
-        let fault = |expected| {
-            line.fault(format!(
-                "{}: expected {expected}, found \"{text}\"",
-                field.name
-            ))
-        };
-        value::put(
-            writer,
-            field,
-            value::parse(field, text, stops).map_err(fault)?,
-        );
+        let value = value::parse(field, text, stops);
+        let value = value.map_err(|what| line.fault(format!("{}: {what}", field.name)))?;
+        value::put(writer, field, value);
     }
     Ok(())
 }
 
-/// The strategy, by which the weights have their names. Where it is missing or not readable any will do:
-/// it is the first field, so its fault is found first.
+/// The strategy, by which the weights have their names.
 fn strategy(line: &Line) -> Result<u64, Fault> {
-    let text = line.get("strategy").unwrap_or("none");
-    let form = Form::Code(STRATEGIES, 2);
-    let field = Field {
-        name: "strategy",
-        at: 0,
-        form,
-        absence: Absence::Never,
+    let field = &fields::policy_fields(0)[0];
+    let Some(text) = line.get(field.name) else {
+        return Err(line.lacks(field));
     };
-    match value::parse(&field, text, &Stops(Vec::new())) {
+    match value::parse(field, text, &Stops(Vec::new())) {
         Ok(value) => Ok(value.bits),
-        Err(expected) if text == "none" => Err(line.fault(format!(
-            "strategy: expected {expected}, but the line has none"
-        ))),
-        Err(expected) => {
-            Err(line.fault(format!("strategy: expected {expected}, found \"{text}\"")))
-        }
+        Err(what) => Err(line.fault(format!("{}: {what}", field.name))),
     }
 }
 
@@ -319,9 +305,7 @@ fn raw_bits(writer: &mut Writer, line: &Line, length: usize) -> Result<(), Fault
         let width = 4.min(length - 4 * k);
         let spare = 4 - width;
         if digit & ((1 << spare) - 1) != 0 {
-            return Err(wrong(format!(
-                "zeros in the last {spare} bits of the last digit"
-            )));
+            return Err(wrong(format!("zeros after bit {length} in the last digit")));
         }
         writer.put(width, u64::from(digit >> spare));
     }

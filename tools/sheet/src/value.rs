@@ -128,24 +128,25 @@ fn show_mask(mask: u64, stops: &Stops) -> String {
 
 /// The value that a text says, or what was expected instead.
 pub fn parse(field: &Field, text: &str, stops: &Stops) -> Result<Value, String> {
+    let wrong = |why: String| format!("expected {}, found \"{text}\"{why}", expected(field));
     let Some(after) = text.strip_prefix("none") else {
-        let bits = parse_bits(field, text, stops)?;
+        let bits = parse_bits(field.form, text, stops).map_err(wrong)?;
         return Ok(Value {
             present: true,
             bits,
         });
     };
     let optional = field.absence == Absence::PresentBit;
-    match (after.strip_prefix(':'), field.absence) {
-        (Some(hidden), Absence::PresentBit) => {
-            let bits = parse_bits(field, hidden, stops)?;
+    match after.strip_prefix(':') {
+        Some(hidden) if optional => {
+            let bits = parse_bits(field.form, hidden, stops).map_err(wrong)?;
             Ok(Value {
                 present: false,
                 bits,
             })
         }
-        (None, _) if after.is_empty() && field.can_be_none() => Ok(none(field, !optional)),
-        _ => Err(expected(field)),
+        None if after.is_empty() && field.can_be_none() => Ok(none(field, !optional)),
+        _ => Err(wrong(String::new())),
     }
 }
 
@@ -159,8 +160,9 @@ fn none(field: &Field, present: bool) -> Value {
     Value { present, bits }
 }
 
-fn parse_bits(field: &Field, text: &str, stops: &Stops) -> Result<u64, String> {
-    let found = match field.form {
+/// The bits that a text says; otherwise why it says none, where that needs a word.
+fn parse_bits(form: Form, text: &str, stops: &Stops) -> Result<u64, String> {
+    let found = match form {
         Form::Number(width) => whole(text, width),
         Form::Id(_) => whole(text, 32),
         Form::Limit => whole(text, 16),
@@ -168,12 +170,10 @@ fn parse_bits(field: &Field, text: &str, stops: &Stops) -> Result<u64, String> {
             Some(code) => Some(code as u64),
             None => whole(text, width),
         },
-        Form::Double(_) => double(text),
-        Form::Mask => {
-            return mask(text, stops).map_err(|why| format!("{}; {why}", expected(field)));
-        }
+        Form::Double(_) => return double(text),
+        Form::Mask => return mask(text, stops).map_err(|why| format!(": {why}")),
     };
-    found.ok_or_else(|| expected(field))
+    found.ok_or_else(String::new)
 }
 
 /// A whole number that fits so many bits.
@@ -196,20 +196,22 @@ fn sixteen(text: &str) -> Option<u64> {
     }
 }
 
-fn double(text: &str) -> Option<u64> {
+fn double(text: &str) -> Result<u64, String> {
     match text {
-        "inf" => return Some(f64::INFINITY.to_bits()),
-        "-inf" => return Some(f64::NEG_INFINITY.to_bits()),
+        "inf" => return Ok(f64::INFINITY.to_bits()),
+        "-inf" => return Ok(f64::NEG_INFINITY.to_bits()),
         _ => {}
     }
     if text.starts_with("0x") {
-        return sixteen(text);
+        return sixteen(text).ok_or_else(String::new);
     }
-    let decimal = text
-        .bytes()
-        .all(|b| b.is_ascii_digit() || b"+-.eE".contains(&b));
-    let value: f64 = text.parse().ok().filter(|_| decimal)?;
-    value.is_finite().then_some(value.to_bits())
+    let decimal = |b: u8| b.is_ascii_digit() || b"+-.eE".contains(&b);
+    let value: Option<f64> = text.parse().ok();
+    match value.filter(|_| text.bytes().all(decimal)) {
+        None => Err(String::new()),
+        Some(value) if value.is_finite() => Ok(value.to_bits()),
+        Some(_) => Err(": no double is so large".into()),
+    }
 }
 
 fn mask(text: &str, stops: &Stops) -> Result<u64, String> {
