@@ -99,15 +99,24 @@ fn write(from: &Path, to: Option<&Path>) -> Result<(), Stop> {
     }
 }
 
-/// Writes a file beside `path` and puts it in its place, so that there is never half a sheet.
+/// Puts a whole file in the place of `path`, so that there is never half a sheet. What is no plain file
+/// (a link, a device, a pipe) stays what it is and is written to.
 fn replace(path: &Path, bytes: &[u8]) -> Result<(), Stop> {
-    let mut name = path.file_name().ok_or(Stop::Usage)?.to_os_string();
+    let fault = |error: std::io::Error| failed(format!("{}: {error}", path.display()));
+    let is_plain = match std::fs::symlink_metadata(path) {
+        Ok(found) => found.is_file(),
+        Err(error) => error.kind() == ErrorKind::NotFound,
+    };
+    let (true, Some(name)) = (is_plain, path.file_name()) else {
+        return std::fs::write(path, bytes).map_err(fault);
+    };
+    let mut name = name.to_os_string();
     name.push(format!(".{}.part", std::process::id()));
     let part = path.with_file_name(name);
     let done = std::fs::write(&part, bytes).and_then(|()| std::fs::rename(&part, path));
     done.map_err(|error| {
         let _ = std::fs::remove_file(&part);
-        failed(format!("{}: {error}", path.display()))
+        fault(error)
     })
 }
 

@@ -91,3 +91,36 @@ fn written_file_is_the_sheet() {
     assert_eq!(std::fs::read_dir(&folder).unwrap().count(), 1);
     std::fs::remove_dir_all(&folder).unwrap();
 }
+
+/// A link and a pipe stay what they are; a folder is an error.
+#[cfg(unix)]
+#[test]
+fn what_is_no_plain_file_is_kept() {
+    let folder = std::env::temp_dir().join(format!("sheet-link-{}", std::process::id()));
+    std::fs::create_dir_all(&folder).unwrap();
+    let (link, target, pipe) = (
+        folder.join("link"),
+        folder.join("target"),
+        folder.join("pipe"),
+    );
+    std::fs::write(&target, "as before").unwrap();
+    std::os::unix::fs::symlink(&target, &link).unwrap();
+    let made = std::process::Command::new("mkfifo").arg(&pipe).status();
+    assert!(made.unwrap().success());
+    let example = here("examples/document_01.txt");
+    let write = |out: &std::path::Path| {
+        let args = ["write", example.to_str().unwrap(), out.to_str().unwrap()];
+        run(&args, b"").status.code()
+    };
+    let sheet = sheetgen::Sheet::example().write();
+    assert_eq!(write(&link), Some(0));
+    assert!(std::fs::symlink_metadata(&link).unwrap().is_symlink());
+    assert_eq!(std::fs::read(&target).unwrap(), sheet);
+    let end = pipe.clone();
+    let reader = std::thread::spawn(move || std::fs::read(end).unwrap());
+    assert_eq!(write(&pipe), Some(0));
+    assert_eq!(reader.join().unwrap(), sheet);
+    assert_eq!(write(&folder), Some(1));
+    assert_eq!(std::fs::read_dir(&folder).unwrap().count(), 3);
+    std::fs::remove_dir_all(&folder).unwrap();
+}
