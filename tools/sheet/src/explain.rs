@@ -8,18 +8,28 @@ use crate::fields::KINDS;
 use crate::rules;
 use crate::show;
 
+/// A refusal in words.
+pub struct Reason {
+    /// Which record, which field, what it holds and what it must hold.
+    pub sentence: String,
+    /// The refused record, where it can be cut.
+    pub record: Option<Record>,
+    /// The field's name, where one is at fault.
+    pub field: Option<&'static str>,
+}
+
 /// The lines of `sheet explain`.
 pub fn explain(bytes: &[u8], verdict: Verdict) -> String {
     let cut = Cut::new(bytes);
     match verdict {
         Verdict::Accepted => format!("accepted\n{}\n", show::counts(&cut)),
         Verdict::Refused { number, offset } => {
-            let (sentence, record) = refusal(&cut, number, offset);
-            let mut lines = format!("refused {number} at {offset}\n{sentence}\n");
+            let reason = reason(&cut, number, offset);
+            let mut lines = format!("refused {number} at {offset}\n{}\n", reason.sentence);
             if let Some(rule) = rules::rule(number) {
                 lines += &format!("rule {number}: {}\nto do: {}\n", rule.says, rule.remedy);
             }
-            if let Some(record) = record {
+            if let Some(record) = reason.record {
                 lines += &format!("text: {}\n", show::record_line(&cut, &record, &cut.stops()));
             }
             lines
@@ -27,28 +37,34 @@ pub fn explain(bytes: &[u8], verdict: Verdict) -> String {
     }
 }
 
-/// The sentence of a refusal, and the record that it is about, where it can be cut.
-fn refusal(cut: &Cut, number: u32, offset: u64) -> (String, Option<Record>) {
+/// Why a sheet was refused by this number at this bit.
+pub fn reason(cut: &Cut, number: u32, offset: u64) -> Reason {
     let at = usize::try_from(offset).unwrap_or(usize::MAX);
+    let whole = |sentence: String, field: Option<&'static str>| Reason {
+        sentence,
+        record: None,
+        field,
+    };
     match number {
-        2 => return (passes_the_end(cut, at), None),
-        3 => return (edition(cut), None),
-        16 => return (tail(cut, at), None),
+        2 => return whole(passes_the_end(cut, at), None),
+        3 => return whole(edition(cut), Some("edition")),
+        16 => return whole(tail(cut, at), None),
         6 if cut.head.is_some_and(|head| head.count == 0) => {
-            return (
-                "Head (bit 0): records is 0, but the policy must be there.".into(),
-                None,
-            );
+            let sentence = "Head (bit 0): records is 0, but the policy must be there.";
+            return whole(sentence.into(), Some("records"));
         }
         _ => {}
     }
     let Some(record) = cut.records.iter().find(|record| record.at == at) else {
-        return (format!("The refusal is at bit {at}."), None);
+        return whole(format!("The refusal is at bit {at}."), None);
     };
     let place = place(cut, record);
-    match faults::find(cut, record, number) {
-        Some(fault) => (format!("{place}: {fault}."), Some(*record)),
-        None => (format!("{place}: see the rule."), Some(*record)),
+    let fault = faults::find(cut, record, number);
+    let says = fault.as_ref().map_or("see the rule", |fault| &fault.says);
+    Reason {
+        sentence: format!("{place}: {says}."),
+        record: Some(*record),
+        field: fault.as_ref().map(|fault| fault.field),
     }
 }
 

@@ -8,35 +8,45 @@ use crate::fields::{Absence, Field, Form, KINDS, Names, PHASES, Range};
 use crate::show::number_of;
 use crate::value::{self, Value};
 
-/// The field, what it holds and what it must hold, without a full stop.
-pub fn find(cut: &Cut, record: &Record, number: u32) -> Option<String> {
+/// What a refusal is about.
+pub struct Fault {
+    /// The field's name; kind and length stand in front of the body.
+    pub field: &'static str,
+    /// What it holds and what it must hold, without a full stop.
+    pub says: String,
+}
+
+pub fn find(cut: &Cut, record: &Record, number: u32) -> Option<Fault> {
+    let of = |field: &'static str, says: String| Fault { field, says };
     let by_field = |test: &dyn Fn(&Field, Value) -> Option<String>| {
-        let fields = cut.fields(record).iter();
-        fields
-            .map(|field| (field, cut.value(record, field)))
-            .find_map(|(f, v)| test(f, v))
+        let mut fields = cut.fields(record).iter();
+        fields.find_map(|f| test(f, cut.value(record, f)).map(|says| of(f.name, says)))
     };
+    let kinds = || format!("kind is {}, but kinds are 1 to 7", record.kind);
+    let limit = || "limit is 0, but it must be 1 or more".to_string();
     match number {
-        4 => Some(format!("kind is {}, but kinds are 1 to 7", record.kind)),
-        5 => length(record),
-        6 => order(cut, record),
-        7 => too_many(record),
+        4 => Some(of("kind", kinds())),
+        5 => length(record).map(|says| of("length", says)),
+        6 => order(cut, record).map(|says| of("kind", says)),
+        7 => too_many(record).map(|says| of("kind", says)),
         8 => by_field(&|field, held| unused(cut, record, field, held)),
         9 => by_field(&|field, held| zero(cut, record, field, held))
             .or_else(|| repeated(cut, record)),
         10 => by_field(&|field, held| missing(cut, record, field, held)),
         11 => by_field(&outside),
-        12 => Some("limit is 0, but it must be 1 or more".into()),
-        13 => ticks(cut, record),
-        14 => {
-            let wait = cut.named(record, "wait_ticks")?;
-            Some(format!(
-                "wait_ticks is {wait}, but the most is 9007199254740992"
-            ))
-        }
-        15 => load_weight(cut, record),
+        12 => Some(of("limit", limit())),
+        13 => ticks(cut, record).map(|says| of("transition_ticks", says)),
+        14 => wait(cut, record).map(|says| of("wait_ticks", says)),
+        15 => load_weight(cut, record).map(|says| of("load", says)),
         _ => None,
     }
+}
+
+fn wait(cut: &Cut, record: &Record) -> Option<String> {
+    let wait = cut.named(record, "wait_ticks")?;
+    Some(format!(
+        "wait_ticks is {wait}, but the most is 9007199254740992"
+    ))
 }
 
 fn length(record: &Record) -> Option<String> {
@@ -114,24 +124,22 @@ fn zero(cut: &Cut, record: &Record, field: &Field, held: Value) -> Option<String
 }
 
 /// 9: an id that an earlier record has, or a stop's that does not rise.
-fn repeated(cut: &Cut, record: &Record) -> Option<String> {
-    let name = if record.kind == 7 { "stop" } else { "id" };
-    let id = cut.named(record, name)?;
+fn repeated(cut: &Cut, record: &Record) -> Option<Fault> {
+    let field = if record.kind == 7 { "stop" } else { "id" };
+    let id = cut.named(record, field)?;
     let earlier = || {
         cut.of_kind(record.kind)
             .take_while(|other| other.at < record.at)
     };
-    if record.kind == 2 {
+    let says = if record.kind == 2 {
         let last = cut.named(earlier().last()?, "id")?;
-        return Some(format!(
-            "id is {id}, but it must be above {last}, the id of the stop before"
-        ));
-    }
-    let nth = 1 + earlier().position(|other| cut.named(other, name) == Some(id))?;
-    Some(format!(
-        "{name} is {id}, but {} record {nth} has it too",
-        KINDS[record.kind]
-    ))
+        format!("id is {id}, but it must be above {last}, the id of the stop before")
+    } else {
+        let nth = 1 + earlier().position(|other| cut.named(other, field) == Some(id))?;
+        let name = KINDS[record.kind];
+        format!("{field} is {id}, but {name} record {nth} has it too")
+    };
+    Some(Fault { field, says })
 }
 
 /// 10: an id without its record, or a mask bit without a stop.
