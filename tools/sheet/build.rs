@@ -10,7 +10,15 @@ fn folder() -> PathBuf {
     }
 }
 
+/// The library has the function dispatch_bench_pass: its name stands among the symbols.
+fn has_pass(library: &Path) -> bool {
+    let name = b"dispatch_bench_pass\0";
+    let bytes = std::fs::read(library).unwrap_or_default();
+    bytes.windows(name.len()).any(|window| window == name)
+}
+
 fn main() {
+    println!("cargo::rustc-check-cfg=cfg(library_has_pass)");
     println!("cargo::rerun-if-env-changed=DISPATCH_BENCH_LIB");
     println!("cargo::rerun-if-changed=build.rs");
     if std::env::var_os("CARGO_FEATURE_PASS").is_none() {
@@ -31,6 +39,9 @@ fn main() {
             "cargo::error=or build what needs no library (write, show, rule) with --no-default-features"
         );
         return;
+    }
+    if has_pass(&library) {
+        println!("cargo::rustc-cfg=library_has_pass");
     }
     println!("cargo::rustc-link-search=native={}", folder.display());
     println!("cargo::rustc-link-lib=static=dispatch_bench");

@@ -83,7 +83,7 @@ impl Form {
 pub const KINDS: [&str; 8] = [
     "", "policy", "stop", "line", "car", "aboard", "waiting", "demand",
 ];
-const STRATEGIES: &[&str] = &["ETD", "RSR", "SCAN"];
+pub const STRATEGIES: &[&str] = &["ETD", "RSR", "SCAN"];
 const TRAFFIC: &[&str] = &["idle", "up_peak", "inter_floor", "down_peak"];
 pub const PHASES: &[&str] = &[
     "idle",

@@ -4,13 +4,15 @@ use std::io::{ErrorKind, IsTerminal, Read, Write};
 use std::path::{Path, PathBuf};
 use std::process::ExitCode;
 
-use sheet::{bench, explain, rules, show, text};
+use sheet::bench::{self, Verdict};
+use sheet::{draw, explain, rules, show, text};
 
 const USAGE: &str = "\
 usage: sheet COMMAND
   write IN.txt [OUT]   turn text into a sheet, in OUT or on standard output
   show SHEET           print a sheet as text that `write` turns into the same bytes
   explain SHEET        say whether the bench accepts a sheet, and if not, what to do
+  draw SHEET [OUT]     draw a sheet and its pass, or where it is refused, as SVG
   rule [NUMBER]        print a refusal's rule, or all of them
   help                 print this
 - stands for standard input. The text is described in docs/MANUAL.md, \"Sheets as text\".
@@ -43,6 +45,8 @@ fn main() -> ExitCode {
         ["write", _, _] => write(&path(1), Some(&path(2))),
         ["show", _] => input(&path(1)).and_then(|bytes| print(show::show(&bytes).as_bytes())),
         ["explain", _] => explain(&path(1)),
+        ["draw", _] => drawing(&path(1)).and_then(|svg| print(svg.as_bytes())),
+        ["draw", _, _] => drawing(&path(1)).and_then(|svg| replace(&path(2), svg.as_bytes())),
         ["rule"] => rules_from(1, rules::RULES.len() as u32),
         ["rule", number] => rule(number),
         _ => Err(Stop::Usage),
@@ -124,6 +128,18 @@ fn explain(path: &Path) -> Result<(), Stop> {
     let bytes = input(path)?;
     let verdict = bench::read(&bytes).map_err(failed)?;
     print(explain::explain(&bytes, verdict).as_bytes())
+}
+
+fn drawing(path: &Path) -> Result<String, Stop> {
+    let bytes = input(path)?;
+    match bench::read(&bytes).map_err(failed)? {
+        Verdict::Refused { number, offset } => Ok(draw::draw_refusal(&bytes, number, offset)),
+        Verdict::Accepted => {
+            let sheet = sheetgen::Sheet::of_accepted(&bytes);
+            let pass = bench::pass(&bytes, sheet.cars.len()).map_err(failed)?;
+            Ok(draw::draw(&sheet, pass.as_ref()))
+        }
+    }
 }
 
 fn rule(number: &str) -> Result<(), Stop> {

@@ -114,37 +114,23 @@ impl<'t> Line<'t> {
 /// The bytes that a text says, or every line that says none.
 pub fn write(text: &[u8]) -> Result<Vec<u8>, Vec<Fault>> {
     let text = utf8(text).map_err(|fault| vec![fault])?;
-    let mut faults = Vec::new();
-    let mut lines = Vec::new();
-    for (index, text) in text.lines().enumerate() {
-        match Line::new(index + 1, text) {
-            None => {}
-            Some(Ok(line)) => lines.push(line),
-            Some(Err(fault)) => faults.push(fault),
-        }
-    }
-    let stops = Stops(
-        lines
-            .iter()
-            .filter(|l| l.word == "stop")
-            .map(stop_id)
-            .collect(),
-    );
-    let records = lines.iter().filter(|l| l.is_record()).count();
+    let (lines, mut faults) = lines(text);
+    let stop_lines = lines.iter().filter(|line| line.word == "stop");
+    let stops = Stops(stop_lines.map(stop_id).collect());
+    let records = lines.iter().filter(|line| line.is_record()).count();
     let mut writer = Writer::default();
-    let mut before = Before::Nothing;
     if lines.first().is_none_or(|line| line.word != "sheet") {
-        default_head(&mut writer, records, &lines).unwrap_or_else(|fault| faults.push(fault));
+        let written = default_head(&mut writer, records, &lines);
+        faults.extend(written.err());
     }
+    let mut before = Before::Nothing;
     for line in &lines {
-        match place(line, before).and_then(|()| encode(&mut writer, line, records, &stops)) {
-            Ok(()) => {}
-            Err(fault) => faults.push(fault),
-        }
-        before = if line.word == "rest" {
-            Before::Rest
-        } else {
-            before.max(Before::Record)
+        let placed = place(line, before);
+        let written = placed.and_then(|()| encode(&mut writer, line, records, &stops));
+        faults.extend(written.err());
+        before = match line.word {
+            "rest" => Before::Rest,
+            _ => before.max(Before::Record),
         };
     }
     faults.sort_by_key(|fault| fault.line);
@@ -153,6 +139,19 @@ pub fn write(text: &[u8]) -> Result<Vec<u8>, Vec<Fault>> {
     } else {
         Err(faults)
     }
+}
+
+/// The lines that say something, and those that cannot be read.
+fn lines(text: &str) -> (Vec<Line<'_>>, Vec<Fault>) {
+    let (mut lines, mut faults) = (Vec::new(), Vec::new());
+    for (index, text) in text.lines().enumerate() {
+        match Line::new(index + 1, text) {
+            None => {}
+            Some(Ok(line)) => lines.push(line),
+            Some(Err(fault)) => faults.push(fault),
+        }
+    }
+    (lines, faults)
 }
 
 fn utf8(text: &[u8]) -> Result<&str, Fault> {
