@@ -133,6 +133,9 @@ fn repeated(cut: &Cut, record: &Record) -> Option<Fault> {
     };
     let says = if record.kind == 2 {
         let last = cut.named(earlier().last()?, "id")?;
+        if id > last {
+            return None;
+        }
         format!("id is {id}, but it must be above {last}, the id of the stop before")
     } else {
         let nth = 1 + earlier().position(|other| cut.named(other, field) == Some(id))?;
@@ -214,4 +217,61 @@ fn load_weight(cut: &Cut, record: &Record) -> Option<String> {
     let is_rsr = cut.named(record, "strategy") == Some(RSR.into());
     let shown = value::show_double(cut.named(record, "load")?);
     is_rsr.then(|| format!("load is {shown}, but under RSR it must be 0"))
+}
+
+#[cfg(test)]
+mod tests {
+    use super::*;
+    use sheetgen::generate::{Profile, generate};
+
+    /// The numbers whose field is searched for.
+    const SEARCHED: std::ops::RangeInclusive<u32> = 8..=11;
+
+    #[test]
+    fn accepted_sheets_have_no_fault() {
+        let profiles = [
+            Profile::Valid,
+            Profile::Full,
+            Profile::Near,
+            Profile::Extreme,
+        ];
+        for profile in profiles {
+            for index in 0..40 {
+                let bytes = generate(profile, 5, index);
+                let cut = Cut::new(&bytes);
+                for record in &cut.records {
+                    for number in SEARCHED {
+                        let fault = find(&cut, record, number).map(|fault| fault.says);
+                        assert_eq!(fault, None, "{profile:?} {index}, {number}");
+                    }
+                }
+            }
+        }
+    }
+
+    /// The library gives the lowest number, so a refused record has no fault of a lower one.
+    #[cfg(feature = "pass")]
+    #[test]
+    fn refused_records_have_no_lower_fault() {
+        use crate::bench::{Verdict, read};
+        let mut searched = 0;
+        for index in 0..4_000 {
+            let bytes = generate(Profile::Provoked, 5, index);
+            let Ok(Verdict::Refused { number, offset }) = read(&bytes) else {
+                continue;
+            };
+            let cut = Cut::new(&bytes);
+            let found = cut.records.iter().find(|r| r.at as u64 == offset);
+            let Some(record) = found.filter(|_| (8..16).contains(&number)) else {
+                continue;
+            };
+            assert!(find(&cut, record, number).is_some(), "{index}");
+            for lower in SEARCHED.filter(|lower| *lower < number) {
+                let fault = find(&cut, record, lower).map(|fault| fault.says);
+                assert_eq!(fault, None, "{index}, {number}, {lower}");
+            }
+            searched += 1;
+        }
+        assert!(searched > 1_000, "{searched}");
+    }
 }

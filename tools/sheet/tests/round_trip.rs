@@ -58,7 +58,7 @@ fn generated_sheets() {
 #[test]
 fn every_bit_of_a_double() {
     let mut rng = Rng::new(7, 0, 0);
-    for k in 0..20_000 {
+    for k in 0..5_000 {
         let bits = match k {
             0..64 => 1 << k,
             64..128 => u64::MAX << (k - 64),
@@ -76,7 +76,7 @@ fn any_text_has_an_answer() {
     let text = std::fs::read(common::here("examples/small_etd.txt")).unwrap();
     let mut rng = Rng::new(7, 1, 0);
     let (mut written, mut refused) = (0, 0);
-    for _ in 0..20_000 {
+    for _ in 0..5_000 {
         let mut text = text.clone();
         for _ in 0..1 + rng.below(3) {
             let at = rng.below(text.len());
@@ -97,5 +97,5 @@ fn any_text_has_an_answer() {
             }
         }
     }
-    assert!(written > 1_000 && refused > 1_000, "{written} {refused}");
+    assert!(written > 300 && refused > 300, "{written} {refused}");
 }
