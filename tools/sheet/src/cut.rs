@@ -1,0 +1,137 @@
+//! A byte string cut into records, as far as that goes. Nothing here says whether a sheet is accepted.
+
+use sheetgen::bits;
+use sheetgen::sheet::{BODY_BITS, HEAD_BITS, RECORD_HEAD_BITS};
+
+use crate::fields::{self, Field};
+use crate::value::{self, Stops, Value};
+
+#[derive(Clone, Copy)]
+pub struct Head {
+    pub edition: u64,
+    pub count: usize,
+}
+
+/// A record whose stated body is there.
+#[derive(Clone, Copy)]
+pub struct Record {
+    /// The bit where it starts.
+    pub at: usize,
+    pub kind: usize,
+    /// The stated length of its body, in bits.
+    pub length: usize,
+}
+
+impl Record {
+    pub fn body(&self) -> usize {
+        self.at + RECORD_HEAD_BITS
+    }
+
+    /// Its kind is known and its length is the kind's, so that it has fields.
+    pub fn has_fields(&self) -> bool {
+        (1..=7).contains(&self.kind) && BODY_BITS[self.kind] == self.length
+    }
+}
+
+pub struct Cut<'a> {
+    pub bytes: &'a [u8],
+    /// `None` where there are fewer than 24 bits.
+    pub head: Option<Head>,
+    pub records: Vec<Record>,
+    /// The bit after the last record that could be cut.
+    pub end: usize,
+}
+
+impl<'a> Cut<'a> {
+    pub fn new(bytes: &'a [u8]) -> Self {
+        let mut cut = Cut {
+            bytes,
+            head: None,
+            records: Vec::new(),
+            end: 0,
+        };
+        if cut.bits() < HEAD_BITS {
+            return cut;
+        }
+        let count = bits::get(bytes, 8, 16) as usize;
+        cut.head = Some(Head {
+            edition: bits::get(bytes, 0, 8),
+            count,
+        });
+        cut.end = HEAD_BITS;
+        for _ in 0..count {
+            let Some(record) = cut.record_at(cut.end) else {
+                break;
+            };
+            cut.records.push(record);
+            cut.end = record.body() + record.length;
+        }
+        cut
+    }
+
+    pub fn bits(&self) -> usize {
+        self.bytes.len() * 8
+    }
+
+    /// Kind and stated length at a bit, where their 22 bits are there.
+    pub fn stated_at(&self, at: usize) -> Option<Record> {
+        if at + RECORD_HEAD_BITS > self.bits() {
+            return None;
+        }
+        let kind = bits::get(self.bytes, at, 6) as usize;
+        let length = bits::get(self.bytes, at + 6, 16) as usize;
+        Some(Record { at, kind, length })
+    }
+
+    fn record_at(&self, at: usize) -> Option<Record> {
+        self.stated_at(at).filter(|stated| self.has_body(stated))
+    }
+
+    /// The stated body is there.
+    fn has_body(&self, record: &Record) -> bool {
+        record.body() + record.length <= self.bits()
+    }
+
+    /// The fields of a record that has them; none where its body passes the end.
+    pub fn fields(&self, record: &Record) -> &'static [Field] {
+        if !record.has_fields() || !self.has_body(record) {
+            return &[];
+        }
+        if record.kind == 1 {
+            fields::policy_fields(bits::get(self.bytes, record.body(), 2))
+        } else {
+            fields::fields(record.kind)
+        }
+    }
+
+    pub fn value(&self, record: &Record, field: &Field) -> Value {
+        value::take(self.bytes, record.body(), field)
+    }
+
+    /// The bits of the field with this name, where the record has it.
+    pub fn named(&self, record: &Record, name: &str) -> Option<u64> {
+        let field = self.fields(record).iter().find(|f| f.name == name)?;
+        Some(self.value(record, field).bits)
+    }
+
+    /// The records of a kind that have its fields.
+    pub fn of_kind(&self, kind: usize) -> impl Iterator<Item = &Record> {
+        self.records
+            .iter()
+            .filter(move |r| r.kind == kind && r.has_fields())
+    }
+
+    pub fn stops(&self) -> Stops {
+        let id = |r: &Record| self.named(r, "id").map(|id| id as u32);
+        Stops(self.of_kind(2).map(id).collect())
+    }
+
+    /// After the last counted record there are 0 to 7 zero bits, and all counted ones could be cut.
+    pub fn is_whole(&self) -> bool {
+        let left = self.bits() - self.end;
+        let all = self
+            .head
+            .is_some_and(|head| head.count == self.records.len());
+        all && left < 8 && bits::get(self.bytes, self.end, left) == 0
+    }
+}

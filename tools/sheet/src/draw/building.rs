@@ -1,0 +1,311 @@
+//! The shafts by line, with stops, cars, riders and decisions.
+
+use sheetgen::sheet::mask_bit;
+use sheetgen::{Car, Line, Sheet};
+
+use super::heights::{self, Heights};
+use super::svg::{Anchor, Svg, short};
+use super::{car_name, cost};
+use crate::bench::Pass;
+use crate::fields::PHASES;
+
+const LABELS: f64 = 306.0;
+const SHAFT: f64 = 80.0;
+const GAP: f64 = 16.0;
+/// The lines of text above a shaft.
+const HEADER: f64 = 96.0;
+const CAR: (f64, f64) = (24.0, 18.0);
+/// The most waiting riders that are drawn one by one.
+const DOTS: usize = 8;
+
+/// By phase; every drawn car also has its phase in words.
+const COLOURS: [&str; 7] = [
+    "#ffffff", "#9ad0f5", "#cfe8fb", "#fbe7a1", "#f6cf57", "#fbe7a1", "#d9d9d9",
+];
+
+struct Building<'a> {
+    sheet: &'a Sheet,
+    pass: Option<&'a Pass>,
+    heights: Heights,
+    left: f64,
+    /// Where height 0 stands.
+    top: f64,
+}
+
+/// Draws at a corner; answers the right and lower edge.
+pub fn draw(svg: &mut Svg, sheet: &Sheet, pass: Option<&Pass>, at: (f64, f64)) -> (f64, f64) {
+    let stops: Vec<f64> = sheet.stops.iter().map(|s| s.position).collect();
+    let cars: Vec<f64> = sheet.cars.iter().map(|c| c.position).collect();
+    let height = (17.0 * stops.len() as f64).max(260.0);
+    let building = Building {
+        sheet,
+        pass,
+        heights: Heights::new(&stops, &cars, height),
+        left: at.0,
+        top: at.1 + HEADER + 30.0,
+    };
+    let right = building.right();
+    building.stops(svg, right);
+    building.shafts(svg);
+    let bottom = building.bottom() + 30.0;
+    (right.max(building.legend(svg, bottom)), bottom + 46.0)
+}
+
+impl Building<'_> {
+    fn y(&self, position: f64) -> f64 {
+        self.top + self.heights.of(position)
+    }
+
+    fn bottom(&self) -> f64 {
+        self.top + self.heights.height + 24.0
+    }
+
+    /// How many shafts a line has: one for each car, or an empty one.
+    fn shafts_of(&self, line: &Line) -> usize {
+        let cars = self.sheet.cars.iter().filter(|car| car.line == line.id);
+        cars.count().max(1)
+    }
+
+    fn right(&self) -> f64 {
+        let shafts: usize = self.sheet.lines.iter().map(|l| self.shafts_of(l)).sum();
+        let gaps = 1 + self.sheet.lines.len();
+        self.left + LABELS + SHAFT * shafts as f64 + GAP * gaps as f64
+    }
+
+    /// The labels of the stops and who waits there.
+    fn stops(&self, svg: &mut Svg, right: f64) {
+        let x = self.left + 116.0;
+        svg.text("small", x, self.top - 30.0, Anchor::End, "stop at position");
+        let mut order: Vec<usize> = (0..self.sheet.stops.len()).collect();
+        order.sort_by(|a, b| {
+            let (a, b) = (&self.sheet.stops[*a], &self.sheet.stops[*b]);
+            b.position.total_cmp(&a.position).then(b.id.cmp(&a.id))
+        });
+        let wanted: Vec<f64> = order
+            .iter()
+            .map(|k| self.heights.of(self.sheet.stops[*k].position))
+            .collect();
+        let placed = heights::spread(&wanted, 14.0, self.heights.height + 10.0);
+        for (k, label) in order.into_iter().zip(placed) {
+            self.stop(svg, k, self.top + label, right);
+        }
+    }
+
+    fn stop(&self, svg: &mut Svg, k: usize, label: f64, right: f64) {
+        let stop = &self.sheet.stops[k];
+        let (end, y) = (self.left + LABELS, self.y(stop.position));
+        let name = format!("{} at {}", stop.id, short(stop.position));
+        svg.text("name", self.left + 116.0, label + 3.5, Anchor::End, &name);
+        svg.line("lead", (end - 14.0, label), (end, y));
+        svg.line("guide", (end, y), (right, y));
+        let demand = self.sheet.demands.iter().find(|d| d.stop == stop.id);
+        if demand.is_some_and(|d| d.call) {
+            svg.circle("call", self.left + 126.0, label, 4.0);
+        }
+        if let Some(demand) = demand.filter(|d| d.riding > 0) {
+            let text = format!("{} riding", demand.riding);
+            svg.text("small", end - 16.0, label + 3.0, Anchor::End, &text);
+        }
+        let waiting = self
+            .sheet
+            .waiting
+            .iter()
+            .filter(|w| w.stop == stop.id)
+            .count();
+        let mut x = self.left + 138.0;
+        for _ in 0..waiting.min(DOTS) {
+            svg.circle("waiting", x, label, 2.6);
+            x += 6.5;
+        }
+        if waiting > DOTS {
+            svg.text(
+                "small",
+                x,
+                label + 3.0,
+                Anchor::Start,
+                &format!("of {waiting}"),
+            );
+        }
+    }
+
+    /// All shafts, line by line.
+    fn shafts(&self, svg: &mut Svg) {
+        let mut x = self.left + LABELS + GAP;
+        for line in &self.sheet.lines {
+            let end = x + SHAFT * self.shafts_of(line) as f64;
+            let y = self.top - HEADER - 20.0;
+            let name = format!("line {}", line.id);
+            svg.text("name", (x + end) / 2.0, y, Anchor::Middle, &name);
+            svg.line("floor", (x + 3.0, y + 5.0), (end - 3.0, y + 5.0));
+            let cars = self.sheet.cars.iter().enumerate();
+            for (k, car) in cars.filter(|(_, car)| car.line == line.id) {
+                self.shaft(svg, line, Some((k, car)), x);
+                x += SHAFT;
+            }
+            if x < end {
+                self.shaft(svg, line, None, x);
+            }
+            x = end + GAP;
+        }
+    }
+
+    fn shaft(&self, svg: &mut Svg, line: &Line, car: Option<(usize, &Car)>, x: f64) {
+        let (middle, top) = (x + SHAFT / 2.0, self.top - 24.0);
+        svg.rect("shaft", middle - 17.0, top, 34.0, self.bottom() - top);
+        for (k, stop) in self.sheet.stops.iter().enumerate() {
+            let (bit, y) = (mask_bit(k), self.y(stop.position));
+            if line.mask & bit != 0 {
+                svg.line("floor", (middle - 17.0, y), (middle + 17.0, y));
+            }
+            let Some((_, car)) = car else { continue };
+            if car.calls & bit != 0 {
+                svg.circle("served", middle - 12.0, y, 3.0);
+            }
+            if car.restricted & bit != 0 {
+                svg.line("barred", (middle - 16.0, y - 3.0), (middle - 9.0, y + 3.0));
+                svg.line("barred", (middle - 16.0, y + 3.0), (middle - 9.0, y - 3.0));
+            }
+        }
+        if let Some((k, car)) = car {
+            self.header(svg, k, car, middle);
+            self.car(svg, car, middle);
+            self.decision(svg, k, car, middle);
+        }
+    }
+
+    /// What a car is and does, in words above its shaft.
+    fn header(&self, svg: &mut Svg, k: usize, car: &Car, middle: f64) {
+        let phase = PHASES.get(usize::from(car.phase)).unwrap_or(&"?");
+        let bound = match car.stop {
+            0 => String::new(),
+            stop => format!("for {stop}"),
+        };
+        let load = format!("{} of {}", short(car.load), short(car.capacity));
+        let mut lines = vec![
+            ("name", car_name(car.id)),
+            ("small", phase.replace('_', " ")),
+            ("small", bound),
+            ("small", load),
+        ];
+        lines.push(("small", self.sweep(k, car)));
+        let decision = match self.decided(k) {
+            Some(0) => ("small", "stays idle".into()),
+            Some(stop) => ("cost", format!("to {stop}")),
+            None if car.idle => ("small", "idle-listed".into()),
+            None => ("small", String::new()),
+        };
+        lines.push(decision);
+        let mut y = self.top - HEADER;
+        for (class, text) in lines {
+            svg.text(class, middle, y, Anchor::Middle, &text);
+            y += 12.0;
+        }
+    }
+
+    /// A car's sweep and mode after the pass, or before it where there is none.
+    fn sweep(&self, k: usize, car: &Car) -> String {
+        let before = 2 * u8::from(car.sweep_down) + u8::from(car.lenient);
+        let code = self.pass.and_then(|pass| pass.sweeps.get(k)).copied();
+        match code.unwrap_or(before) {
+            0 => "up strict",
+            1 => "up lenient",
+            2 => "down strict",
+            _ => "down lenient",
+        }
+        .into()
+    }
+
+    /// The number of an idle-listed car among the idle ones.
+    fn row(&self, k: usize) -> Option<usize> {
+        let idle = self.sheet.cars[..k].iter().filter(|c| c.idle).count();
+        self.sheet.cars[k].idle.then_some(idle)
+    }
+
+    /// The stop that car record `k` is sent to, 0 for idle; `None` where nothing is decided for it.
+    fn decided(&self, k: usize) -> Option<u32> {
+        self.pass?.decisions.get(self.row(k)?).copied()
+    }
+
+    fn car(&self, svg: &mut Svg, car: &Car, middle: f64) {
+        let (w, h) = CAR;
+        let (x, y) = (middle - w / 2.0, self.y(car.position) - h / 2.0);
+        let colour = COLOURS.get(usize::from(car.phase)).unwrap_or(&"#fff");
+        let class = if car.idle { "car listed" } else { "car" };
+        let tip = format!("car {} at {}", car.id, car.position);
+        svg.tile((x, y), CAR, colour, class, &tip);
+        let share = if car.capacity > 0.0 {
+            (car.load / car.capacity).clamp(0.0, 1.0)
+        } else {
+            0.0
+        };
+        svg.rect(
+            "full",
+            x + 1.0,
+            y + h - (h - 2.0) * share - 1.0,
+            w - 2.0,
+            (h - 2.0) * share,
+        );
+        if car.going_up {
+            svg.triangle("lamp", middle + 6.0, y + 8.0, 4.0, true);
+        }
+        if car.going_down {
+            svg.triangle("lamp", middle + 6.0, y + 11.0, 4.0, false);
+        }
+    }
+
+    /// An arrow to the stop that the car is sent to, with the cell as a cost.
+    fn decision(&self, svg: &mut Svg, k: usize, car: &Car, middle: f64) {
+        let stop = match self.decided(k) {
+            None | Some(0) => return,
+            Some(id) => self.sheet.stops.iter().find(|stop| stop.id == id),
+        };
+        let Some(stop) = stop else { return };
+        let (from, to, x) = (self.y(car.position), self.y(stop.position), middle + 22.0);
+        let up = to < from;
+        if (from - to).abs() < 8.0 {
+            svg.circle("arrow", x, to, 4.0);
+        } else {
+            let back = if up { 7.0 } else { -7.0 };
+            svg.line("arrow", (x, from), (x, to + back));
+            svg.triangle("head", x, to + back, 7.0, up);
+        }
+        let cell = self.row(k).and_then(|row| self.pass?.chosen_cell(row));
+        if let Some(cell) = cell {
+            svg.text("cost", x + 8.0, to + 3.5, Anchor::Start, &cost(cell));
+        }
+    }
+
+    fn legend(&self, svg: &mut Svg, y: f64) -> f64 {
+        let x = self.left;
+        let axis = if self.heights.is_to_scale {
+            "Stops and cars at their positions."
+        } else {
+            "Stops in the order of their positions; distances are not to scale."
+        };
+        svg.text("small", x, y, Anchor::Start, axis);
+        svg.circle("waiting", x + 4.0, y + 13.0, 2.6);
+        svg.text(
+            "small",
+            x + 12.0,
+            y + 16.0,
+            Anchor::Start,
+            "a waiting rider",
+        );
+        svg.circle("call", x + 96.0, y + 13.0, 4.0);
+        svg.text(
+            "small",
+            x + 106.0,
+            y + 16.0,
+            Anchor::Start,
+            "a call without a rider",
+        );
+        svg.circle("served", x + 222.0, y + 13.0, 3.0);
+        svg.text("small", x + 230.0, y + 16.0, Anchor::Start, "a car call");
+        svg.line("barred", (x + 288.0, y + 10.0), (x + 295.0, y + 16.0));
+        svg.line("barred", (x + 288.0, y + 16.0), (x + 295.0, y + 10.0));
+        svg.text("small", x + 300.0, y + 16.0, Anchor::Start, "a barred stop");
+        let text = "Bold frame: idle-listed. Grey in a car: its load. Triangles: its lamps. Arrow: the decision, with its cost.";
+        svg.text("small", x, y + 31.0, Anchor::Start, text);
+        x + 560.0
+    }
+}

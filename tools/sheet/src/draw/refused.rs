@@ -1,0 +1,156 @@
+//! A refused sheet: its records as a strip, the refused one marked, its fields one by one.
+
+use sheetgen::sheet::HEAD_BITS;
+
+use crate::cut::{Cut, Record};
+use crate::explain::{self, Reason};
+use crate::fields::KINDS;
+use crate::rules;
+use crate::value;
+
+use super::EDGE;
+use super::svg::{Anchor, Svg};
+
+const WIDTH: f64 = 1000.0;
+/// By kind; 0 is for what has no known kind.
+const COLOURS: [&str; 8] = [
+    "#999999", "#6a3d9a", "#1f78b4", "#33a02c", "#ff7f00", "#b2df8a", "#a6cee3", "#fdbf6f",
+];
+
+pub fn draw(bytes: &[u8], number: u32, offset: u64) -> String {
+    let cut = Cut::new(bytes);
+    let reason = explain::reason(&cut, number, offset);
+    let mut svg = Svg::default();
+    let title = format!("Refused {number} at {offset}");
+    svg.text("title", EDGE, 30.0, Anchor::Start, &title);
+    svg.text("fault", EDGE, 50.0, Anchor::Start, &reason.sentence);
+    if let Some(rule) = rules::rule(number) {
+        svg.text(
+            "",
+            EDGE,
+            66.0,
+            Anchor::Start,
+            &format!("Rule {number}: {}", rule.says),
+        );
+        svg.text(
+            "",
+            EDGE,
+            82.0,
+            Anchor::Start,
+            &format!("To do: {}", rule.remedy),
+        );
+    }
+    strip(&mut svg, &cut, 118.0);
+    mark(&mut svg, &cut, &reason, offset, 118.0);
+    legend(&mut svg, 190.0);
+    let bottom = fields(&mut svg, &cut, &reason, 222.0);
+    svg.finish(WIDTH + 2.0 * EDGE + 120.0, bottom + EDGE)
+}
+
+/// Where a bit stands on the strip.
+fn x(cut: &Cut, bit: usize) -> f64 {
+    EDGE + WIDTH * bit.min(cut.bits()) as f64 / cut.bits().max(1) as f64
+}
+
+fn strip(svg: &mut Svg, cut: &Cut, y: f64) {
+    svg.rect("field", EDGE, y, WIDTH, 26.0);
+    for record in &cut.records {
+        let (from, to) = (x(cut, record.at), x(cut, record.body() + record.length));
+        let colour = COLOURS.get(record.kind).unwrap_or(&COLOURS[0]);
+        let name = KINDS.get(record.kind).unwrap_or(&"");
+        let tip = format!("{name} at bit {}", record.at);
+        let class = if to - from > 3.0 { "cell" } else { "" };
+        svg.tile((from, y), (to - from, 26.0), colour, class, &tip);
+    }
+    svg.text("small", EDGE, y - 5.0, Anchor::Start, "bit 0");
+    let end = format!("bit {}", cut.bits());
+    svg.text("small", EDGE + WIDTH, y - 5.0, Anchor::End, &end);
+}
+
+/// The place of the refusal on the strip.
+fn mark(svg: &mut Svg, cut: &Cut, reason: &Reason, offset: u64, y: f64) {
+    let at = usize::try_from(offset).unwrap_or(usize::MAX);
+    let from = x(cut, at);
+    let to = match reason.record {
+        Some(record) => x(cut, record.body() + record.length),
+        None if at == 0 => x(cut, HEAD_BITS),
+        None => x(cut, cut.bits()),
+    };
+    let width = (to - from).max(4.0);
+    svg.rect("chosen", from, y - 2.0, width, 30.0);
+    let middle = from + width / 2.0;
+    svg.triangle("head", middle, y + 40.0, 6.0, true);
+    let anchor = match middle {
+        m if m < EDGE + 60.0 => Anchor::Start,
+        m if m > EDGE + WIDTH - 60.0 => Anchor::End,
+        _ => Anchor::Middle,
+    };
+    svg.text("fault", middle, y + 53.0, anchor, &format!("bit {offset}"));
+}
+
+fn legend(svg: &mut Svg, y: f64) {
+    for (kind, colour) in COLOURS.iter().enumerate() {
+        let x = EDGE + 100.0 * kind as f64;
+        svg.tile((x, y - 9.0), (12.0, 11.0), colour, "cell", "");
+        let name = if kind == 0 { "other kind" } else { KINDS[kind] };
+        svg.text("small", x + 16.0, y, Anchor::Start, name);
+    }
+}
+
+/// Each field of the refused record with its value; answers the lower edge.
+fn fields(svg: &mut Svg, cut: &Cut, reason: &Reason, top: f64) -> f64 {
+    let Some(record) = reason.record else {
+        return top;
+    };
+    let stops = cut.stops();
+    let mut rows = front(&record);
+    for field in cut.fields(&record) {
+        let shown = value::show(field, cut.value(&record, field), &stops);
+        rows.push((field.name, record.body() + field.at, shown));
+    }
+    let mut y = top;
+    for (name, bit, shown) in rows {
+        let wrong = reason.field == Some(name);
+        let class = if wrong { "wrong" } else { "field" };
+        svg.rect(class, EDGE, y, 460.0, 18.0);
+        svg.text(
+            "small",
+            EDGE + 6.0,
+            y + 12.5,
+            Anchor::Start,
+            &format!("bit {bit}"),
+        );
+        svg.text("name", EDGE + 70.0, y + 12.5, Anchor::Start, name);
+        let class = if wrong { "fault" } else { "" };
+        svg.text(
+            class,
+            EDGE + 200.0,
+            y + 12.5,
+            Anchor::Start,
+            &cropped(&shown),
+        );
+        y += 18.0;
+    }
+    y
+}
+
+/// Kind and length, in front of the body.
+fn front(record: &Record) -> Vec<(&'static str, usize, String)> {
+    let name = KINDS.get(record.kind).filter(|name| !name.is_empty());
+    let kind = match name {
+        Some(name) => format!("{} ({name})", record.kind),
+        None => record.kind.to_string(),
+    };
+    vec![
+        ("kind", record.at, kind),
+        ("length", record.at + 6, record.length.to_string()),
+    ]
+}
+
+/// As much of a value as fits its box.
+fn cropped(text: &str) -> String {
+    match text.char_indices().nth(40) {
+        Some((end, _)) => format!("{}..", &text[..end]),
+        None => text.into(),
+    }
+}

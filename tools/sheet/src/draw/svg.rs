@@ -1,0 +1,162 @@
+//! The few shapes of a drawing.
+
+use std::fmt::Write;
+
+#[derive(Default)]
+pub struct Svg {
+    body: String,
+}
+
+/// Where a text's point stands in it.
+#[derive(Clone, Copy)]
+pub enum Anchor {
+    Start,
+    Middle,
+    End,
+}
+
+impl Anchor {
+    fn name(self) -> &'static str {
+        match self {
+            Anchor::Start => "start",
+            Anchor::Middle => "middle",
+            Anchor::End => "end",
+        }
+    }
+}
+
+fn escape(text: &str) -> String {
+    text.replace('&', "&amp;")
+        .replace('<', "&lt;")
+        .replace('>', "&gt;")
+}
+
+/// A coordinate with one decimal.
+fn c(value: f64) -> String {
+    let value = if value.is_finite() { value } else { 0.0 };
+    let text = format!("{value:.1}");
+    text.strip_suffix(".0").unwrap_or(&text).into()
+}
+
+const STYLE: &str = "\
+text{font-family:DejaVu Sans,Verdana,sans-serif;font-size:10px;fill:#222}\
+.title{font-size:15px;font-weight:bold}\
+.name{font-weight:bold}\
+.small{font-size:9px;fill:#555}\
+.cost{font-size:10px;font-weight:bold;fill:#a33c00}\
+.pale{fill:#fff}\
+.fault{fill:#b00020;font-weight:bold}\
+.shaft{fill:#f6f6f6;stroke:#ccc}\
+.floor{stroke:#bbb;stroke-width:1}\
+.lead{stroke:#ccc;stroke-width:0.7}\
+.guide{stroke:#e4e4e4;stroke-width:0.8}\
+.served{fill:#777}\
+.barred{stroke:#b00020;stroke-width:1.6}\
+.call{fill:none;stroke:#0072b2;stroke-width:1.6}\
+.car{stroke:#444;stroke-width:1}\
+.listed{stroke:#000;stroke-width:2.4}\
+.full{fill:#555;fill-opacity:0.55}\
+.lamp{fill:#e69f00;stroke:none}\
+.waiting{fill:#009e73}\
+.arrow{stroke:#d55e00;stroke-width:2.2;fill:none}\
+.head{fill:#d55e00}\
+.cell{stroke:#fff;stroke-width:1}\
+.chosen{fill:none;stroke:#d55e00;stroke-width:2.6}\
+.unsent{fill:none;stroke:#222;stroke-width:1.6;stroke-dasharray:3 2}\
+.field{fill:#fff;stroke:#999}\
+.wrong{fill:#ffd9dd;stroke:#b00020;stroke-width:2}";
+
+impl Svg {
+    pub fn rect(&mut self, class: &str, x: f64, y: f64, width: f64, height: f64) {
+        let (x, y, w, h) = (c(x), c(y), c(width.max(0.0)), c(height.max(0.0)));
+        let _ = writeln!(
+            self.body,
+            "<rect class=\"{class}\" x=\"{x}\" y=\"{y}\" width=\"{w}\" height=\"{h}\"/>"
+        );
+    }
+
+    /// A rectangle of a colour, with a text that shows under the pointer.
+    pub fn tile(&mut self, at: (f64, f64), size: (f64, f64), fill: &str, class: &str, tip: &str) {
+        let (x, y, w, h) = (c(at.0), c(at.1), c(size.0.max(0.0)), c(size.1.max(0.0)));
+        let tip = escape(tip);
+        let _ = writeln!(
+            self.body,
+            "<rect class=\"{class}\" x=\"{x}\" y=\"{y}\" width=\"{w}\" height=\"{h}\" fill=\"{fill}\"><title>{tip}</title></rect>"
+        );
+    }
+
+    pub fn line(&mut self, class: &str, from: (f64, f64), to: (f64, f64)) {
+        let (x1, y1, x2, y2) = (c(from.0), c(from.1), c(to.0), c(to.1));
+        let _ = writeln!(
+            self.body,
+            "<line class=\"{class}\" x1=\"{x1}\" y1=\"{y1}\" x2=\"{x2}\" y2=\"{y2}\"/>"
+        );
+    }
+
+    pub fn circle(&mut self, class: &str, x: f64, y: f64, radius: f64) {
+        let (x, y, r) = (c(x), c(y), c(radius));
+        let _ = writeln!(
+            self.body,
+            "<circle class=\"{class}\" cx=\"{x}\" cy=\"{y}\" r=\"{r}\"/>"
+        );
+    }
+
+    /// A triangle with its base in the middle of `x`, `y`; `up` points to smaller y.
+    pub fn triangle(&mut self, class: &str, x: f64, y: f64, size: f64, up: bool) {
+        let tip = if up { y - size } else { y + size };
+        let (left, right, y, x, tip) = (c(x - size), c(x + size), c(y), c(x), c(tip));
+        let _ = writeln!(
+            self.body,
+            "<path class=\"{class}\" d=\"M{left} {y}L{right} {y}L{x} {tip}Z\"/>"
+        );
+    }
+
+    pub fn text(&mut self, class: &str, x: f64, y: f64, anchor: Anchor, text: &str) {
+        let (x, y, anchor, text) = (c(x), c(y), anchor.name(), escape(text));
+        let _ = writeln!(
+            self.body,
+            "<text class=\"{class}\" x=\"{x}\" y=\"{y}\" text-anchor=\"{anchor}\">{text}</text>"
+        );
+    }
+
+    /// A text that rises to the right.
+    pub fn slanted(&mut self, class: &str, x: f64, y: f64, text: &str) {
+        let (x, y, text) = (c(x), c(y), escape(text));
+        let _ = writeln!(
+            self.body,
+            "<text class=\"{class}\" x=\"{x}\" y=\"{y}\" transform=\"rotate(-55 {x} {y})\">{text}</text>"
+        );
+    }
+
+    /// The whole drawing, on white.
+    pub fn finish(self, width: f64, height: f64) -> String {
+        let (w, h) = (c(width), c(height));
+        format!(
+            "<svg xmlns=\"http://www.w3.org/2000/svg\" width=\"{w}\" height=\"{h}\" viewBox=\"0 0 {w} {h}\">\n\
+             <style>{STYLE}</style>\n<rect width=\"{w}\" height=\"{h}\" fill=\"#fff\"/>\n{}</svg>\n",
+            self.body
+        )
+    }
+}
+
+/// A number for a label, in at most four digits.
+pub fn short(value: f64) -> String {
+    let size = value.abs();
+    if value == 0.0 {
+        return "0".into();
+    }
+    if !(0.001..1e6).contains(&size) {
+        return format!("{value:.2e}");
+    }
+    let decimals = match size {
+        _ if size >= 1_000.0 => 0,
+        _ if size >= 100.0 => 1,
+        _ if size >= 10.0 => 2,
+        _ => 3,
+    };
+    let text = format!("{value:.decimals$}");
+    match text.contains('.') {
+        true => text.trim_end_matches('0').trim_end_matches('.').into(),
+        false => text,
+    }
+}

@@ -1,0 +1,128 @@
+//! A verdict in words. The verdict is the proved library's; what stands here only looks for the field
+//! that the refusal's number is about, and says so where it finds none.
+
+use crate::bench::Verdict;
+use crate::cut::{Cut, Record};
+use crate::faults;
+use crate::fields::KINDS;
+use crate::rules;
+use crate::show;
+
+/// A refusal in words.
+pub struct Reason {
+    /// Which record, which field, what it holds and what it must hold.
+    pub sentence: String,
+    /// The refused record, where it can be cut.
+    pub record: Option<Record>,
+    /// The field's name, where one is at fault.
+    pub field: Option<&'static str>,
+}
+
+/// The lines of `sheet explain`.
+pub fn explain(bytes: &[u8], verdict: Verdict) -> String {
+    let cut = Cut::new(bytes);
+    match verdict {
+        Verdict::Accepted => format!("accepted\n{}\n", show::counts(&cut)),
+        Verdict::Refused { number, offset } => {
+            let reason = reason(&cut, number, offset);
+            let mut lines = format!("refused {number} at {offset}\n{}\n", reason.sentence);
+            if let Some(rule) = rules::rule(number) {
+                lines += &format!("rule {number}: {}\nto do: {}\n", rule.says, rule.remedy);
+            }
+            if let Some(record) = reason.record {
+                lines += &format!("text: {}\n", show::record_line(&cut, &record, &cut.stops()));
+            }
+            lines
+        }
+    }
+}
+
+/// Why a sheet was refused by this number at this bit.
+pub fn reason(cut: &Cut, number: u32, offset: u64) -> Reason {
+    let at = usize::try_from(offset).unwrap_or(usize::MAX);
+    let whole = |sentence: String, field: Option<&'static str>| Reason {
+        sentence,
+        record: None,
+        field,
+    };
+    match number {
+        2 => return whole(passes_the_end(cut, at), None),
+        3 => return whole(edition(cut), Some("edition")),
+        16 => return whole(tail(cut, at), None),
+        6 if cut.head.is_some_and(|head| head.count == 0) => {
+            let sentence = "Head (bit 0): records is 0, but the policy must be there.";
+            return whole(sentence.into(), Some("records"));
+        }
+        _ => {}
+    }
+    let Some(record) = cut.records.iter().find(|record| record.at == at) else {
+        return whole(format!("The refusal is at bit {at}."), None);
+    };
+    let place = place(cut, record);
+    let fault = faults::find(cut, record, number);
+    let says = fault.as_ref().map_or("see the rule", |fault| &fault.says);
+    Reason {
+        sentence: format!("{place}: {says}."),
+        record: Some(*record),
+        field: fault.as_ref().map(|fault| fault.field),
+    }
+}
+
+/// `Car record 2 (id 8, bit 1723)`.
+fn place(cut: &Cut, record: &Record) -> String {
+    let earlier = cut.records.iter().take_while(|other| other.at < record.at);
+    let nth = 1 + earlier
+        .clone()
+        .filter(|other| other.kind == record.kind)
+        .count();
+    let place = match KINDS.get(record.kind) {
+        Some(name) if record.kind > 0 => format!("{} record {nth}", capital(name)),
+        _ => format!("Record {} of the sheet", 1 + earlier.count()),
+    };
+    let id = cut
+        .named(record, "id")
+        .map_or(String::new(), |id| format!("id {id}, "));
+    format!("{place} ({id}bit {})", record.at)
+}
+
+fn capital(word: &str) -> String {
+    let (first, others) = word.split_at(1);
+    first.to_uppercase() + others
+}
+
+fn passes_the_end(cut: &Cut, at: usize) -> String {
+    let end = cut.bits();
+    let Some(head) = cut.head else {
+        return format!("Head (bit 0): it takes 24 bits, but the sheet has {end}.");
+    };
+    let nth = cut.records.len() + 1;
+    let left = end.saturating_sub(at);
+    match cut.stated_at(at) {
+        None => format!(
+            "Record {nth} of the {} that the head counts (bit {at}): kind and length take 22 bits, but {left} are left.",
+            head.count
+        ),
+        Some(stated) => format!(
+            "{}: length is {}, but {} bits are left after the record's 22.",
+            place(cut, &stated),
+            stated.length,
+            left - 22
+        ),
+    }
+}
+
+fn edition(cut: &Cut) -> String {
+    let edition = cut.head.map_or(0, |head| head.edition);
+    format!("Head (bit 0): edition is {edition}, but this bench reads edition 1.")
+}
+
+fn tail(cut: &Cut, at: usize) -> String {
+    match cut.bits().saturating_sub(at) {
+        left @ 8.. => {
+            format!("Tail (bit {at}): {left} bits follow the last record, but at most 7 may.")
+        }
+        _ => {
+            format!("Tail (bit {at}): a bit after the last record is one, but they must be zeros.")
+        }
+    }
+}

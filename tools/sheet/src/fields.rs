@@ -1,0 +1,271 @@
+//! The fields of each kind of record, in document 01's order: name, place in the body, form.
+
+use sheetgen::sheet::{ETD, RSR};
+
+/// What an id field names.
+#[derive(Clone, Copy, PartialEq, Eq)]
+pub enum Names {
+    /// The record itself.
+    Itself,
+    /// A stop, line or car that must have a record, by its kind.
+    Record(usize),
+    /// Something that needs no record.
+    Anything,
+}
+
+/// The doubles that are admitted.
+#[derive(Clone, Copy, PartialEq, Eq)]
+pub enum Range {
+    Position,
+    Speed,
+    Amount,
+    Threshold,
+    TickRate,
+}
+
+#[derive(Clone, Copy, PartialEq, Eq)]
+pub enum Form {
+    /// A whole number of so many bits.
+    Number(usize),
+    /// 32 bits.
+    Id(Names),
+    /// 16 bits; 65,535 is none.
+    Limit,
+    /// A code of so many bits; those without a name are written as numbers.
+    Code(&'static [&'static str], usize),
+    /// 64 IEEE bits.
+    Double(Range),
+    /// 64 bits, the highest for the first stop record.
+    Mask,
+}
+
+/// How a field may be missing.
+#[derive(Clone, Copy, PartialEq, Eq)]
+pub enum Absence {
+    /// It is always there.
+    Never,
+    /// A present bit stands before it.
+    PresentBit,
+    /// It is all zeros.
+    Zeros,
+    /// It is all zeros, and the text then leaves it out.
+    Unused,
+}
+
+#[derive(Clone, Copy)]
+pub struct Field {
+    pub name: &'static str,
+    /// The first bit in the body; of an optional field, the present bit.
+    pub at: usize,
+    pub form: Form,
+    pub absence: Absence,
+}
+
+impl Field {
+    /// A field that can be none may be left out of a line.
+    pub fn can_be_none(&self) -> bool {
+        self.absence != Absence::Never || matches!(self.form, Form::Limit | Form::Mask)
+    }
+}
+
+impl Form {
+    pub fn width(self) -> usize {
+        match self {
+            Form::Number(width) | Form::Code(_, width) => width,
+            Form::Id(_) => 32,
+            Form::Limit => 16,
+            Form::Double(_) | Form::Mask => 64,
+        }
+    }
+}
+
+/// The word that begins a record's line, by kind; index 0 is unused.
+pub const KINDS: [&str; 8] = [
+    "", "policy", "stop", "line", "car", "aboard", "waiting", "demand",
+];
+pub const STRATEGIES: &[&str] = &["ETD", "RSR", "SCAN"];
+const TRAFFIC: &[&str] = &["idle", "up_peak", "inter_floor", "down_peak"];
+pub const PHASES: &[&str] = &[
+    "idle",
+    "moving",
+    "repositioning",
+    "door_opening",
+    "loading",
+    "door_closing",
+    "stopped",
+];
+const NO_YES: &[&str] = &["no", "yes"];
+const SWEEPS: &[&str] = &["up", "down"];
+const MODES: &[&str] = &["strict", "lenient"];
+
+const fn always(name: &'static str, at: usize, form: Form) -> Field {
+    Field {
+        name,
+        at,
+        form,
+        absence: Absence::Never,
+    }
+}
+
+const fn optional(name: &'static str, at: usize, form: Form) -> Field {
+    Field {
+        name,
+        at,
+        form,
+        absence: Absence::PresentBit,
+    }
+}
+
+/// The policy's fields; the weights from `used` on are unused.
+const fn policy(weights: [&'static str; 6], used: usize) -> [Field; 10] {
+    let amount = Form::Double(Range::Amount);
+    let mut fields = [always("strategy", 0, Form::Code(STRATEGIES, 2)); 10];
+    fields[1] = always("limit", 2, Form::Limit);
+    fields[2] = always("tick_rate", 18, Form::Double(Range::TickRate));
+    fields[3] = always("traffic", 82, Form::Code(TRAFFIC, 2));
+    let mut k = 0;
+    while k < 6 {
+        let absence = if k < used {
+            Absence::Never
+        } else {
+            Absence::Unused
+        };
+        fields[4 + k] = Field {
+            name: weights[k],
+            at: 84 + 64 * k,
+            form: amount,
+            absence,
+        };
+        k += 1;
+    }
+    fields
+}
+
+static POLICY_ETD: [Field; 10] = policy(
+    ["wait", "delay", "door", "wait_squared", "age", "weight_6"],
+    5,
+);
+static POLICY_RSR: [Field; 10] = policy(
+    [
+        "eta",
+        "wrong_direction",
+        "coincident_call",
+        "load",
+        "age",
+        "peak_multiplier",
+    ],
+    6,
+);
+static POLICY_SCAN: [Field; 10] = policy(
+    [
+        "weight_1", "weight_2", "weight_3", "weight_4", "weight_5", "weight_6",
+    ],
+    0,
+);
+
+static STOP: [Field; 2] = [
+    always("id", 0, Form::Id(Names::Itself)),
+    always("position", 32, Form::Double(Range::Position)),
+];
+
+static LINE: [Field; 2] = [
+    always("id", 0, Form::Id(Names::Itself)),
+    always("serves", 32, Form::Mask),
+];
+
+static CAR: [Field; 20] = [
+    always("id", 0, Form::Id(Names::Itself)),
+    always("line", 32, Form::Id(Names::Record(3))),
+    always("phase", 64, Form::Code(PHASES, 3)),
+    Field {
+        name: "stop",
+        at: 67,
+        form: Form::Id(Names::Anything),
+        absence: Absence::Zeros,
+    },
+    optional("target", 99, Form::Id(Names::Anything)),
+    always("idle_listed", 132, Form::Code(NO_YES, 1)),
+    always("going_up", 133, Form::Code(NO_YES, 1)),
+    always("going_down", 134, Form::Code(NO_YES, 1)),
+    always("sweep", 135, Form::Code(SWEEPS, 1)),
+    always("mode", 136, Form::Code(MODES, 1)),
+    always("position", 137, Form::Double(Range::Position)),
+    always("max_speed", 201, Form::Double(Range::Speed)),
+    always("capacity", 265, Form::Double(Range::Amount)),
+    always("load", 329, Form::Double(Range::Amount)),
+    optional("up_threshold", 393, Form::Double(Range::Threshold)),
+    optional("down_threshold", 458, Form::Double(Range::Threshold)),
+    always("transition_ticks", 523, Form::Number(32)),
+    always("open_ticks", 555, Form::Number(32)),
+    always("restricted", 587, Form::Mask),
+    always("car_calls", 651, Form::Mask),
+];
+
+static ABOARD: [Field; 2] = [
+    always("car", 0, Form::Id(Names::Record(4))),
+    optional("destination", 32, Form::Id(Names::Anything)),
+];
+
+static WAITING: [Field; 5] = [
+    always("stop", 0, Form::Id(Names::Record(2))),
+    optional("required_line", 32, Form::Id(Names::Anything)),
+    optional("destination", 65, Form::Id(Names::Anything)),
+    always("weight", 98, Form::Double(Range::Amount)),
+    always("wait_ticks", 162, Form::Number(64)),
+];
+
+static DEMAND: [Field; 3] = [
+    always("stop", 0, Form::Id(Names::Record(2))),
+    always("riding_count", 32, Form::Number(16)),
+    always("riderless_call", 48, Form::Code(NO_YES, 1)),
+];
+
+/// The fields of a policy, whose weights have the names of its strategy.
+pub fn policy_fields(strategy: u64) -> &'static [Field] {
+    if strategy == u64::from(ETD) {
+        &POLICY_ETD
+    } else if strategy == u64::from(RSR) {
+        &POLICY_RSR
+    } else {
+        &POLICY_SCAN
+    }
+}
+
+/// The fields of a record of kind 2 to 7; a policy's depend on its strategy.
+pub fn fields(kind: usize) -> &'static [Field] {
+    match kind {
+        2 => &STOP,
+        3 => &LINE,
+        4 => &CAR,
+        5 => &ABOARD,
+        6 => &WAITING,
+        7 => &DEMAND,
+        _ => &[],
+    }
+}
+
+#[cfg(test)]
+mod tests {
+    use super::*;
+    use sheetgen::sheet::BODY_BITS;
+
+    /// The fields follow each other without a gap and fill the body.
+    fn fill(fields: &[Field], bits: usize) {
+        let mut at = 0;
+        for field in fields {
+            assert_eq!(field.at, at, "{}", field.name);
+            at += field.form.width() + usize::from(field.absence == Absence::PresentBit);
+        }
+        assert_eq!(at, bits);
+    }
+
+    #[test]
+    fn fields_fill_their_bodies() {
+        for strategy in 0..4 {
+            fill(policy_fields(strategy), BODY_BITS[1]);
+        }
+        for (kind, bits) in BODY_BITS.iter().enumerate().skip(2) {
+            fill(fields(kind), *bits);
+        }
+    }
+}

@@ -1,0 +1,162 @@
+//! `sheet`: sheets of the dispatch bench written from text, shown as text, and explained.
+
+use std::io::{ErrorKind, IsTerminal, Read, Write};
+use std::path::{Path, PathBuf};
+use std::process::ExitCode;
+
+use sheet::bench::{self, Verdict};
+use sheet::{draw, explain, rules, show, text};
+
+const USAGE: &str = "\
+usage: sheet COMMAND
+  write IN.txt [OUT]   turn text into a sheet, in OUT or on standard output
+  show SHEET           print a sheet as text that `write` turns into the same bytes
+  explain SHEET        say whether the bench accepts a sheet, and if not, what to do
+  draw SHEET [OUT]     draw a sheet and its pass, or where it is refused, as SVG
+  rule [NUMBER]        print a refusal's rule, or all of them
+  help                 print this
+- stands for standard input. The text is described in docs/MANUAL.md, \"Sheets as text\".
+Exit 0: done, a refused sheet explained included. 1: not done, the reason is on standard error. 2: no such command.
+";
+
+/// Why a command ended early.
+enum Stop {
+    /// The command line has no meaning.
+    Usage,
+    /// What to print on standard error.
+    Failed(String),
+}
+
+fn failed(message: impl Into<String>) -> Stop {
+    Stop::Failed(message.into())
+}
+
+fn main() -> ExitCode {
+    let args: Vec<_> = std::env::args_os().skip(1).collect();
+    let words: Vec<String> = args
+        .iter()
+        .map(|arg| arg.to_string_lossy().into_owned())
+        .collect();
+    let words: Vec<&str> = words.iter().map(String::as_str).collect();
+    let path = |k: usize| PathBuf::from(&args[k]);
+    let done = match words.as_slice() {
+        ["help" | "--help" | "-h"] => print(USAGE.as_bytes()),
+        ["write", _] => write(&path(1), None),
+        ["write", _, _] => write(&path(1), Some(&path(2))),
+        ["show", _] => input(&path(1)).and_then(|bytes| print(show::show(&bytes).as_bytes())),
+        ["explain", _] => explain(&path(1)),
+        ["draw", _] => drawing(&path(1)).and_then(|svg| print(svg.as_bytes())),
+        ["draw", _, _] => drawing(&path(1)).and_then(|svg| replace(&path(2), svg.as_bytes())),
+        ["rule"] => rules_from(1, rules::RULES.len() as u32),
+        ["rule", number] => rule(number),
+        _ => Err(Stop::Usage),
+    };
+    match done {
+        Ok(()) => ExitCode::SUCCESS,
+        Err(Stop::Usage) => {
+            complain(USAGE);
+            ExitCode::from(2)
+        }
+        Err(Stop::Failed(message)) => {
+            complain(&format!("{message}\n"));
+            ExitCode::FAILURE
+        }
+    }
+}
+
+/// Standard error may be closed; then there is nobody to tell.
+fn complain(message: &str) {
+    let _ = std::io::stderr().write_all(message.as_bytes());
+}
+
+fn print(bytes: &[u8]) -> Result<(), Stop> {
+    let mut out = std::io::stdout().lock();
+    match out.write_all(bytes).and_then(|()| out.flush()) {
+        Err(error) if error.kind() != ErrorKind::BrokenPipe => {
+            Err(failed(format!("standard output: {error}")))
+        }
+        _ => Ok(()),
+    }
+}
+
+fn input(path: &Path) -> Result<Vec<u8>, Stop> {
+    let bytes = if path == Path::new("-") {
+        let mut bytes = Vec::new();
+        std::io::stdin().read_to_end(&mut bytes).map(|_| bytes)
+    } else {
+        std::fs::read(path)
+    };
+    bytes.map_err(|error| failed(format!("{}: {error}", path.display())))
+}
+
+fn write(from: &Path, to: Option<&Path>) -> Result<(), Stop> {
+    let bytes = text::write(&input(from)?).map_err(|faults| {
+        let line = |f: &text::Fault| format!("{}:{}: {}", from.display(), f.line, f.what);
+        failed(faults.iter().map(line).collect::<Vec<_>>().join("\n"))
+    })?;
+    match to {
+        Some(path) => replace(path, &bytes),
+        None if std::io::stdout().is_terminal() => {
+            Err(failed("a sheet is not text: name a file to write it to"))
+        }
+        None => print(&bytes),
+    }
+}
+
+/// Puts a whole file in the place of `path`, so that there is never half a sheet. What is no plain file
+/// (a link, a device, a pipe) stays what it is and is written to.
+fn replace(path: &Path, bytes: &[u8]) -> Result<(), Stop> {
+    let fault = |error: std::io::Error| failed(format!("{}: {error}", path.display()));
+    let is_plain = match std::fs::symlink_metadata(path) {
+        Ok(found) => found.is_file(),
+        Err(error) => error.kind() == ErrorKind::NotFound,
+    };
+    let (true, Some(name)) = (is_plain, path.file_name()) else {
+        return std::fs::write(path, bytes).map_err(fault);
+    };
+    let mut name = name.to_os_string();
+    name.push(format!(".{}.part", std::process::id()));
+    let part = path.with_file_name(name);
+    let done = std::fs::write(&part, bytes).and_then(|()| std::fs::rename(&part, path));
+    done.map_err(|error| {
+        let _ = std::fs::remove_file(&part);
+        fault(error)
+    })
+}
+
+fn explain(path: &Path) -> Result<(), Stop> {
+    let bytes = input(path)?;
+    let verdict = bench::read(&bytes).map_err(failed)?;
+    print(explain::explain(&bytes, verdict).as_bytes())
+}
+
+fn drawing(path: &Path) -> Result<String, Stop> {
+    let bytes = input(path)?;
+    match bench::read(&bytes).map_err(failed)? {
+        Verdict::Refused { number, offset } => Ok(draw::draw_refusal(&bytes, number, offset)),
+        Verdict::Accepted => {
+            let sheet = sheetgen::Sheet::of_accepted(&bytes);
+            let pass = bench::pass(&bytes, sheet.cars.len()).map_err(failed)?;
+            Ok(draw::draw(&sheet, pass.as_ref()))
+        }
+    }
+}
+
+fn rule(number: &str) -> Result<(), Stop> {
+    match number.parse() {
+        Ok(number @ 1..=16) => rules_from(number, number),
+        _ => Err(failed(format!(
+            "\"{number}\": expected a refusal's number, 1 to 16"
+        ))),
+    }
+}
+
+fn rules_from(first: u32, last: u32) -> Result<(), Stop> {
+    let mut lines = String::new();
+    for number in first..=last {
+        if let Some(rule) = rules::rule(number) {
+            lines += &format!("rule {number}: {}\nto do: {}\n", rule.says, rule.remedy);
+        }
+    }
+    print(lines.as_bytes())
+}

@@ -1,0 +1,80 @@
+//! Document 01's refusals, a sentence each, and what to do about them.
+
+pub struct Rule {
+    /// When the number is given.
+    pub says: &'static str,
+    /// What puts an end to it.
+    pub remedy: &'static str,
+}
+
+/// Rule `number` is entry `number` - 1.
+pub const RULES: [Rule; 16] = [
+    Rule {
+        says: "A buffer that the host lent to the pass is too short: decisions need 32 entries, the matrix 2,048, the sweeps 32.",
+        remedy: "Lend longer buffers; the sheet is not at fault.",
+    },
+    Rule {
+        says: "The head, a record's 22 bits of kind and length, or its stated body passes the end of the sheet.",
+        remedy: "Fetch the whole file again; if it is whole, its writer stated a wrong record count or body length.",
+    },
+    Rule {
+        says: "The edition in the first 8 bits is not 1.",
+        remedy: "Have the sheet written as edition 1, or take a bench that reads its edition.",
+    },
+    Rule {
+        says: "A record's kind is not 1 to 7.",
+        remedy: "Leave the record out; a newer writer, or a wrong length in the record before it, can cause this.",
+    },
+    Rule {
+        says: "A record's stated body length is not its kind's: 468, 96, 96, 715, 65, 226, 49 bits for kinds 1 to 7.",
+        remedy: "Write the record with its kind's fields and length; a newer writer can cause this.",
+    },
+    Rule {
+        says: "The first record is not the policy, or a record's kind is below the kind before it.",
+        remedy: "Put the records in the order policy, stop, line, car, aboard, waiting, demand.",
+    },
+    Rule {
+        says: "There are more records of a kind than 1 policy, 64 stops, 8 lines, 32 cars, 512 aboard, 512 waiting.",
+        remedy: "Leave records out, or split the group over several sheets.",
+    },
+    Rule {
+        says: "The strategy is 3, the phase is 7, or a field that is absent or unused has a one bit.",
+        remedy: "Give the field a code of edition 1, or zeros where it is absent or unused.",
+    },
+    Rule {
+        says: "An id is 0, a stop's id is not above that of the stop before, a line or car has the id of an earlier one, or a stop has a second demand.",
+        remedy: "Give every record an id of its own, 1 or more, rising for stops, and one demand a stop.",
+    },
+    Rule {
+        says: "A car's line, an aboard rider's car, or a waiting rider's or demand's stop has no record, or a mask has a bit past the stops.",
+        remedy: "Add the record that is named, or name one that is there.",
+    },
+    Rule {
+        says: "A double is outside of its range, or not a number.",
+        remedy: "Give the field a value inside of its range.",
+    },
+    Rule {
+        says: "The candidate limit is 0.",
+        remedy: "Give a limit of 1 or more, or none (65,535).",
+    },
+    Rule {
+        says: "Twice a car's transition ticks plus its open ticks is above 4,294,967,295.",
+        remedy: "Give the car shorter door times.",
+    },
+    Rule {
+        says: "A waiting rider's wait ticks are above 9,007,199,254,740,992.",
+        remedy: "Give the ticks since the rider came to the stop; so many suggest a negative number.",
+    },
+    Rule {
+        says: "The strategy is RSR and its load weight is above 0.",
+        remedy: "Set load to 0; the bench does not carry RSR's load term.",
+    },
+    Rule {
+        says: "What follows the last record is not 0 to 7 zero bits up to the byte's end.",
+        remedy: "Cut off what follows the last record; if there are records in it, the head counts too few.",
+    },
+];
+
+pub fn rule(number: u32) -> Option<&'static Rule> {
+    RULES.get((number as usize).checked_sub(1)?)
+}

@@ -1,0 +1,126 @@
+//! The command line: what is printed where, and the exit codes.
+
+mod common;
+
+use common::{files, here, name, run, text};
+
+#[test]
+fn help() {
+    for word in ["help", "--help", "-h"] {
+        let output = run(&[word], b"");
+        assert_eq!(output.status.code(), Some(0));
+        assert!(text(&output.stdout).starts_with("usage: sheet COMMAND\n"));
+        assert_eq!(text(&output.stderr), "");
+    }
+}
+
+#[test]
+fn no_such_command() {
+    for args in [
+        &["draught"][..],
+        &[],
+        &["show"],
+        &["show", "a", "b"],
+        &["write"],
+    ] {
+        let output = run(args, b"");
+        assert_eq!(output.status.code(), Some(2), "{args:?}");
+        assert!(text(&output.stderr).starts_with("usage: sheet COMMAND\n"));
+        assert_eq!(text(&output.stdout), "");
+    }
+}
+
+#[test]
+fn no_such_file() {
+    for command in ["write", "show", "explain"] {
+        let output = run(&[command, "/no/such/file"], b"");
+        assert_eq!(output.status.code(), Some(1));
+        assert!(text(&output.stderr).starts_with("/no/such/file: "));
+        assert_eq!(text(&output.stdout), "");
+    }
+}
+
+#[test]
+fn rules() {
+    let all = run(&["rule"], b"");
+    assert_eq!(text(&all.stdout).lines().count(), 32);
+    let one = run(&["rule", "1"], b"");
+    assert!(text(&one.stdout).starts_with("rule 1: A buffer that the host lent"));
+    for number in ["0", "17", "x"] {
+        let output = run(&["rule", number], b"");
+        assert_eq!(output.status.code(), Some(1));
+        let said = format!("\"{number}\": expected a refusal's number, 1 to 16\n");
+        assert_eq!(text(&output.stderr), said);
+    }
+}
+
+/// Each text of tests/bad is refused with the stored message, and nothing is written.
+#[test]
+fn bad_texts() {
+    let kept = std::env::temp_dir().join(format!("sheet-test-{}", std::process::id()));
+    std::fs::create_dir_all(&kept).unwrap();
+    let out = kept.join("out.sheet");
+    std::fs::write(&out, "as before").unwrap();
+    let paths = files("tests/bad", "txt");
+    assert!(paths.len() >= 15);
+    for path in paths {
+        let content = std::fs::read(&path).unwrap();
+        let output = run(&["write", "-", out.to_str().unwrap()], &content);
+        assert_eq!(output.status.code(), Some(1), "{}", name(&path));
+        assert_eq!(text(&output.stdout), "");
+        let stored = std::fs::read(path.with_extension("err")).unwrap();
+        assert_eq!(text(&output.stderr), text(&stored), "{}", name(&path));
+        assert_eq!(std::fs::read(&out).unwrap(), b"as before");
+    }
+    assert_eq!(std::fs::read_dir(&kept).unwrap().count(), 1);
+    std::fs::remove_dir_all(&kept).unwrap();
+}
+
+#[test]
+fn written_file_is_the_sheet() {
+    let folder = std::env::temp_dir().join(format!("sheet-file-{}", std::process::id()));
+    std::fs::create_dir_all(&folder).unwrap();
+    let out = folder.join("out.sheet");
+    let example = here("examples/document_01.txt");
+    let args = ["write", example.to_str().unwrap(), out.to_str().unwrap()];
+    assert_eq!(run(&args, b"").status.code(), Some(0));
+    let bytes = std::fs::read(&out).unwrap();
+    assert_eq!(bytes, sheetgen::Sheet::example().write());
+    let shown = run(&["show", out.to_str().unwrap()], b"");
+    assert_eq!(run(&["write", "-"], &shown.stdout).stdout, bytes);
+    assert_eq!(std::fs::read_dir(&folder).unwrap().count(), 1);
+    std::fs::remove_dir_all(&folder).unwrap();
+}
+
+/// A link and a pipe stay what they are; a folder is an error.
+#[cfg(unix)]
+#[test]
+fn what_is_no_plain_file_is_kept() {
+    let folder = std::env::temp_dir().join(format!("sheet-link-{}", std::process::id()));
+    std::fs::create_dir_all(&folder).unwrap();
+    let (link, target, pipe) = (
+        folder.join("link"),
+        folder.join("target"),
+        folder.join("pipe"),
+    );
+    std::fs::write(&target, "as before").unwrap();
+    std::os::unix::fs::symlink(&target, &link).unwrap();
+    let made = std::process::Command::new("mkfifo").arg(&pipe).status();
+    assert!(made.unwrap().success());
+    let example = here("examples/document_01.txt");
+    let write = |out: &std::path::Path| {
+        let args = ["write", example.to_str().unwrap(), out.to_str().unwrap()];
+        run(&args, b"").status.code()
+    };
+    let sheet = sheetgen::Sheet::example().write();
+    assert_eq!(write(&link), Some(0));
+    assert!(std::fs::symlink_metadata(&link).unwrap().is_symlink());
+    assert_eq!(std::fs::read(&target).unwrap(), sheet);
+    let end = pipe.clone();
+    let reader = std::thread::spawn(move || std::fs::read(end).unwrap());
+    assert_eq!(write(&pipe), Some(0));
+    assert_eq!(reader.join().unwrap(), sheet);
+    assert_eq!(write(&folder), Some(1));
+    assert_eq!(std::fs::read_dir(&folder).unwrap().count(), 3);
+    std::fs::remove_dir_all(&folder).unwrap();
+}

@@ -1,0 +1,118 @@
+//! The examples, and what `explain` says of them.
+#![cfg(feature = "pass")]
+
+mod common;
+
+use common::{files, here, name, run, text};
+use sheet::bench::{self, Verdict};
+use sheet::{explain, rules};
+use sheetgen::generate::{PROFILES, generate};
+
+#[test]
+fn document_01() {
+    let path = here("examples/document_01.txt");
+    let written = run(&["write", path.to_str().unwrap()], b"");
+    let hex: String = text(&std::fs::read(here("examples/document_01.hex")).unwrap());
+    let digits: String = hex.split_whitespace().collect();
+    let found: String = written.stdout.iter().map(|b| format!("{b:02x}")).collect();
+    assert_eq!(found, digits);
+    assert_eq!(written.stdout, sheetgen::Sheet::example().write());
+    assert_eq!(written.stdout.len(), 326);
+}
+
+#[test]
+fn explained_as_stored() {
+    for path in files("examples", "txt") {
+        let written = run(&["write", path.to_str().unwrap()], b"");
+        assert_eq!(text(&written.stderr), "", "{}", name(&path));
+        let explained = run(&["explain", "-"], &written.stdout);
+        assert!(explained.status.success());
+        let stored = std::fs::read(path.with_extension("explain")).unwrap();
+        assert_eq!(text(&explained.stdout), text(&stored), "{}", name(&path));
+    }
+}
+
+#[test]
+fn every_number_has_an_example() {
+    let names: Vec<String> = files("examples", "txt").iter().map(|p| name(p)).collect();
+    for number in 2..=16 {
+        let start = format!("refusal_{number:02}_");
+        let mut examples = names.iter().filter(|n| n.starts_with(&start)).peekable();
+        assert!(examples.peek().is_some(), "refusal {number}");
+        for example in examples {
+            let stored = std::fs::read(here(&format!("examples/{example}.explain"))).unwrap();
+            let first = format!("refused {number} at ");
+            assert!(text(&stored).starts_with(&first), "{example}");
+        }
+    }
+}
+
+#[test]
+fn stored_verdicts() {
+    let list = std::fs::read(here("../../crates/replay_refusals/stdin")).unwrap();
+    let mut left = &list[..];
+    while !left.is_empty() {
+        let case = common::stored(left);
+        let offset = case.after[1..5]
+            .iter()
+            .fold(0, |n, b| n << 8 | u64::from(*b));
+        let stored = match case.after[0] {
+            0 => Verdict::Accepted,
+            number => Verdict::Refused {
+                number: number.into(),
+                offset,
+            },
+        };
+        assert_eq!(bench::read(case.sheet), Ok(stored));
+        has_sentence(case.sheet, stored);
+        left = &case.after[5..];
+    }
+}
+
+/// A refusal names its record and field, and its rule.
+fn has_sentence(sheet: &[u8], verdict: Verdict) {
+    let said = explain::explain(sheet, verdict);
+    let Verdict::Refused { number, offset } = verdict else {
+        assert!(said.starts_with("accepted\n"), "{said}");
+        return;
+    };
+    let lines: Vec<&str> = said.lines().collect();
+    assert_eq!(lines[0], format!("refused {number} at {offset}"));
+    assert!(
+        lines[1].contains("(bit ") || lines[1].contains(", bit "),
+        "{said}"
+    );
+    assert!(
+        lines[1].contains(": ") && !lines[1].contains("see the rule"),
+        "{said}"
+    );
+    assert!(lines[2].starts_with(&format!("rule {number}: ")), "{said}");
+    assert!(lines[3].starts_with("to do: "), "{said}");
+}
+
+#[test]
+fn every_generated_refusal_has_its_sentence() {
+    for (_, profile) in PROFILES {
+        for index in 0..300 {
+            let bytes = generate(profile, 11, index);
+            let verdict = bench::read(&bytes).unwrap();
+            has_sentence(&bytes, verdict);
+        }
+    }
+}
+
+#[test]
+fn the_manual_has_every_rule() {
+    let manual = text(&std::fs::read(here("../../docs/MANUAL.md")).unwrap());
+    for (k, rule) in rules::RULES.iter().enumerate() {
+        let row = format!("| {} | {} | {} |", k + 1, rule.says, rule.remedy);
+        assert!(manual.contains(&row), "{row}");
+    }
+    for path in files("examples", "txt") {
+        assert!(
+            manual.contains(&format!("`{}`", name(&path))),
+            "{}",
+            name(&path)
+        );
+    }
+}

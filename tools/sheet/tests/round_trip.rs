@@ -1,0 +1,101 @@
+//! What `show` prints, `write` turns into the same bytes.
+
+mod common;
+
+use sheet::{show, text};
+use sheetgen::generate::{PROFILES, generate};
+use sheetgen::rng::Rng;
+
+/// The text of a sheet, written again.
+fn again(bytes: &[u8]) -> Vec<u8> {
+    let shown = show::show(bytes);
+    match text::write(shown.as_bytes()) {
+        Ok(bytes) => bytes,
+        Err(faults) => panic!("{faults:?} in\n{shown}"),
+    }
+}
+
+#[test]
+fn stored_refusals() {
+    let list = std::fs::read(common::here("../../crates/replay_refusals/stdin")).unwrap();
+    let mut left = &list[..];
+    let mut sheets = 0;
+    while !left.is_empty() {
+        let case = common::stored(left);
+        assert_eq!(again(case.sheet), case.sheet, "sheet {sheets}");
+        left = &case.after[5..];
+        sheets += 1;
+    }
+    assert_eq!(sheets, 689);
+}
+
+#[test]
+fn stored_passes() {
+    let list = std::fs::read(common::here("../oracle/lists/passes")).unwrap();
+    let mut left = &list[..];
+    let mut sheets = 0;
+    while !left.is_empty() {
+        let case = common::stored(left);
+        assert_eq!(again(case.sheet), case.sheet, "sheet {sheets}");
+        let (cars, stops) = (usize::from(case.after[0]), usize::from(case.after[1]));
+        let answer = 10 + 4 * cars + 8 * cars * cars.max(stops);
+        left = &case.after[answer + 2 + usize::from(case.after[answer])..];
+        sheets += 1;
+    }
+    assert!(sheets > 100, "{sheets}");
+}
+
+#[test]
+fn generated_sheets() {
+    for (name, profile) in PROFILES {
+        for index in 0..300 {
+            let bytes = generate(profile, 7, index);
+            assert_eq!(again(&bytes), bytes, "{name} 7 {index}");
+        }
+    }
+}
+
+#[test]
+fn every_bit_of_a_double() {
+    let mut rng = Rng::new(7, 0, 0);
+    for k in 0..5_000 {
+        let bits = match k {
+            0..64 => 1 << k,
+            64..128 => u64::MAX << (k - 64),
+            _ => rng.next(),
+        };
+        let mut sheet = sheetgen::Sheet::example();
+        sheet.stops[0].position = f64::from_bits(bits);
+        let bytes = sheet.write();
+        assert_eq!(again(&bytes), bytes, "{bits:016x}");
+    }
+}
+
+#[test]
+fn any_text_has_an_answer() {
+    let text = std::fs::read(common::here("examples/small_etd.txt")).unwrap();
+    let mut rng = Rng::new(7, 1, 0);
+    let (mut written, mut refused) = (0, 0);
+    for _ in 0..5_000 {
+        let mut text = text.clone();
+        for _ in 0..1 + rng.below(3) {
+            let at = rng.below(text.len());
+            match rng.below(3) {
+                0 => text[at] = rng.next() as u8,
+                1 => text[at] = rng.pick(b" =\n,:x0#-"),
+                _ => text.truncate(at.max(1)),
+            }
+        }
+        match text::write(&text) {
+            Ok(bytes) => {
+                assert_eq!(again(&bytes), bytes);
+                written += 1;
+            }
+            Err(faults) => {
+                assert!(!faults.is_empty());
+                refused += 1;
+            }
+        }
+    }
+    assert!(written > 300 && refused > 300, "{written} {refused}");
+}
