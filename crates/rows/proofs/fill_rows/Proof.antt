@@ -34,7 +34,7 @@ cast-fill-car : tie.Need-cast-fill-car Inv-loop μ-loop
 unfolding sheetOf
 cast-fill-car c =
     let p = c .before .before .before .before .before .before .before .before .before .before .before .pre in let inv = c .before .before .loop .inv in let rows = p .1 .1 in
-    let l = c .before .loop-test .taken in
+    let l : c .before .before .loop .r < c .before .before .before .before .before .before .before .before .before .before .before .args .n = omega (arith, c .before .loop-test .taken) in
     omega (arith, rows .car-of (c .before .before .loop .r) l, rows .below (c .before .before .loop .r) l, p .0 .0 .cars)
 
 mul-fill-car-2 : tie.Need-mul-fill-car-2 Inv-loop μ-loop
@@ -53,10 +53,10 @@ fill-car-requires : tie.Need-fill-car-requires Inv-loop μ-loop
 unfolding sheetOf
 fill-car-requires c κs =
     let p = c .before .before .before .before .before .before .before .before .before .before .before .before .pre in let inv = c .before .before .before .loop .inv in let rows = p .1 .1 in
-    let l = c .before .before .loop-test .taken in
     let at-loop = c .before .before .before .loop in
     let a = c .before .before .before .before .before .before .before .before .before .before .before .before .args in
     let r = at-loop .r in
+    let l : r < a .n = omega (arith, c .before .before .loop-test .taken) in
     ((p .0 .0, omega (arith, rows .car-of r l, rows .below r l), p .0 .1, p .0 .2, p .0 .3, p .0 .4, p .0 .5, omega (arith, part-length (at-loop .at) (a .columns) (at-loop .matrix) (omega (arith, inv .1 .near, inv .1 .held .size, p .0 .8, p .0 .9, rows .few)), p .0 .7)), p .1 .0)
 
 loop-again : tie.Need-loop-again Inv-loop μ-loop
@@ -67,7 +67,7 @@ loop-again c =
     let l = c .before .before .before .before .before .before .loop in
     let call = c .before .before .fill-car in
     let rows = p .1 .1 in
-    let t = c .before .before .before .before .before .loop-test .taken in
+    let t : l .r < a .n = omega (arith, c .before .before .before .before .before .loop-test .taken) in
     let room : l .at + a .columns ≤ length (a .matrix .now) = omega (arith, l .inv .1 .near, p .0 .8, p .0 .9, rows .few) in (
       omega arith,
       filling-next (sheetOf (a .s .now) (a .c)) (a .limit) (a .columns) (l .r) (l .at) _ (l .ranked) _ (l .at + a .columns - l .at) _ (a .matrix .now) (l .matrix) _ (p .0 .8) (p .0 .0 .stops) room (l .inv .1) (sym (rows .car-of (l .r) t)) (omega arith) (part-length (l .at) (a .columns) (l .matrix) (omega (arith, room, l .inv .1 .held .size))) (call .ensures .0) (call .ensures .1),
