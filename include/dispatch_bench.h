@@ -18,6 +18,40 @@ uint32_t dispatch_bench_read(const uint8_t *sheet, size_t length, uint64_t *offs
    than cars, cell_count not cars * columns, a cell above 281,474,976,710,656, or fewer places than cars. */
 uint32_t dispatch_bench_choose(size_t cars, size_t columns, const uint64_t *cells, size_t cell_count, uint32_t *chosen, size_t places, uint64_t *total);
 
+/* The refusals, by document 01's numbers. */
+enum dispatch_bench_refusal {
+    DISPATCH_BENCH_ACCEPTED = 0,
+    DISPATCH_BENCH_SHORT_BUFFER = 1,    /* a lent buffer is too short (dispatch_bench_pass alone) */
+    DISPATCH_BENCH_PAST_END = 2,        /* what is stated passes the last byte */
+    DISPATCH_BENCH_EDITION = 3,         /* the edition is not known */
+    DISPATCH_BENCH_UNKNOWN_KIND = 4,    /* a record of an unknown kind */
+    DISPATCH_BENCH_BODY_LENGTH = 5,     /* a body of another length than its kind's */
+    DISPATCH_BENCH_OUT_OF_ORDER = 6,    /* kinds that fall, or a first record that is no policy */
+    DISPATCH_BENCH_TABLE_FULL = 7,      /* more records of a kind than there may be */
+    DISPATCH_BENCH_UNUSED_BITS = 8,     /* bits where there must be none, or an unknown code */
+    DISPATCH_BENCH_ID = 9,              /* an id that is 0, repeated or out of order */
+    DISPATCH_BENCH_UNKNOWN_ID = 10,     /* an id or a mask bit without a record */
+    DISPATCH_BENCH_DOUBLE = 11,         /* a double outside its range */
+    DISPATCH_BENCH_LIMIT = 12,          /* a candidate limit of 0 */
+    DISPATCH_BENCH_TICKS = 13,          /* door ticks that pass 32 bits */
+    DISPATCH_BENCH_WAIT = 14,           /* wait ticks above 2^53 */
+    DISPATCH_BENCH_LOAD_WEIGHT = 15,    /* RSR with a load weight above 0 */
+    DISPATCH_BENCH_TAIL = 16            /* what follows the last record */
+};
+
+/* The least lengths of the buffers that a pass is lent. */
+#define DISPATCH_BENCH_DECISIONS 32
+#define DISPATCH_BENCH_CELLS 2048
+#define DISPATCH_BENCH_SWEEPS 32
+
+/* A pass over a sheet. 0: *cars idle cars, *stops pending stops, *total their total; in decisions the stop id of each idle car in record order (0 for
+   idle), in matrix the cells row by row, a row of max(*cars, *stops) columns for each idle car, in sweeps 2 * sweep + mode of each car record; what
+   stands past these is left, and so is *offset. *ranked is the number of pairs ranked: at most *cars times the sheet's limit (*cars * *stops with
+   none). Otherwise the refusal's number, 1 to 16, with the bit offset where the refused record starts in *offset (0 for 1); nothing else is written.
+   A null pointer may be given for no parameter, and no two may overlap. */
+uint32_t dispatch_bench_pass(const uint8_t *sheet, size_t length, uint32_t *decisions, size_t decision_count, uint64_t *matrix, size_t cell_count,
+                             uint8_t *sweeps, size_t sweep_count, uint64_t *cars, uint64_t *stops, uint64_t *total, uint64_t *ranked, uint64_t *offset);
+
 #ifdef __cplusplus
 }
 #endif
