@@ -1,5 +1,5 @@
 -- bits::word_inside meets its contract.
-use mathlib.Core.Path.{_≡_, ap, _∙_}
+use mathlib.Core.Path.{_≡_, sym, ap, _∙_, subst}
 use Prim.Native.Nat.{ℕ, _≤_, _<_, _+_, _-_, _*_, _%_, _^_}
 use native.Mathlib.Omega.{arith}
 use borrow.Author.Needs.{needs}
@@ -31,6 +31,14 @@ sum-is c =
     let l = c .before .before .loop in
     rw (l .inv .1) (word-grows (a .s .now) (a .k) (l .i) (omega arith) (byte-lt c))
 
+loop-again : tie.Need-loop-again Inv μ
+loop-again c = (search needs, sum-is c)
+
+sum-fits : (c : tie.After-shared-slice-known Inv μ) → c .before .before .loop .r * 2 ^ 8 % 2 ^ 64 + getD (c .before .before .before .args .s .now) (c .before .before .before .args .k + c .before .before .loop .i) 0 < 2 ^ 64
+sum-fits c =
+    let a = c .before .before .before .args in
+    subst (λ (x : ℕ). x < 2 ^ 64) (sym (sum-is c)) (field-64 (a .s .now) (8 * a .k) (8 * (c .before .before .loop .i + 1)) (omega arith))
+
 returns : tie.Need-returns Inv μ
 returns c =
     let e : c .before .loop .i ≡ 8 = omega arith in
@@ -41,5 +49,5 @@ pub word-inside-spec : {M : Type 1} → statement M
 word-inside-spec =
     tie.close
     (tie.spec Inv μ loop-holds (λ c. search needs) (λ c. search needs) (λ c. record { fits = omega (arith, byte-lt c) })
-    (λ c. record { fits = rw (sum-is c) (field-64 _ _ _ (omega arith)) })
-    (λ c. search needs) (λ c. search needs) (λ c. (search needs, sum-is c)) returns)
+    (λ c. record { fits = sum-fits c })
+    (λ c. search needs) (λ c. search needs) loop-again returns)

@@ -27,6 +27,14 @@ sum-is c =
     let b : getD (a .s .now) (a .k + l .i) 0 < 256 = subst (λ (x : ℕ). x < 256) (c .byte .ensures .0) (c .byte .ensures .1) in
     rw (l .inv .1, c .byte .ensures .0) (word-grows (a .s .now) (a .k) (l .i) (omega arith) b)
 
+loop-again : tie.Need-loop-again Inv μ
+loop-again c = (search needs, sum-is c)
+
+sum-fits : (c : tie.After-byte Inv μ) → c .before .before .loop .r * 2 ^ 8 % 2 ^ 64 + c .byte .result < 2 ^ 64
+sum-fits c =
+    let a = c .before .before .before .before .args in
+    subst (λ (x : ℕ). x < 2 ^ 64) (sym (sum-is c)) (field-64 (a .s .now) (8 * a .k) (8 * (c .before .before .loop .i + 1)) (omega arith))
+
 returns : tie.Need-returns Inv μ
 returns c =
     let e : c .before .loop .i ≡ 8 = omega arith in
@@ -37,5 +45,5 @@ pub word-past-spec : {M : Type 1} → statement M
 word-past-spec =
     tie.close
     (tie.spec Inv μ loop-holds (λ c. search needs) (λ c κs. search needs)
-    (λ c. record { fits = rw (sum-is c) (field-64 _ _ _ (omega arith)) })
-    (λ c. search needs) (λ c. search needs) (λ c. (search needs, sum-is c)) returns)
+    (λ c. record { fits = sum-fits c })
+    (λ c. search needs) (λ c. search needs) loop-again returns)

@@ -2,7 +2,7 @@
 use Rattle.coverage.specs.Coverage.{coveredBy}
 use borrow.Author.Needs.{needs}
 use borrow.Author.Tests.{not-true, not-false}
-use mathlib.Core.Path.{sym, _∙_}
+use mathlib.Core.Path.{refl, sym, _∙_}
 use Rattle.coverage.proofs.is_covered.Statement.{statement}
 use Rattle.coverage.proofs.is_covered.Tie as tie
 
@@ -23,7 +23,7 @@ returns-3 c =
       sym (c .before .before .before .lines-served .ensures) ∙ not-false _ (c .before .before .if2 .left),
       c .before .weight-at .ensures,
       c .capacity-at .ensures,
-    )
+    ) refl
 
 pub is-covered-spec : {M : Type 1} → statement M
 is-covered-spec =

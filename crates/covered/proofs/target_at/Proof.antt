@@ -1,22 +1,53 @@
 -- covered::target_at meets its contract.
+use Prim.Native.Nat.{ℕ, _+_}
+use Rattle.bits.specs.Field.{fieldAt}
 use Rattle.components.specs.Cars.{servicing}
 use Rattle.components.specs.Codes.{phaseOf}
-use Rattle.layout.specs.Records.{carOf}
+use Rattle.components.specs.declared.Phase.{Phase}
+use Rattle.covered.specs.Columns.{servedTarget}
+use Rattle.layout.specs.Records.{from, carOf}
 use borrow.Author.Needs.{needs}
-use mathlib.Core.Path.{_≡_, refl, sym, ap, ap₂, _∙_}
+use mathlib.Core.Bool.{Bool, true, false}
+use mathlib.Core.List.{List}
+use mathlib.Core.Path.{_≡_}
 use Rattle.covered.proofs.target_at.Statement.{statement}
 use Rattle.covered.proofs.target_at.Tie as tie
 
-returns : tie.Need-returns
+serving : (s : List ℕ) (at : ℕ) {code stop target : ℕ} {phase : Phase} {serves : Bool} →
+    code ≡ fieldAt s (at + 86) 3 →
+    stop ≡ fieldAt s (at + 89) 32 →
+    phase ≡ phaseOf code stop →
+    serves ≡ servicing phase →
+    serves ≡ true →
+    target ≡ fieldAt s (at + 122) 32 →
+    target ≡ servedTarget (carOf (from s at))
 unfolding carOf
+serving s at code-is stop-is phase-is serves-is is target-is =
+    rw (← code-is, ← stop-is, ← phase-is, ← serves-is, is) target-is
+
+not-serving : (s : List ℕ) (at : ℕ) {code stop : ℕ} {phase : Phase} {serves : Bool} →
+    code ≡ fieldAt s (at + 86) 3 →
+    stop ≡ fieldAt s (at + 89) 32 →
+    phase ≡ phaseOf code stop →
+    serves ≡ servicing phase →
+    serves ≡ false →
+    0 ≡ servedTarget (carOf (from s at))
+unfolding carOf
+not-serving s at code-is stop-is phase-is serves-is is = rw (← code-is, ← stop-is, ← phase-is, ← serves-is, is)
+
+returns : tie.Need-returns
 returns c =
-    rw (sym (c .before .before .servicing .ensures ∙ ap servicing (c .before .before .before .of-code .ensures ∙ ap₂ phaseOf (c .before .before .before .before .before .field .ensures .is) (c .before .before .before .before .field32 .ensures))) ∙ c .before .if1 .taken)
-    (c .field322 .ensures)
+    let read = c .before .before .before in
+    let a = read .before .before .before .before .args in
+    serving (a .s .now) (a .at) (read .before .before .field .ensures .is) (read .before .field32 .ensures) (read .of-code .ensures)
+    (c .before .before .servicing .ensures) (c .before .if1 .taken) (c .field322 .ensures)
 
 returns-2 : tie.Need-returns-2
-unfolding carOf
 returns-2 c =
-    rw (sym (c .before .servicing .ensures ∙ ap servicing (c .before .before .of-code .ensures ∙ ap₂ phaseOf (c .before .before .before .before .field .ensures .is) (c .before .before .before .field32 .ensures))) ∙ c .if1 .left)
+    let read = c .before .before in
+    let a = read .before .before .before .before .args in
+    not-serving (a .s .now) (a .at) (read .before .before .field .ensures .is) (read .before .field32 .ensures) (read .of-code .ensures)
+    (c .before .servicing .ensures) (c .if1 .left)
 
 pub target-at-spec : {M : Type 1} → statement M
 target-at-spec =

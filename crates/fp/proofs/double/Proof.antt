@@ -1,6 +1,8 @@
 -- fp::double meets its contract.
+use Prim.Native.Nat.{_%_, _<_, _≤_}
 use mathlib.Core.Path.{_∙_}
 use borrow.Author.Tests.{le-ltb, lt-ltb}
+use native.Mathlib.Omega.{arith}
 use borrow.Author.Needs.{needs}
 use lib.Ieee.{binary64}
 use lib.Ieee.Bits.{nanBits-above}
@@ -8,11 +10,16 @@ use Rattle.fp.proofs.Signs.{nan-made}
 use Rattle.fp.proofs.double.Statement.{statement}
 use Rattle.fp.proofs.double.Tie as tie
 
+-- at most infinity's pattern, the sign aside
 float-from-bits-result : tie.Need-float-from-bits-result
-float-from-bits-result c = rw (nanBits-above, le-ltb _ _ (c .if1 .left)) tt
+float-from-bits-result c =
+    let most : c .before .args .b % 0x8000_0000_0000_0000 ≤ 0x7ff0_0000_0000_0000 = omega arith in rw (nanBits-above, le-ltb _ _ most) tt
 
+-- above it
 returns : tie.Need-returns
-returns c = nan-made (c .before .args .b) (nanBits-above binary64 (c .before .args .b) ∙ lt-ltb _ _ (c .if1 .taken))
+returns c =
+    let above : 0x7ff0_0000_0000_0000 < c .before .args .b % 0x8000_0000_0000_0000 = omega arith in
+    nan-made (c .before .args .b) (nanBits-above binary64 (c .before .args .b) ∙ lt-ltb _ _ above)
 
 returns-2 : tie.Need-returns-2
 returns-2 c = search needs

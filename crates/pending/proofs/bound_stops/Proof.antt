@@ -6,6 +6,7 @@ use Rattle.bits.specs.Field.{fieldAt}
 use Rattle.columns.specs.Held.{held}
 use Rattle.columns.specs.Named.{contains, guarded}
 use Rattle.laws.specs.Folds.{any, any-cong}
+use Rattle.laws.specs.Tables.{tab}
 use Rattle.layout.specs.Records.{carOf, aboardOf, sheetOf}
 use Rattle.manifest.specs.World.{stopId}
 use Rattle.pending.specs.Masks.{boundId}
@@ -14,10 +15,14 @@ use borrow.Author.Needs.{needs}
 use lib.Dec.{eqb}
 use lib.ListN.{getD}
 use mathlib.Core.Bool.{Bool, _&&_, and-comm}
-use mathlib.Core.List.{List}
-use mathlib.Core.Path.{_≡_, sym, ap, _∙_}
+use mathlib.Core.List.{List, _++_}
+use mathlib.Core.Path.{_≡_, refl, sym, ap, _∙_}
 use Rattle.pending.proofs.bound_stops.Statement.{statement}
 use Rattle.pending.proofs.bound_stops.Tie as tie
+
+-- a column of one table is that of another which is the same
+held-as : (f : ℕ → ℕ) (n : ℕ) (g : ℕ → ℕ) (r l : List ℕ) → l ≡ tab g n ++ r → g ≡ f → (d k : ℕ) → k < n → getD l k d ≡ f k
+held-as f n g r l e same d k h = held g n r l e d k h ∙ ap (λ (q : ℕ → ℕ). q k) same
 
 -- a car id is among the idle cars' ids
 in-idle : (c : tie.After-named-stops) (x : ℕ) → 0 < x
@@ -31,7 +36,7 @@ in-idle c x pos =
     let at = c .before .before .before .before .before .before .before .before .before .before .before .cars-from in
     any-cong (λ i. eqb (getD (c .before .before .before .before .before .before .before .before .before .fill-guarded .last .1 .1 .1 .1 .1 .1 .1 .0) i 0) x) (λ i. idle s i && eqb (s .car i .id) x) (a .c .cars)
     (λ i li.
-    ap (λ (y : ℕ). eqb y x) (held (λ k. guarded b (at .result + 737 * k) 22 154 1) (a .c .cars) _ _ (c .before .before .before .before .before .before .before .before .before .fill-guarded .ensures .1) 0 i li)
+    ap (λ (y : ℕ). eqb y x) (held-as (λ k. guarded b (at .result + 737 * k) 22 154 1) (a .c .cars) _ _ _ (c .before .before .before .before .before .before .before .before .before .fill-guarded .ensures .1) refl 0 i li)
     ∙ guarded-column b (at .result + 737 * i) 22 154 1 x pos
     ∙ ap (λ (t : Bool). eqb (fieldAt b (at .result + 737 * i + 22) 32) x && t) (flag-is b (at .result + 737 * i + 154))
     ∙ ap (λ (y : ℕ). eqb (fieldAt b (y + 737 * i + 22) 32) x && eqb (fieldAt b (y + 737 * i + 154) 1) 1) (at .ensures)

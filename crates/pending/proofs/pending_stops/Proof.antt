@@ -19,9 +19,13 @@ covered-stops-requires c κs =
 returns : tie.Need-returns
 returns c =
     let a = c .before .before .before .before .before .before .args in
+    let bound = c .before .before .before .bound-stops in
+    let covered = c .before .before .covered-stops in
+    let dropped : c .before .without .result ≡ built (λ j. has (covered .result) j && not (has (bound .result) j)) 64 =
+    c .before .without .ensures in
     c .without2 .ensures
-    ∙ ap (λ (x : ℕ). built (λ j. has (a .demand) j && not (has x j)) 64) (c .before .without .ensures)
-    ∙ pending-mask (sheetOf (a .s .now) (a .c)) (a .demand) (c .before .before .before .bound-stops .result) (c .before .before .covered-stops .result) (c .before .before .before .before .before .before .pre .1) (c .before .before .before .bound-stops .ensures) (c .before .before .covered-stops .ensures)
+    ∙ ap (λ (x : ℕ). built (λ j. has (a .demand) j && not (has x j)) 64) dropped
+    ∙ pending-mask (sheetOf (a .s .now) (a .c)) (a .demand) (bound .result) (covered .result) (c .before .before .before .before .before .before .pre .1) (bound .ensures) (covered .ensures)
 
 pub pending-stops-spec : {M : Type 1} → statement M
 pending-stops-spec =

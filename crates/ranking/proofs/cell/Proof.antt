@@ -2,17 +2,20 @@
 use Rattle.assignment.specs.Cells.{rankCell}
 use Rattle.ranking.specs.Ranking.{cellBy}
 use borrow.Author.Needs.{needs}
-use mathlib.Core.Path.{sym, ap, _∙_}
+use mathlib.Core.Bool.{true, false}
+use mathlib.Core.Path.{_≡_, sym, ap, _∙_}
 use Rattle.ranking.proofs.cell.Statement.{statement}
 use Rattle.ranking.proofs.cell.Tie as tie
 
 returns : tie.Need-returns
 unfolding cellBy
-returns c = rw (sym (c .before .before .before .has .ensures) ∙ c .before .before .if1 .taken) (c .rank-cell .ensures ∙ ap rankCell (c .before .rank .ensures))
+returns c =
+    let kept : c .before .before .before .has .result ≡ true = c .before .before .if1 .taken in
+    rw (sym (c .before .before .before .has .ensures) ∙ kept) (c .rank-cell .ensures ∙ ap rankCell (c .before .rank .ensures))
 
 returns-2 : tie.Need-returns-2
 unfolding cellBy
-returns-2 c = rw (sym (c .before .has .ensures) ∙ c .if1 .left)
+returns-2 c = let cut : c .before .has .result ≡ false = c .if1 .left in rw (sym (c .before .has .ensures) ∙ cut)
 
 pub cell-spec : {M : Type 1} → statement M
 cell-spec =

@@ -1,12 +1,13 @@
 -- ranking::scan_rank meets its contract.
 use Rattle.ranking.specs.Ranking.{scanBy}
 use borrow.Author.Needs.{needs}
+use mathlib.Core.Path.{refl}
 use Rattle.ranking.proofs.scan_rank.Statement.{statement}
 use Rattle.ranking.proofs.scan_rank.Tie as tie
 
 returns : tie.Need-returns
 unfolding scanBy
-returns c = rw (c .rank .ensures, c .before .pair-is-useful .ensures, c .before .before .has .ensures)
+returns c = rw (c .rank .ensures, c .before .pair-is-useful .ensures, c .before .before .has .ensures) refl
 
 pub scan-rank-spec : {M : Type 1} → statement M
 scan-rank-spec =

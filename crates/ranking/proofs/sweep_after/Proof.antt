@@ -3,7 +3,9 @@ use Rattle.ranking.specs.Ranking.{sweepBy}
 use Rattle.scan.specs.Scan.{preparedBy}
 use Rattle.sweep.specs.declared.Sweep.{Sweep}
 use borrow.Author.Needs.{needs}
-use mathlib.Core.Path.{sym, ap, _∙_}
+use lib.Dec.{eqb}
+use mathlib.Core.Bool.{true, false, not, _&&_}
+use mathlib.Core.Path.{_≡_, ap, _∙_}
 use Rattle.ranking.proofs.sweep_after.Statement.{statement}
 use Rattle.ranking.proofs.sweep_after.Tie as tie
 
@@ -19,12 +21,16 @@ returns-3 : tie.Need-returns-3
 unfolding sweepBy
 returns-3 c =
     let a = c .before .before .before .before .before .before .before .args in
-    rw (c .before .before .before .enum-told3 .given .1, c .before .if1 .taken)
+    let prepares : (a .car .listed && not (eqb (a .pending) 0)) ≡ true = c .before .if1 .taken in
+    rw (c .before .before .before .enum-told3 .given .1, prepares)
     (c .prepare .ensures ∙ ap (λ (w : Sweep). preparedBy w (a .car .position) (a .demand) (a .xs .now) (a .n)) (c .before .before .before .before .before .of .ensures))
 
 returns-4 : tie.Need-returns-4
 unfolding sweepBy
-returns-4 c = rw (c .before .before .enum-told3 .given .1, c .if1 .left) (c .before .before .before .before .of .ensures)
+returns-4 c =
+    let a = c .before .before .before .before .before .before .args in
+    let keeps : (a .car .listed && not (eqb (a .pending) 0)) ≡ false = c .if1 .left in
+    rw (c .before .before .enum-told3 .given .1, keeps) (c .before .before .before .before .of .ensures)
 
 returns-5 : tie.Need-returns-5
 unfolding sweepBy

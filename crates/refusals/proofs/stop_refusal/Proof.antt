@@ -1,13 +1,41 @@
 -- refusals::stop_refusal meets its contract.
-use Rattle.layout.specs.Refusals.{refusal9Stop, refusal11Stop}
-use Rattle.layout.specs.Verdict.{stopRefusal}
+use Prim.Native.Nat.{ℕ, _+_}
+use Rattle.bits.specs.Field.{fieldAt}
+use Rattle.fp.specs.Ranges.{isPosition}
+use Rattle.layout.specs.Offsets.{endOf}
+use Rattle.layout.specs.Records.{from, double}
+use Rattle.layout.specs.Refusals.{lastStop, refusal9Stop, refusal11Stop}
+use Rattle.layout.specs.Verdict.{pick, stopRefusal}
+use Rattle.layout.specs.declared.Counts.{Counts}
 use borrow.Author.Needs.{needs}
+use lib.Dec.{eqb, leb}
+use lib.Ieee.{Float}
+use mathlib.Core.Bool.{Bool, not, _||_}
+use mathlib.Core.List.{List}
+use mathlib.Core.Path.{_≡_}
 use Rattle.refusals.proofs.stop_refusal.Statement.{statement}
 use Rattle.refusals.proofs.stop_refusal.Tie as tie
 
-returns : tie.Need-returns
+-- the conditions as they are read, then the picks from the last to the first
+by-number : (s : List ℕ) (c : Counts) {at id last r11 r9 : ℕ} {position : Float} {placed : Bool} →
+    at ≡ endOf c →
+    id ≡ fieldAt s (at + 22) 32 →
+    last ≡ lastStop s c →
+    position ≡ double (from s at) 54 →
+    placed ≡ isPosition position →
+    r11 ≡ pick (not placed) 11 0 →
+    r9 ≡ pick (eqb id 0 || leb id last) 9 r11 →
+    r9 ≡ stopRefusal s c (from s (endOf c))
 unfolding stopRefusal refusal9Stop refusal11Stop
-returns c = cc
+by-number s c at-is id-is last-is position-is placed-is is11 is9 = rw (is9, is11, placed-is, position-is, last-is, id-is, at-is)
+
+returns : tie.Need-returns
+returns c =
+    let read = c .before .before in
+    let a = read .before .before .before .before .before .before .args in
+    by-number (a .s .now) (a .c) (read .before .before .before .before .end-of .ensures) (read .before .before .before .field32 .ensures)
+    (read .before .before .last-stop .ensures) (read .before .double-at .ensures) (read .is-position .ensures) (c .before .pick .ensures)
+    (c .pick2 .ensures)
 
 pub stop-refusal-spec : {M : Type 1} → statement M
 stop-refusal-spec =

@@ -1,13 +1,44 @@
 -- refusals_car::car_refusal meets its contract.
-use Rattle.layout.specs.Verdict.{carRefusal}
+use Prim.Native.Nat.{ℕ}
+use Rattle.layout.specs.Offsets.{endOf}
+use Rattle.layout.specs.Records.{from}
+use Rattle.layout.specs.Refusals.{refusal8Car, refusal9Car, refusal10Car, refusal11Car, refusal13}
+use Rattle.layout.specs.Verdict.{pick, carRefusal}
+use Rattle.layout.specs.declared.Counts.{Counts}
 use borrow.Author.Needs.{needs}
+use mathlib.Core.Bool.{Bool}
+use mathlib.Core.List.{List}
+use mathlib.Core.Path.{_≡_}
 use Rattle.refusals_car.proofs.car_refusal.Statement.{statement}
 use Rattle.refusals_car.proofs.car_refusal.Tie as tie
 
-returns : tie.Need-returns
+-- the conditions as they are read, then the picks from the last to the first
+by-number : (s : List ℕ) (c : Counts) {at r13 r11 r10 r9 r8 : ℕ} {outside long unused bad unknown : Bool} →
+    at ≡ endOf c →
+    outside ≡ refusal11Car (from s at) →
+    long ≡ refusal13 (from s at) →
+    unused ≡ refusal8Car (from s at) →
+    bad ≡ refusal9Car s c (from s (endOf c)) →
+    unknown ≡ refusal10Car s c (from s (endOf c)) →
+    r13 ≡ pick long 13 0 →
+    r11 ≡ pick outside 11 r13 →
+    r10 ≡ pick unknown 10 r11 →
+    r9 ≡ pick bad 9 r10 →
+    r8 ≡ pick unused 8 r9 →
+    r8 ≡ carRefusal s c (from s (endOf c))
 unfolding carRefusal
+by-number s c at-is outside-is long-is unused-is bad-is unknown-is is13 is11 is10 is9 is8 =
+    rw (is8, is9, is10, is11, is13, unknown-is, bad-is, unused-is, long-is, outside-is, at-is)
+
+returns : tie.Need-returns
 returns c =
-    rw (c .pick5 .ensures, c .before .pick4 .ensures, c .before .before .pick3 .ensures, c .before .before .before .unknown-records .ensures, c .before .before .before .before .bad-ids .ensures, c .before .before .before .before .before .unused-bits .ensures, c .before .before .before .before .before .before .pick2 .ensures, c .before .before .before .before .before .before .before .pick .ensures, c .before .before .before .before .before .before .before .before .long-doors .ensures, c .before .before .before .before .before .before .before .before .before .out-of-range .ensures, c .before .before .before .before .before .before .before .before .before .before .end-of .ensures)
+    let ids = c .before .before .before .before in
+    let late = ids .before .before in
+    let a = late .before .before .before .before .before .before .args in
+    by-number (a .s .now) (a .c) (late .before .before .before .before .end-of .ensures) (late .before .before .before .out-of-range .ensures)
+    (late .before .before .long-doors .ensures) (ids .before .unused-bits .ensures) (ids .bad-ids .ensures)
+    (c .before .before .before .unknown-records .ensures) (late .before .pick .ensures) (late .pick2 .ensures)
+    (c .before .before .pick3 .ensures) (c .before .pick4 .ensures) (c .pick5 .ensures)
 
 pub car-refusal-spec : {M : Type 1} → statement M
 car-refusal-spec =

@@ -1,12 +1,25 @@
 -- refusals_car::long_doors meets its contract.
+use Prim.Native.Nat.{ℕ, _+_, _*_}
+use Rattle.bits.specs.Field.{fieldAt}
+use Rattle.layout.specs.Records.{from}
 use Rattle.layout.specs.Refusals.{refusal13}
 use borrow.Author.Needs.{needs}
+use lib.Dec.{ltb}
+use mathlib.Core.List.{List}
+use mathlib.Core.Path.{_≡_}
 use Rattle.refusals_car.proofs.long_doors.Statement.{statement}
 use Rattle.refusals_car.proofs.long_doors.Tie as tie
 
-returns : tie.Need-returns
+as-read : (s : List ℕ) (at : ℕ) {transition dwell : ℕ} →
+    transition ≡ fieldAt s (at + 545) 32 →
+    dwell ≡ fieldAt s (at + 577) 32 →
+    ltb 4294967295 (2 * transition + dwell) ≡ refusal13 (from s at)
 unfolding refusal13
-returns c = cc
+as-read s at transition-is dwell-is = rw (transition-is, dwell-is)
+
+returns : tie.Need-returns
+returns c =
+    let a = c .before .before .before .args in as-read (a .s .now) (a .at) (c .before .field .ensures .is) (c .field2 .ensures .is)
 
 pub long-doors-spec : {M : Type 1} → statement M
 long-doors-spec =

@@ -1,12 +1,38 @@
 -- refusals_car::unknown_records meets its contract.
-use Rattle.layout.specs.Refusals.{refusal10Car}
+use Prim.Native.Nat.{ℕ, _+_}
+use Rattle.bits.specs.Field.{fieldAt}
+use Rattle.layout.specs.Offsets.{endOf}
+use Rattle.layout.specs.Records.{from}
+use Rattle.layout.specs.Refusals.{hasLine, refusal10Car}
+use Rattle.layout.specs.declared.Counts.{Counts}
+use Rattle.mask.specs.Mask.{pastStops}
 use borrow.Author.Needs.{needs}
+use mathlib.Core.Bool.{Bool, not, _||_}
+use mathlib.Core.List.{List}
+use mathlib.Core.Path.{_≡_}
 use Rattle.refusals_car.proofs.unknown_records.Statement.{statement}
 use Rattle.refusals_car.proofs.unknown_records.Tie as tie
 
-returns : tie.Need-returns
+as-read : (s : List ℕ) (c : Counts) {at line restricted calls : ℕ} {known restricted-past calls-past : Bool} →
+    at ≡ endOf c →
+    line ≡ fieldAt s (at + 54) 32 →
+    known ≡ hasLine s c line →
+    restricted ≡ fieldAt s (at + 609) 64 →
+    restricted-past ≡ pastStops restricted (c .stops) →
+    calls ≡ fieldAt s (at + 673) 64 →
+    calls-past ≡ pastStops calls (c .stops) →
+    (not known || (restricted-past || calls-past)) ≡ refusal10Car s c (from s (endOf c))
 unfolding refusal10Car
-returns c = cc
+as-read s c at-is line-is known-is restricted-is restricted-past-is calls-is calls-past-is =
+    rw (calls-past-is, calls-is, restricted-past-is, restricted-is, known-is, line-is, at-is)
+
+returns : tie.Need-returns
+returns c =
+    let masks = c .before .before .before in
+    let a = masks .before .before .before .before .before .args in
+    as-read (a .s .now) (a .c) (masks .before .before .before .end-of .ensures) (masks .before .before .field32 .ensures)
+    (masks .before .has-line .ensures) (masks .field .ensures .is) (c .before .before .past-stops .ensures) (c .before .field2 .ensures .is)
+    (c .past-stops2 .ensures)
 
 pub unknown-records-spec : {M : Type 1} → statement M
 unknown-records-spec =

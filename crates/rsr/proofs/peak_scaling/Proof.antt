@@ -1,5 +1,6 @@
 -- rsr::peak_scaling meets its contract.
 use borrow.Author.Needs.{needs}
+use mathlib.Core.Path.{refl}
 use Rattle.rsr.proofs.peak_scaling.Statement.{statement}
 use Rattle.rsr.proofs.peak_scaling.Tie as tie
 
@@ -10,7 +11,7 @@ returns-2 : tie.Need-returns-2
 returns-2 c = simp (c .enum-told2 .given .1)
 
 returns-3 : tie.Need-returns-3
-returns-3 c = simp (c .enum-told3 .given .1)
+returns-3 c = simp (c .enum-told3 .given .1) refl
 
 returns-4 : tie.Need-returns-4
 returns-4 c = simp (c .enum-told4 .given .1)

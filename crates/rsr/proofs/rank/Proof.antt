@@ -1,20 +1,78 @@
 -- rsr::rank meets its contract.
-use Rattle.rsr.specs.Pairs.{rankBy}
+use Prim.Native.Nat.{ℕ}
+use Rattle.components.specs.declared.Car.{Car}
+use Rattle.components.specs.declared.Place.{Place}
+use Rattle.components.specs.declared.Policy.{Policy}
+use Rattle.components.specs.declared.Rank.{Rank}
+use Rattle.components.specs.declared.Rank.the-variants.{Never}
+use Rattle.dispatch.specs.Pairs.{usefulBy}
+use Rattle.etd.specs.Etd.{finiteRank}
+use Rattle.fp.specs.Num.{zero}
+use Rattle.manifest.specs.declared.Waiters.{Waiters}
+use Rattle.mask.specs.Mask.{has}
+use Rattle.riders.specs.declared.Riders.{Riders}
+use Rattle.rsr.specs.Pairs.{costBy, rankBy}
 use borrow.Author.Needs.{needs}
+use lib.Ieee.{Float, nan, le}
+use lib.ListN.{getD}
+use mathlib.Core.Bool.{Bool, true, false}
+use mathlib.Core.List.{List}
+use mathlib.Core.Path.{_≡_}
 use Rattle.rsr.proofs.rank.Statement.{statement}
 use Rattle.rsr.proofs.rank.Tie as tie
 
+module _ (y : Policy) (car : Car) (goal : Place) (r : Riders) (dests : List Float) (w : Waiters) (xs : List Float) (j : ℕ) where
+  stands : {here useful : Bool} →
+      here ≡ has (r .exits) j →
+      useful ≡ usefulBy car goal r dests w here (getD xs j nan) true →
+      useful ≡ true →
+      le (car .speed) zero ≡ true →
+      Never ≡ rankBy y car goal r dests w xs j
+  unfolding rankBy
+  stands here-is useful-is useful slow = rw (← here-is, ← useful-is, useful, slow)
+
+  moves : {here call useful : Bool} {cost : Float} {rank : Rank} →
+      here ≡ has (r .exits) j →
+      call ≡ has (car .calls) j →
+      useful ≡ usefulBy car goal r dests w here (getD xs j nan) true →
+      useful ≡ true →
+      le (car .speed) zero ≡ false →
+      cost ≡ costBy y car goal w call (getD xs j nan) →
+      rank ≡ finiteRank cost →
+      rank ≡ rankBy y car goal r dests w xs j
+  unfolding rankBy
+  moves here-is call-is useful-is useful quick cost-is rank-is =
+      rw (← here-is, ← call-is, ← useful-is, useful, quick, ← cost-is) rank-is
+
+  useless : {here useful : Bool} →
+      here ≡ has (r .exits) j →
+      useful ≡ usefulBy car goal r dests w here (getD xs j nan) true →
+      useful ≡ false →
+      Never ≡ rankBy y car goal r dests w xs j
+  unfolding rankBy
+  useless here-is useful-is not-useful = rw (← here-is, ← useful-is, not-useful)
+
 returns : tie.Need-returns
-unfolding rankBy
-returns c = simp (← c .before .before .before .before .before .has .ensures, ← c .before .before .before .pair-is-useful .ensures, c .before .before .if1 .taken, c .if2 .taken)
+returns c =
+    let asked = c .before .before .before in
+    let a = asked .before .before .before .before .before .before .args in
+    stands (a .policy) (a .car) (a .goal) (a .riders) (a .dests .now) (a .waiters) (a .xs .now) (a .j) (asked .before .before .has .ensures)
+    (asked .pair-is-useful .ensures) (c .before .before .if1 .taken) (c .if2 .taken)
 
 returns-2 : tie.Need-returns-2
-unfolding rankBy
-returns-2 c = simp (← c .before .before .before .before .before .before .before .has .ensures, ← c .before .before .before .before .before .before .has2 .ensures, ← c .before .before .before .before .before .pair-is-useful .ensures, c .before .before .before .before .if1 .taken, c .before .before .if2 .left, ← c .before .compute-cost .ensures) (c .finite-rank .ensures)
+returns-2 c =
+    let asked = c .before .before .before .before .before in
+    let a = asked .before .before .before .before .before .before .args in
+    moves (a .policy) (a .car) (a .goal) (a .riders) (a .dests .now) (a .waiters) (a .xs .now) (a .j) (asked .before .before .has .ensures)
+    (asked .before .has2 .ensures) (asked .pair-is-useful .ensures) (c .before .before .before .before .if1 .taken)
+    (c .before .before .if2 .left) (c .before .compute-cost .ensures) (c .finite-rank .ensures)
 
 returns-3 : tie.Need-returns-3
-unfolding rankBy
-returns-3 c = simp (← c .before .before .before .has .ensures, ← c .before .pair-is-useful .ensures, c .if1 .left)
+returns-3 c =
+    let asked = c .before in
+    let a = asked .before .before .before .before .before .before .args in
+    useless (a .policy) (a .car) (a .goal) (a .riders) (a .dests .now) (a .waiters) (a .xs .now) (a .j) (asked .before .before .has .ensures)
+    (asked .pair-is-useful .ensures) (c .if1 .left)
 
 pub rank-spec : {M : Type 1} → statement M
 rank-spec =

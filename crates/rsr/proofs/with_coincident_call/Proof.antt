@@ -1,11 +1,12 @@
 -- rsr::with_coincident_call meets its contract.
 use Rattle.rsr.specs.Rsr.{withCoincidentCall}
+use mathlib.Core.Path.{refl}
 use Rattle.rsr.proofs.with_coincident_call.Statement.{statement}
 use Rattle.rsr.proofs.with_coincident_call.Tie as tie
 
 returns : tie.Need-returns
 unfolding withCoincidentCall
-returns c = simp (c .before .if1 .taken, c .if2 .taken)
+returns c = simp (c .before .if1 .taken, c .if2 .taken) refl
 
 returns-2 : tie.Need-returns-2
 unfolding withCoincidentCall
