@@ -95,10 +95,10 @@ fn rank_by<'a>(
     xs: &'a [f64],
     calls: u64,
     demand: u64,
-    pending: u64,
+    stops: u64,
 ) -> Rank
     requires { ⌜ (verdict (now s) ≡ Accepted c) × (i < c .cars) × (j < c .stops) × (length (now ids) ≡ 64) × (length (now xs) ≡ 64) ⌝ }
-    requires { ⌜ HoldsStops (sheetOf (now s) c) (now ids) (now xs) (c .stops) × (calls ≡ stopMask (sheetOf (now s) c) (riderlessCall (sheetOf (now s) c))) × (demand ≡ stopMask (sheetOf (now s) c) (demandStop (sheetOf (now s) c))) × (pending ≡ stopMask (sheetOf (now s) c) (pending (sheetOf (now s) c))) ⌝ }
+    requires { ⌜ HoldsStops (sheetOf (now s) c) (now ids) (now xs) (c .stops) × (calls ≡ stopMask (sheetOf (now s) c) (riderlessCall (sheetOf (now s) c))) × (demand ≡ stopMask (sheetOf (now s) c) (demandStop (sheetOf (now s) c))) × (stops ≡ stopMask (sheetOf (now s) c) (pending (sheetOf (now s) c))) ⌝ }
     ensures { λ r. ⌜ r ≡ rank (sheetOf (now (s .entry)) c) i j ⌝ }
 {
     let mut acar = [0u32; 512];
@@ -115,7 +115,7 @@ fn rank_by<'a>(
         xs,
         &acar,
         &adest,
-        pending,
+        stops,
         demand,
         &mut dests,
     );
@@ -138,7 +138,7 @@ fn rank_of(s: &[u8], c: Counts, i: u32, j: usize) -> Rank
 }
 
 // What the proved functions answer of a pair. Where there is no such car or stop, 256, which no byte holds, so that it differs from all that is stored.
-fn answer(s: &[u8], c: Counts, i: u64, j: u64) -> Answer
+fn answer_for(s: &[u8], c: Counts, i: u64, j: u64) -> Answer
     requires { ⌜ verdict (now s) ≡ Accepted c ⌝ }
     ensures { λ r. ⌜ r ≡ answerFor (sheetOf (now (s .entry)) c) i j ⌝ }
 {
@@ -238,7 +238,7 @@ fn differ(s: &[u8], c: Counts, p: Pair, at: usize, first: bool) -> u64
     requires { ⌜ verdict (now s) ≡ Accepted c ⌝ }
     ensures { λ r. ⌜ r ≡ bit (differs (sheetOf (now (s .entry)) c) p) ⌝ }
 {
-    let got = answer(s, c, p.car, p.stop);
+    let got = answer_for(s, c, p.car, p.stop);
     let stored = p.stored;
     if same(got, stored) {
         return 0;
