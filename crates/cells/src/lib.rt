@@ -46,7 +46,13 @@ pub fn fill_aboard(s: &[u8], c: Counts, acar: &mut [u32], adest: &mut [u32])
 }
 
 // What waits at each stop.
-pub fn waiting<'a>(s: &'a [u8], c: Counts, ids: &'a [u32], xs: &'a [f64], calls: u64) -> [Waiters; 64]
+pub fn waiting<'a>(
+    s: &'a [u8],
+    c: Counts,
+    ids: &'a [u32],
+    xs: &'a [f64],
+    calls: u64,
+) -> [Waiters; 64]
     requires { ⌜ Small c × (length (now ids) ≡ 64) × (length (now xs) ≡ 64) × HoldsStops (sheetOf (now s) c) (now ids) (now xs) (c .stops) × (calls ≡ stopMask (sheetOf (now s) c) (riderlessCall (sheetOf (now s) c))) ⌝ }
     ensures { λ r. ⌜ Waiting (sheetOf (now (s .entry)) c) r ⌝ }
 {

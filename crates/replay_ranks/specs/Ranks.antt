@@ -104,10 +104,14 @@ unfoldable pub stepsOf : List ℕ → ℕ → Step
 stepsOf s zero = record { next = 0; totals = record { sheets = 0; ranks = 0; differ = 0 } }
 stepsOf s (suc k) = let p = stepsOf s k in cond (ltb (p .next) (length s)) (turnOf s (p .next) (p .totals)) p
 
--- the totals after all cases of the list
-pub record Replayed (s : List ℕ) (t : Totals) : Type 0 where
+-- byte at is reached with these totals
+pub record Reached (s : List ℕ) (at : ℕ) (t : Totals) : Type 0 where
   pub cases : ℕ
-  pub all : stepsOf s cases ≡ record { next = length s; totals = t }
+  pub all : stepsOf s cases ≡ record { next = at; totals = t }
+
+-- the totals after the whole list
+abbrev pub Replayed : List ℕ → Totals → Type 0
+Replayed s t = Reached s (length s) t
 
 -- ---- bounds
 

@@ -24,7 +24,8 @@ ghost use Rattle.manifest.specs.Stops.{HoldsStops};
 ghost use Rattle.assignment.specs.Pending.{pending};
 ghost use Rattle.assignment.specs.Cells.{rank};
 ghost use Rattle.pending.specs.Masks.{stopMask};
-ghost use Rattle.replay_ranks.specs.Ranks.{bitsOf, answerOf, answerFor, same, differs, caseAt, pairAt, refusedAt, comparedBy, cutAt, turnOf, Inside, Counted, Replayed};
+ghost use Rattle.replay_ranks.specs.Ranks.{bitsOf, answerOf, answerFor, same, differs, caseAt, pairAt, refusedAt, comparedBy, cutAt, Inside, Counted, Replayed};
+ghost use Rattle.replay_ranks.specs.TurnLaws.{Turned};
 
 // Whether there is a rank, 1 or 0, and its bits.
 struct Answer {
@@ -250,14 +251,7 @@ fn differ(s: &[u8], c: Counts, p: Pair, at: usize, first: bool) -> u64
 }
 
 // How many pairs of the case at byte at, which has the accepted sheet b, differ.
-fn count_differ<'a>(
-    s: &'a [u8],
-    b: &'a [u8],
-    c: Counts,
-    case: Case,
-    at: usize,
-    first: bool,
-) -> u64
+fn count_differ<'a>(s: &'a [u8], b: &'a [u8], c: Counts, case: Case, at: usize, first: bool) -> u64
     requires { ⌜ (verdict (now b) ≡ Accepted c) × Inside case ⌝ }
     ensures { λ r. ⌜ r ≡ count (λ k. differs (sheetOf (now (b .entry)) c) (pairAt (now (s .entry)) case k)) (case .pairs) ⌝ }
 {
@@ -332,7 +326,7 @@ fn cut(s: &[u8], at: usize, t: Totals) -> Step
 
 fn turn(s: &[u8], at: usize, t: Totals) -> Step
     requires { ⌜ (at < length (now s)) × (length (now s) ≤ 65536) × Counted at t ⌝ }
-    ensures { λ r. ⌜ (r ≡ turnOf (now (s .entry)) at t) × (at < r .next) × (r .next ≤ length (now (s .entry))) × Counted (r .next) (r .totals) ⌝ }
+    ensures { λ r. ⌜ Turned (now (s .entry)) at t r ⌝ }
 {
     let case = case_at(s, at);
     if s.len() < case.next {

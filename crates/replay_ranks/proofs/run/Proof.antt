@@ -1,37 +1,38 @@
+-- replay_ranks::run meets its contract.
+use Prim.Native.Nat.{_-_, _≤_}
+use Rattle.replay_ranks.specs.Ranks.{Reached, Counted}
+use Rattle.replay_ranks.specs.TurnLaws.{reached-start, reached-next, reached-end}
 use borrow.Author.Needs.{needs}
+use lib.ListN.{length}
 use native.Mathlib.Omega.{arith}
 use Rattle.replay_ranks.proofs.run.Statement.{statement}
 use Rattle.replay_ranks.proofs.run.Tie as tie
-use Rattle.replay_ranks.proofs.run.Reads as reads
-use Rattle.replay_ranks.proofs.run.Lts as lts
-use Rattle.replay_ranks.proofs.turn.Reads as turn-reads
 
 abbrev Inv-loop : tie.InvT-loop
-Inv-loop s t₀ at₀ t at = ?
+Inv-loop s t₀ at₀ t at = (at ≤ length s) × Counted at t × Reached s at t
 
 abbrev μ-loop : tie.MeasureT-loop
-μ-loop s t₀ at₀ t at = ?
+μ-loop s t₀ at₀ t at = length s - at
 
--- src/main.rt:356:5
 loop-holds : tie.Need-loop-holds Inv-loop μ-loop
-loop-holds c = ?
+loop-holds c =
+    (omega arith, record { sheets = omega arith; ranks = omega arith; differ = omega arith }, reached-start (c .before .args .s .now))
 
--- src/main.rt:357:13
 turn-requires : tie.Need-turn-requires Inv-loop μ-loop
-turn-requires c κs = search needs
+turn-requires c κs = (c .loop-test .taken, c .before .before .before .pre, c .before .loop .inv .1)
 
--- src/main.rt:356:5
 loop-less : tie.Need-loop-less Inv-loop μ-loop
-loop-less c = ?
+loop-less c = omega (arith, c .before .turn .ensures .on, c .before .turn .ensures .within)
 
--- src/main.rt:356:5
 loop-again : tie.Need-loop-again Inv-loop μ-loop
-loop-again c = ?
+loop-again c =
+    let a = c .before .before .before .before .before .args in
+    let l = c .before .before .before .loop in
+    let r = c .before .turn in
+    (r .ensures .within, r .ensures .counted, reached-next (a .s .now) (l .at) (l .t) (l .inv .2) (c .before .before .loop-test .taken) (r .ensures .is))
 
--- src/main.rt:346:1
 returns : tie.Need-returns Inv-loop μ-loop
-returns c = ?
+returns c = let l = c .before .loop in reached-end (c .before .before .before .args .s .now) (l .at) (l .t) (l .inv .2) (l .inv .0) (c .loop-test .left)
 
 pub run-spec : {M : Type 1} → statement M
-run-spec =
-    tie.close (tie.spec Inv-loop μ-loop loop-holds turn-requires loop-less loop-again returns)
+run-spec = tie.close (tie.spec Inv-loop μ-loop loop-holds turn-requires loop-less loop-again returns)

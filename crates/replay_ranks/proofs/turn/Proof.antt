@@ -1,59 +1,40 @@
+-- replay_ranks::turn meets its contract.
+use Rattle.replay_ranks.specs.TurnLaws.{placed, turn-cut, turn-whole}
 use borrow.Author.Needs.{needs}
 use native.Mathlib.Omega.{arith}
 use Rattle.replay_ranks.proofs.turn.Statement.{statement}
 use Rattle.replay_ranks.proofs.turn.Tie as tie
-use Rattle.replay_ranks.proofs.turn.Reads as reads
-use Rattle.replay_ranks.proofs.turn.Lts as lts
-use Rattle.replay_ranks.proofs.case_at.Reads as case-at-reads
-use Rattle.replay_ranks.proofs.compare.Reads as compare-reads
-use Rattle.replay_ranks.proofs.cut.Reads as cut-reads
 
--- src/main.rt:337:9
-case-at-requires : tie.Need-case-at-requires
-case-at-requires c κs = search needs
-
--- src/main.rt:339:9
-cut-requires : tie.Need-cut-requires
-cut-requires c κs = search needs
-
--- src/main.rt:339:9
 returns : tie.Need-returns
-returns c = ?
+returns c =
+    let a = c .before .before .before .before .before .args in
+    let p = c .before .before .before .before .before .pre in
+    turn-cut (a .s .now) (a .at) (a .t) (c .before .before .before .case-at .ensures) (c .before .if1 .taken) (p .0) (p .2) (c .cut .ensures)
 
--- src/main.rt:341:17
-add-start : tie.Need-add-start
-add-start c = search needs
-
--- src/main.rt:343:16
 sub-compare : tie.Need-sub-compare
-sub-compare c = search needs
+sub-compare c = let a = c .before .before .before .before .args in placed (a .s .now) (a .at) (c .before .before .case-at .ensures) .sheet
 
--- src/main.rt:343:16
 part-compare-start : tie.Need-part-compare-start
-part-compare-start c = search needs
+part-compare-start c = let a = c .before .before .before .before .args in placed (a .s .now) (a .at) (c .before .before .case-at .ensures) .sheet
 
--- src/main.rt:343:16
 part-compare-end : tie.Need-part-compare-end
-part-compare-end c = search needs
+part-compare-end c = let a = c .before .before .before .before .args in omega (arith, placed (a .s .now) (a .at) (c .before .before .case-at .ensures) .end, c .if1 .left)
 
--- src/main.rt:343:5
 compare-requires : tie.Need-compare-requires
-compare-requires c κs = search needs
+compare-requires c κs =
+    let a = c .before .before .before .before .before .args in
+    let p = c .before .before .before .before .before .pre in
+    let at = placed (a .s .now) (a .at) (c .before .before .before .case-at .ensures) in
+    (p .2, at .inside (omega (arith, p .1, c .before .if1 .left)), at .long)
 
--- src/main.rt:333:1
 returns-2 : tie.Need-returns-2
-returns-2 c = ?
+returns-2 c =
+    let a = c .before .before .before .before .before .before .args in
+    let p = c .before .before .before .before .before .before .pre in
+    turn-whole (a .s .now) (a .at) (a .t) (c .before .before .before .before .case-at .ensures) (c .before .before .if1 .left) (p .2) (c .compare .ensures)
 
 pub turn-spec : {M : Type 1} → statement M
 turn-spec =
     tie.close
-    (tie.spec
-    case-at-requires
-    cut-requires
-    returns
-    add-start
-    sub-compare
-    part-compare-start
-    part-compare-end
-    compare-requires
+    (tie.spec (λ c κs. search needs) (λ c κs. search needs) returns (λ c. search needs) sub-compare part-compare-start part-compare-end compare-requires
     returns-2)
