@@ -34,7 +34,7 @@ pub fn fill_stops(s: &[u8], c: Counts, ids: &mut [u32], xs: &mut [f64])
 }
 
 // The cars and the destinations of those aboard.
-fn fill_aboard(s: &[u8], c: Counts, acar: &mut [u32], adest: &mut [u32])
+pub fn fill_aboard(s: &[u8], c: Counts, acar: &mut [u32], adest: &mut [u32])
     requires { ⌜ Small c × (length (now acar) ≡ 512) × (length (now adest) ≡ 512) ⌝ }
     ensures cars { λ _. ⌜ (length (now (acar .exit)) ≡ length (now (acar .entry))) × (now (acar .exit) ≡ tab (λ a. sheetOf (now (s .entry)) c .aboard a .car) (c .aboards) ++ drop (c .aboards) (now (acar .entry))) ⌝ }
     ensures destinations { λ _. ⌜ (length (now (adest .exit)) ≡ length (now (adest .entry))) × (now (adest .exit) ≡ tab (λ a. sheetOf (now (s .entry)) c .aboard a .destination) (c .aboards) ++ drop (c .aboards) (now (adest .entry))) ⌝ }
@@ -46,7 +46,13 @@ fn fill_aboard(s: &[u8], c: Counts, acar: &mut [u32], adest: &mut [u32])
 }
 
 // What waits at each stop.
-fn waiting<'a>(s: &'a [u8], c: Counts, ids: &'a [u32], xs: &'a [f64], calls: u64) -> [Waiters; 64]
+pub fn waiting<'a>(
+    s: &'a [u8],
+    c: Counts,
+    ids: &'a [u32],
+    xs: &'a [f64],
+    calls: u64,
+) -> [Waiters; 64]
     requires { ⌜ Small c × (length (now ids) ≡ 64) × (length (now xs) ≡ 64) × HoldsStops (sheetOf (now s) c) (now ids) (now xs) (c .stops) × (calls ≡ stopMask (sheetOf (now s) c) (riderlessCall (sheetOf (now s) c))) ⌝ }
     ensures { λ r. ⌜ Waiting (sheetOf (now (s .entry)) c) r ⌝ }
 {

@@ -117,7 +117,7 @@ pub fn car_row<'a>(
 }
 
 // The row of car i, under a limit; the known destinations of its riders are left in dests.
-fn row_for<'a>(
+pub fn row_for<'a>(
     s: &'a [u8],
     c: Counts,
     i: u32,

@@ -1,0 +1,36 @@
+-- What the stops of an accepted sheet give the stages that make masks of them. Assumes nothing.
+use Prim.Native.Nat.{ℕ, _≤_, _<_}
+use mathlib.Core.Path.{_≡_}
+use mathlib.Core.List.{List, _++_}
+use native.Mathlib.Omega.{arith}
+use lib.Ieee.{Float}
+use Rattle.laws.specs.Tables.{tab}
+use Rattle.layout.specs.declared.Counts.{Counts}
+use Rattle.layout.specs.declared.Reading.the-variants.{Accepted}
+use Rattle.layout.specs.Records.{sheetOf}
+use Rattle.layout.specs.Verdict.{verdict}
+use Rattle.accepted.specs.Accepted.{accepted}
+use Rattle.manifest.specs.World.{stopId, stopAt}
+use Rattle.manifest.specs.Stops.{HoldsStops}
+use Rattle.outcome.specs.TwoSheets.{rising-of}
+use Rattle.pending.specs.Masks.{HoldsNames, Boarded}
+use Rattle.cells.specs.Survey.{holds-stops}
+
+pub record Begun (bytes : List ℕ) (c : Counts) (ids : List ℕ) (xs : List Float) : Type 0 where
+  pub stops-held : HoldsStops (sheetOf bytes c) ids xs (c .stops)
+  pub names : HoldsNames (sheetOf bytes c) ids
+  pub boarded : Boarded (sheetOf bytes c)
+  pub few-demands : c .demands ≤ 64
+
+pub begun : (bytes : List ℕ) (c : Counts) → verdict bytes ≡ Accepted c → (ids : List ℕ) (xs : List Float) (r : List ℕ) (q : List Float)
+    → ids ≡ tab (stopId (sheetOf bytes c)) (c .stops) ++ r → xs ≡ tab (stopAt (sheetOf bytes c)) (c .stops) ++ q → Begun bytes c ids xs
+unfolding sheetOf
+begun bytes c e ids xs r q ei ex =
+    let sound = accepted bytes c e .sheet in
+    let held = holds-stops (sheetOf bytes c) ids xs r q ei ex in
+    record {
+      stops-held = held;
+      names = record { held = held .id-of; above-zero = rising-of bytes c e .above-zero };
+      boarded = record { above-zero = λ a l. let (i, b, q) = sound .aboard a l in omega (arith, q, sound .car i b .id) };
+      few-demands = omega (arith, sound .most-demands, sound .most-stops);
+    }

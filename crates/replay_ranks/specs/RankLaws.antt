@@ -1,0 +1,96 @@
+-- What the proved functions answer of a pair is the sheet's rank. Assumes nothing.
+use Prim.Native.Nat.{ℕ, zero, suc, _+_, _*_, _≤_, _<_}
+use mathlib.Core.Path.{_≡_, refl, sym, ap, _∙_}
+use mathlib.Core.Bool.{Bool, true, false, not, _&&_, cond, true≢false}
+use mathlib.Core.List.{List, _++_}
+use native.Mathlib.Nat.{mul-zero}
+use native.Mathlib.Omega.{arith}
+use lib.Dec.{T}
+use lib.ListN.{getD}
+use lib.Ieee.{Float, nan, inf, fin, binary64, eq, ne, isNan, toBits}
+use lib.Ieee.Compare.{nan-differs}
+use Rattle.laws.specs.Bools.{bit}
+use Rattle.fp.specs.Num as num
+use Rattle.components.specs.declared.Rank.{Rank}
+use Rattle.components.specs.Sheet.{Sheet}
+use Rattle.layout.specs.declared.Counts.{Counts}
+use Rattle.layout.specs.declared.Reading.the-variants.{Accepted}
+use Rattle.layout.specs.Records.{sheetOf}
+use Rattle.layout.specs.Verdict.{verdict}
+use Rattle.accepted.specs.Accepted.{accepted}
+use Rattle.manifest.specs.declared.Waiters.{Waiters}
+use Rattle.manifest.specs.Manifest.{demandStop}
+use Rattle.manifest.specs.Holds.{HoldsAboard}
+use Rattle.manifest.specs.Stops.{HoldsStops}
+use Rattle.assignment.specs.Pending.{pending}
+use Rattle.assignment.specs.Cells.{rank}
+use Rattle.outcome.specs.TwoSheets.{rising-of}
+use Rattle.pending.specs.Masks.{stopMask}
+use Rattle.ranking.specs.declared.Row.{Row}
+use Rattle.ranking.specs.Ranking.{rankBy}
+use Rattle.ranking.specs.RankingLaws.{HoldsRow, rank-is}
+use Rattle.rows.specs.RowLaws.{nobody}
+use Rattle.rows.specs.HeldLaws.{Held}
+use Rattle.cells.specs.Survey.{Waiting, weighed-of}
+use Rattle.replay_ranks.specs.declared.Answer.{Answer}
+use Rattle.replay_ranks.specs.declared.Pair.{Pair}
+use Rattle.replay_ranks.specs.Ranks.{bitsOf, answerFor, same, differs}
+
+-- ---- bits
+
+pub bits-nan : (x : Float) → x ≡ nan → 9221120237041090560 ≡ bitsOf x
+unfolding bitsOf eq toBits
+bits-nan x e = sym (ap bitsOf e)
+
+pub bits-zero : (x : Float) → eq x num.zero ≡ true → 0 ≡ bitsOf x
+unfolding bitsOf
+bits-zero x e = rw e
+
+pub bits-else : (x : Float) → eq x num.zero ≡ false → toBits binary64 x ≡ bitsOf x
+unfolding bitsOf
+bits-else x e = rw e
+
+pub not-nan : (x : Float) → ne x x ≡ false → T (not (isNan x))
+unfolding isNan
+not-nan nan e = absurd (true≢false (sym nan-differs ∙ e))
+not-nan (inf s) e = tt
+not-nan (fin s m d) e = tt
+
+-- ---- the list
+
+-- a case with a pair has a stop
+pub some-stop : (k a b : ℕ) → k < a * b → 0 < b
+some-stop k a zero l = absurd (omega (arith, mul-zero a))
+some-stop k a (suc b) l = omega arith
+
+-- ---- a pair
+
+pub agrees : (s : Sheet) (p : Pair) {a : Answer} {b : Bool} → a ≡ answerFor s (p .car) (p .stop) → b ≡ same a (p .stored) → b ≡ true → 0 ≡ bit (differs s p)
+unfolding differs
+agrees s p {a} {b} ea eb e = ap (λ (z : Bool). bit (not z)) (sym e ∙ eb ∙ ap (λ (z : Answer). same z (p .stored)) ea)
+
+pub disagrees : (s : Sheet) (p : Pair) {a : Answer} {b : Bool} → a ≡ answerFor s (p .car) (p .stop) → b ≡ same a (p .stored) → b ≡ false → 1 ≡ bit (differs s p)
+unfolding differs
+disagrees s p {a} {b} ea eb e = ap (λ (z : Bool). bit (not z)) (sym e ∙ eb ∙ ap (λ (z : Answer). same z (p .stored)) ea)
+
+-- ---- the rank
+
+module _ (bytes : List ℕ) (c : Counts) (e : verdict bytes ≡ Accepted c) (ids : List ℕ) (xs : List Float) (hs : HoldsStops (sheetOf bytes c) ids xs (sheetOf bytes c .stops)) where
+  pub held : (acar adest : List ℕ) → HoldsAboard (sheetOf bytes c) acar adest (sheetOf bytes c .aboards) → (stops demand : ℕ)
+      → stops ≡ stopMask (sheetOf bytes c) (pending (sheetOf bytes c)) → demand ≡ stopMask (sheetOf bytes c) (demandStop (sheetOf bytes c))
+      → Held (sheetOf bytes c) ids xs acar adest stops demand
+  held acar adest ha stops demand es ed =
+      record {
+        stops-held = hs;
+        aboard-held = ha;
+        rising = rising-of bytes c e;
+        few = accepted bytes c e .sheet .most-stops;
+        stops-are = es;
+        demand-is = ed;
+      }
+
+  pub ranked : (i j limit : ℕ) → i < sheetOf bytes c .cars → j < sheetOf bytes c .stops → (row : Row) {dests : List Float} → HoldsRow (sheetOf bytes c) i limit row dests
+      → (waiters : List Waiters) → Waiting (sheetOf bytes c) waiters
+      → rankBy row dests (getD waiters j nobody) xs (sheetOf bytes c .stops) j ≡ rank (sheetOf bytes c) i j
+  ranked i j limit li lj row {dests} hr waiters hw =
+      rank-is (sheetOf bytes c) ids xs hs i limit (weighed-of (sheetOf bytes c) (accepted bytes c e .sheet) i li) row dests hr j (getD waiters j nobody) (hw .at j lj) lj
