@@ -20,9 +20,6 @@ use Rattle.assignment_problem.specs.Insertion as Step
 use Rattle.alternating_tree.specs.Lists.{at, big, at-same, at-other, gain, gain-in, gain-out, left, left-in, left-out, Begun, Nearest, RaisedRows, RaisedColumns, FreeColumn, Relaxed, Going, Gone}
 
 -- a row's cells lie in the matrix
-pub row-in : (r n m : ℕ) → r < n → r * m + m ≤ n * m
-row-in r n m h = rw (← suc-mul r m) (mul-le-mul-right m h)
-
 pub record Sizes (u w ro co : List ℕ) : Type 0 where
   pub u32 : length u ≡ 32
   pub w65 : length w ≡ 65

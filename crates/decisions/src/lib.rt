@@ -1,7 +1,7 @@
 // From a filled matrix to the decisions and their total.
 ghost use mathlib.Core.Path.{_≡_};
 ghost use mathlib.Core.List.{_++_};
-ghost use Prim.Native.Nat.{ℕ, _<_, _≤_};
+ghost use Prim.Native.Nat.{ℕ, _+_, _*_, _<_, _≤_};
 ghost use lib.ListN.{length, getD, drop};
 ghost use Rattle.laws.specs.Tables.{tab};
 ghost use Rattle.assignment_problem.specs.Choice.{cellAt};
@@ -9,6 +9,14 @@ ghost use Rattle.assignment_problem.specs.Recursion.{leastTotal};
 ghost use Rattle.matcher.specs.Promise.{totalOr};
 ghost use Rattle.decisions.specs.Decisions.{Filled, told, toldAt, decisionBy};
 use matcher::Matching;
+
+// The cell of row r and column k.
+fn cell(cells: &[u64], columns: usize, r: usize, k: usize) -> u64
+    requires { ⌜ r * columns + k < length (now cells) ⌝ }
+    ensures { λ x. ⌜ x ≡ cellAt (now (cells .entry)) columns r k ⌝ }
+{
+    cells[r * columns + k]
+}
 
 // What a car is told: the stop of its column, or 0 where the column is spare or its cell is the sentinel.
 fn decision<'a>(place: usize, cell: u64, m: usize, stops: &'a [usize], ids: &'a [u32]) -> u32
@@ -42,7 +50,7 @@ fn write<'a>(
     let mut r: usize = 0;
     while r < n {
         let place = places[r] as usize;
-        let cell = alternating_tree::cell(cells, columns, r, place);
+        let cell = cell(cells, columns, r, place);
         decisions[r] = decision(place, cell, m, stops, ids);
         r += 1;
     }

@@ -6,7 +6,7 @@ use mathlib.Core.List.{List, [], _∷_, _++_, append-assoc, append-nil}
 use mathlib.Core.Logic.{⊎-elim}
 use Prim.Native.Nat.{ℕ, zero, suc, _+_, _-_, _*_, _≤_, _<_}
 use native.Mathlib.Numerals.{add-one}
-use native.Mathlib.Nat.{suc-mul}
+use native.Mathlib.Nat.{suc-mul, mul-le-mul-right}
 use native.Mathlib.Omega.{arith}
 use lib.ListN.{length, getD, take, drop, set, length-append, length-drop, List·getD-append, drop-of-length-le}
 use lib.Seq.{drop-cons, set-at, getD-append-add, getD-drop, drop-drop, take-at, drop-at, getD-at, ext-getD}
@@ -112,6 +112,10 @@ module _ {A : Type 0} where
 
 pub mul-next : (i w : ℕ) → (i + 1) * w ≡ i * w + w
 mul-next i w = rw add-one (omega (arith, suc-mul i w))
+
+-- a row ends within its rows
+pub row-in : (r n w : ℕ) → r < n → r * w + w ≤ n * w
+row-in r n w h = rw (← suc-mul r w) (mul-le-mul-right w h)
 
 module _ {A : Type 0} where
   pub length-tabs : (f : ℕ → ℕ → A) (w n : ℕ) → length (tabs f w n) ≡ n * w

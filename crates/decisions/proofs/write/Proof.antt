@@ -1,9 +1,8 @@
 -- decisions::write meets its contract.
 use Prim.Native.Nat.{ℕ, _≤_, _-_}
-use Rattle.alternating_tree.specs.State.{row-in}
 use Rattle.decisions.specs.Decisions.{toldAt, told-next}
 use Rattle.laws.specs.Folds.{ended}
-use Rattle.laws.specs.Tables.{tab, tab-next}
+use Rattle.laws.specs.Tables.{tab, tab-next, row-in}
 use borrow.Author.Needs.{needs}
 use lib.ListN.{length, drop, length-set}
 use mathlib.Core.List.{_++_}

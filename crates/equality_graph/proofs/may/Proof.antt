@@ -1,10 +1,10 @@
 -- equality_graph::may meets its contract.
 use borrow.Author.Needs.{needs}
+use Rattle.laws.specs.Tables.{row-in}
 use Rattle.equality_graph.proofs.may.Statement.{statement}
 use Rattle.equality_graph.proofs.may.Tie as tie
 use Prim.Native.Nat.{_+_, _*_}
 use native.Mathlib.Omega.{arith}
-use Rattle.alternating_tree.specs.State.{row-in}
 use Rattle.equality_graph.specs.Settled.{may-none, may-row}
 
 mul-result : tie.Need-mul-result

@@ -1,6 +1,7 @@
 -- hungarian::insert meets its contract.
 use borrow.Author.Needs.{needs}
 use native.Mathlib.Omega.{arith}
+use Rattle.laws.specs.Tables.{row-in}
 use Rattle.hungarian.proofs.insert.Statement.{statement}
 use Rattle.hungarian.proofs.insert.Tie as tie
 use Prim.Native.Nat.{ℕ, _+_, _≤_, _<_}
@@ -8,7 +9,7 @@ use mathlib.Core.Path.{_≡_, refl, sym, _∙_}
 use mathlib.Core.List.{List}
 use lib.ListN.{length-set, set}
 use Rattle.alternating_tree.specs.Lists.{at, at-same, at-other}
-use Rattle.alternating_tree.specs.State.{Sizes, Scratch, GrowingAt, unseen, unseen-less, unseen-most, row-in, f-unseen, u-low, w-low, co-low, d-low, grown, join-under, joined, inside-free, going, ended}
+use Rattle.alternating_tree.specs.State.{Sizes, Scratch, GrowingAt, unseen, unseen-less, unseen-most, f-unseen, u-low, w-low, co-low, d-low, grown, join-under, joined, inside-free, going, ended}
 
 abbrev Inv-loop : tie.InvT-loop
 Inv-loop cells n cols i u₀ w₀ row-of₀ col-of₀ dist₀ from₀ seen₀ f t₀ u w row-of col-of dist from seen t =

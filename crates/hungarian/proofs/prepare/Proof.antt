@@ -1,10 +1,11 @@
 -- hungarian::prepare meets its contract.
 use borrow.Author.Needs.{needs}
+use Rattle.laws.specs.Tables.{row-in}
 use Rattle.hungarian.proofs.prepare.Statement.{statement}
 use Rattle.hungarian.proofs.prepare.Tie as tie
 use native.Mathlib.Omega.{arith}
 use Rattle.alternating_tree.specs.Lists.{big}
-use Rattle.alternating_tree.specs.State.{row-in, prepared}
+use Rattle.alternating_tree.specs.State.{prepared}
 
 free-column-requires : tie.Need-free-column-requires
 free-column-requires c κs = search needs

@@ -8,10 +8,9 @@ use mathlib.Core.List.{_++_}
 use lib.ListN.{length, drop}
 use Rattle.laws.specs.Folds.{ended}
 use Rattle.laws.specs.Sums.{sum, sum-next}
-use Rattle.laws.specs.Tables.{tab, tab-next, tab-length}
+use Rattle.laws.specs.Tables.{tab, tab-next, tab-length, row-in}
 use Rattle.assignment_problem.specs.Choice.{cellAt, total}
 use Rattle.alternating_tree.specs.Lists.{at, big}
-use Rattle.alternating_tree.specs.State.{row-in}
 
 abbrev Inv-loop : tie.InvT-loop
 Inv-loop cells n cols col-of places₀ total₀ i₀ places total i =
