@@ -1,10 +1,14 @@
-// Reads stored sheets and holds the rank of each idle car for each pending stop, as 64 bits, to the stored one. Prints the first that differs, and how
-// many were compared.
+// Reads stored sheets and holds the rank of each idle car for each pending stop to the stored one, bit by bit. Prints the first that differs, and how many
+// were compared.
 //
-// The list was made by `oracle list ranks 1 crates/replay_ranks/stdin` (tools/oracle): the ranks are those of the published Rust, before scaling. A case
-// is the sheet's length in 16 bits and its bytes, n and m in 8 bits each, n indices of car records and m of stop records in 8 bits each, and row by row
-// for each pair 8 bits that are 1 where there is a rank, and its 64 bits, 0 where there is none and for a zero of either sign, which the Rust leaves
-// open. The most significant byte comes first.
+// The list was made by `oracle list ranks 1 crates/replay_ranks/stdin` (tools/oracle): the ranks are those that the published Rust gives, before scaling. A
+// case is the sheet's length in 16 bits and its bytes, n and m in 8 bits each, n indices of car records and m of stop records in 8 bits each, and row by
+// row for each pair 8 bits that are 1 where there is a rank, and its 64 bits; these are 0 where there is none, and for a zero of either sign, which the Rust
+// leaves open. The most significant byte comes first. Of the 306 pairs 83 have no rank, and 111 a zero.
+//
+// A rank that differs shows. With the last bit of the list's first rank changed, in byte 342, the program prints
+//     the case at byte 0: car 0 stop 1 got 4024000000000000, expected 4024000000000001
+//     176 sheets, 306 ranks compared, 1 differ
 use components::Rank;
 use layout::Counts;
 use layout::Reading;
@@ -27,7 +31,7 @@ ghost use Rattle.pending.specs.Masks.{stopMask};
 ghost use Rattle.replay_ranks.specs.Ranks.{bitsOf, answerOf, answerFor, same, differs, caseAt, pairAt, refusedAt, comparedBy, cutAt, Inside, Counted, Replayed};
 ghost use Rattle.replay_ranks.specs.TurnLaws.{Turned};
 
-// Whether there is a rank, 1 or 0, and its bits.
+// A mark, 1 where there is a rank and 0 where there is none, and the rank's bits.
 struct Answer {
     ranked: u64,
     bits: u64,
@@ -210,18 +214,18 @@ fn print_number(text: &[u8], n: u64) {
     io::print_decimal(STDOUT_FILENO, n);
 }
 
-// The bits in hexadecimal, none, or the number that is neither 1 nor 0.
+// The bits in hexadecimal, or none. Before bits of what is neither stands its mark.
 fn print_answer(text: &[u8], a: Answer) {
     io::write_all(STDOUT_FILENO, text);
-    if a.ranked == 1 {
-        io::print_hex(STDOUT_FILENO, a.bits, 16);
-        return;
-    }
-    if a.ranked == 0 {
+    if (a.ranked == 0) & (a.bits == 0) {
         io::write_all(STDOUT_FILENO, b"none");
         return;
     }
-    io::print_decimal(STDOUT_FILENO, a.ranked);
+    if a.ranked != 1 {
+        print_number(b"mark ", a.ranked);
+        io::write_all(STDOUT_FILENO, b" ");
+    }
+    io::print_hex(STDOUT_FILENO, a.bits, 16);
 }
 
 // The line of the first pair that differs.
