@@ -12,6 +12,7 @@ use borrow.Author.Tests.{eq-eqb, ne-eqb, lt-ltb, le-ltb}
 use Rattle.laws.specs.Bools.{less?}
 use Rattle.laws.specs.Folds.{fold, fold-next, count-le}
 use Rattle.laws.specs.Tables.{tab, getD-tab, tab-length}
+use Rattle.io.specs.Counts.{Counts as Counted}
 use Rattle.text.specs.Text.{decimal, Put, then, nothing}
 use Rattle.components.specs.declared.Direction.{Direction}
 use Rattle.components.specs.declared.Direction.the-variants.{Up, Down}
@@ -35,7 +36,7 @@ use Rattle.bench.specs.declared.Answer.the-variants.{Passed}
 use Rattle.bench.specs.declared.Answer.the-variants.{Refused as refused}
 use Rattle.bench.specs.Answers.{answerOf, rankedOf}
 use Rattle.rows.specs.MatrixLaws.{Rows}
-use Rattle.outcome.specs.Outcome.{decisionsOf, sweepsOf}
+use Rattle.outcome.specs.Outcome.{refusal1, outcome, decisionsOf, sweepsOf, decisionsLeft, sweepsLeft}
 use Rattle.passprint.specs.Lines.{sweepWord, sweepLine, upWord, downWord, strictEnd, lenientEnd, sweepEnd, idleEnd, stopWord, lineEnd, decisionEnd, decisionLine, linesOf, idleId, rowDecision, rowSweep, textOf, printed, headLine, refusalLine, passText}
 
 -- ---- the ends of a decision's line
@@ -135,6 +136,11 @@ swept s {sweeps} entry e h d =
       at = λ i l. ap (λ (z : List ℕ). getD z i 0) d ∙ getD-tab (λ k. sweepCode (sweepAfter s k)) (s .cars) i (drop (s .cars) entry) 0 l;
     }
 
+-- buffers of these lengths are long enough
+pub outcome-is : (bytes : List ℕ) (c : Counts) → verdict bytes ≡ Accepted c → (d m w : ℕ) → d ≡ 32 → m ≡ 2048 → w ≡ 32 → outcome bytes d m w ≡ Accepted c
+unfolding outcome refusal1
+outcome-is bytes c e d m w x y z = rw (x, y, z) e
+
 -- the answer of a pass over an accepted sheet
 pub record Answered (s : Sheet) (limit n m total : ℕ) : Type 0 where
   pub cars : n ≡ idleCars s
@@ -147,6 +153,15 @@ module _ (bytes : List ℕ) (c : Counts) {r : Answer} {v : Reading} (accepts : v
 
   pub answered : {n m total ranked : ℕ} → r ≡ Passed n m total ranked → Answered (sheetOf bytes c) (limitOf bytes) n m total
   answered e = let p = passed in record { cars = cc; stops = cc; least = cc }
+
+  pub decided-left : {decisions : List ℕ} (entry : List ℕ) → length entry ≡ 32 → c .cars ≤ 32 → decisions ≡ decisionsLeft v bytes entry
+      → Decided (sheetOf bytes c) (limitOf bytes) decisions
+  unfolding sheetOf
+  decided-left entry e h d = decided (sheetOf bytes c) (limitOf bytes) entry e h (d ∙ ap (λ (o : Reading). decisionsLeft o bytes entry) accepts)
+
+  pub swept-left : {sweeps : List ℕ} (entry : List ℕ) → length entry ≡ 32 → c .cars ≤ 32 → sweeps ≡ sweepsLeft v bytes entry → Swept (sheetOf bytes c) sweeps
+  unfolding sheetOf
+  swept-left entry e h d = swept (sheetOf bytes c) entry e h (d ∙ ap (λ (o : Reading). sweepsLeft o bytes entry) accepts)
 
   pub not-refused : {number offset : ℕ} → r ≡ refused number offset → ⊥
   not-refused e = let p = passed in let z : _≡_ {A = ℕ} 0 1 = cc in omega arith
@@ -193,3 +208,6 @@ refused-is bytes e = rw e
 
 pub put-as : {e : List ℕ} {a : ℕ} {t u e′ : List ℕ} {r : ℕ} → t ≡ u → Put e a t e′ r → Put e a u e′ r
 put-as {e} {a} {t} {u} {e′} {r} q p = subst (λ (z : List ℕ). Put e a z e′ r) q p
+
+pub counted : {e t e′ : List ℕ} {r : ℕ} → r ≤ length e → Put e 0 t e′ r → Counted r e′ × (take r e′ ≡ t)
+counted {e} {t} {e′} {r} l p = let h : r ≤ length e′ = omega (arith, p .size) in ((h, sym (length-take-le r e′ h)), p .text)

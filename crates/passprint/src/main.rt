@@ -113,7 +113,15 @@ fn car_id(s: &[u8], c: Counts, i: usize) -> u32
 }
 
 // A line for each idle car's decision.
-fn decision_lines<'a>(s: &'a [u8], c: Counts, cars: &'a [usize], n: usize, decisions: &'a [u32], out: &mut [u8], from: usize) -> usize
+fn decision_lines<'a>(
+    s: &'a [u8],
+    c: Counts,
+    cars: &'a [usize],
+    n: usize,
+    decisions: &'a [u32],
+    out: &mut [u8],
+    from: usize,
+) -> usize
     requires { ⌜ Small c × Rows (sheetOf (now s) c) (now cars) n × (length (now cars) ≡ 64) × Decided (sheetOf (now s) c) (limitOf (now s)) (now decisions) × (from + 1920 ≤ length (now out)) ⌝ }
     ensures { λ r. ⌜ Put (now (out .entry)) from (linesOf (rowDecision (sheetOf (now (s .entry)) c) (limitOf (now (s .entry)))) n) (now (out .exit)) r × (r ≤ from + 1920) ⌝ }
 {
@@ -127,7 +135,15 @@ fn decision_lines<'a>(s: &'a [u8], c: Counts, cars: &'a [usize], n: usize, decis
 }
 
 // A line for each idle car's sweep and mode.
-fn sweep_lines<'a>(s: &'a [u8], c: Counts, cars: &'a [usize], n: usize, sweeps: &'a [u8], out: &mut [u8], from: usize) -> usize
+fn sweep_lines<'a>(
+    s: &'a [u8],
+    c: Counts,
+    cars: &'a [usize],
+    n: usize,
+    sweeps: &'a [u8],
+    out: &mut [u8],
+    from: usize,
+) -> usize
     requires { ⌜ Small c × Rows (sheetOf (now s) c) (now cars) n × (length (now cars) ≡ 64) × Swept (sheetOf (now s) c) (now sweeps) × (from + 1920 ≤ length (now out)) ⌝ }
     ensures { λ r. ⌜ Put (now (out .entry)) from (linesOf (rowSweep (sheetOf (now (s .entry)) c)) n) (now (out .exit)) r × (r ≤ from + 1920) ⌝ }
 {
@@ -196,7 +212,10 @@ fn print_lines(s: &[u8]) {
     let mut out = io::buffer();
     let n = lines(s, &mut out);
     if !io::write_all(STDOUT_FILENO, &out[..n]) {
-        io::write_all(STDERR_FILENO, b"passprint: standard output cannot be written\n");
+        io::write_all(
+            STDERR_FILENO,
+            b"passprint: standard output cannot be written\n",
+        );
     }
 }
 

@@ -1,48 +1,25 @@
+-- passprint::lines meets its contract.
+use Rattle.passprint.specs.LineLaws.{refused-is, put-as, counted}
 use borrow.Author.Needs.{needs}
+use mathlib.Core.Path.{_≡_, refl, sym, ap, _∙_}
+use native.Mathlib.Omega.{arith}
 use Rattle.passprint.proofs.lines.Statement.{statement}
 use Rattle.passprint.proofs.lines.Tie as tie
-use Rattle.passprint.proofs.lines.Reads as reads
-use Rattle.passprint.proofs.lines.Lts as lts
-use Rattle.passprint.proofs.pass_lines.Reads as pass-lines-reads
-use Rattle.passprint.proofs.refusal_line.Reads as refusal-line-reads
-use Rattle.sheet.proofs.read.Reads as read-reads
 
--- src/main.rt:189:11
-read-requires : tie.Need-read-requires
-read-requires c κs = search needs
-
--- src/main.rt:190:28
-enum-known-number : tie.Need-enum-known-number
-enum-known-number c = search needs
-
--- src/main.rt:190:48
-refusal-line-requires : tie.Need-refusal-line-requires
-refusal-line-requires c κs = search needs
-
--- src/main.rt:191:27
-enum-known-c : tie.Need-enum-known-c
-enum-known-c c = search needs
-
--- src/main.rt:191:33
 pass-lines-requires : tie.Need-pass-lines-requires
-pass-lines-requires c κs = search needs
+pass-lines-requires c κs = (sym (c .before .before .before .before .read .ensures) ∙ c .before .before .c .given .1, omega arith)
 
--- src/main.rt:185:1
 returns : tie.Need-returns
-returns c = ?
+returns c =
+    let p = c .refusal-line .ensures in
+    counted (omega arith) (put-as (refused-is _ (sym (c .before .before .before .before .before .read .ensures) ∙ c .before .before .before .number .given .1)) (p .0))
 
--- src/main.rt:185:1
 returns-2 : tie.Need-returns-2
-returns-2 c = ?
+returns-2 c =
+    let p = c .pass-lines .ensures in
+    counted (omega arith) (p .0)
 
 pub lines-spec : {M : Type 1} → statement M
 lines-spec =
     tie.close
-    (tie.spec
-    read-requires
-    enum-known-number
-    refusal-line-requires
-    enum-known-c
-    pass-lines-requires
-    returns
-    returns-2)
+    (tie.spec (λ c κs. search needs) (λ c. search needs) (λ c κs. search needs) (λ c. search needs) pass-lines-requires returns returns-2)

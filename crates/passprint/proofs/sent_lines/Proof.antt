@@ -1,59 +1,46 @@
+-- passprint::sent_lines meets its contract.
+use Rattle.accepted.specs.Accepted.{accepted}
+use Rattle.passprint.specs.LineLaws.{text-is, put-as}
+use Rattle.text.specs.Text.{then}
 use borrow.Author.Needs.{needs}
+use mathlib.Core.Path.{_≡_, refl, sym, ap, _∙_}
+use native.Mathlib.Omega.{arith}
 use Rattle.passprint.proofs.sent_lines.Statement.{statement}
 use Rattle.passprint.proofs.sent_lines.Tie as tie
-use Rattle.passprint.proofs.sent_lines.Reads as reads
-use Rattle.passprint.proofs.sent_lines.Lts as lts
-use Rattle.cells.proofs.list_cars.Reads as list-cars-reads
-use Rattle.passprint.proofs.decision_lines.Reads as decision-lines-reads
-use Rattle.passprint.proofs.head_line.Reads as head-line-reads
-use Rattle.passprint.proofs.sweep_lines.Reads as sweep-lines-reads
 
--- src/main.rt:159:36
-slice-aggregate-list-cars : tie.Need-slice-aggregate-list-cars
-slice-aggregate-list-cars c = search needs
-
--- src/main.rt:159:9
 list-cars-requires : tie.Need-list-cars-requires
-list-cars-requires c κs = search needs
+list-cars-requires c κs =
+    let a = c .before .before .before .before .before .args in
+    (accepted (a .s .now) (a .c) (c .before .before .before .before .before .pre .0) .small, refl)
 
--- src/main.rt:160:9
-head-line-requires : tie.Need-head-line-requires
-head-line-requires c κs = search needs
-
--- src/main.rt:161:34
-slice-aggregate-decision-lines : tie.Need-slice-aggregate-decision-lines
-slice-aggregate-decision-lines c = search needs
-
--- src/main.rt:161:9
 decision-lines-requires : tie.Need-decision-lines-requires
-decision-lines-requires c κs = search needs
+decision-lines-requires c κs =
+    let a = c .before .before .before .before .before .before .before .before .before .before .before .before .before .args in
+    let p = c .before .before .before .before .before .before .before .before .before .before .before .before .before .pre in
+    let rows = c .before .before .before .before .before .before .before .list-cars .ensures in
+    let h = c .before .before .before .before .head-line .ensures in
+    (accepted (a .s .now) (a .c) (p .0) .small, rows .0, rows .1, p .2, omega (arith, h .1, h .0 .size, p .4))
 
--- src/main.rt:162:23
-slice-aggregate-sweep-lines : tie.Need-slice-aggregate-sweep-lines
-slice-aggregate-sweep-lines c = search needs
-
--- src/main.rt:162:5
 sweep-lines-requires : tie.Need-sweep-lines-requires
-sweep-lines-requires c κs = search needs
+sweep-lines-requires c κs =
+    let a = c .before .before .before .before .before .before .before .before .before .before .before .before .before .before .before .before .before .before .args in
+    let p = c .before .before .before .before .before .before .before .before .before .before .before .before .before .before .before .before .before .before .pre in
+    let rows = c .before .before .before .before .before .before .before .before .before .before .before .before .list-cars .ensures in
+    let h = c .before .before .before .before .before .before .before .before .before .head-line .ensures in
+    let d = c .before .before .before .before .decision-lines .ensures in
+    (accepted (a .s .now) (a .c) (p .0) .small, rows .0, rows .1, p .3, omega (arith, h .1, h .0 .size, d .1, d .0 .size, p .4))
 
--- src/main.rt:145:1
-same-length : tie.Need-same-length
-same-length c = search needs
-
--- src/main.rt:145:1
 returns : tie.Need-returns
-returns c = ?
+returns c =
+    let a = c .before .before .before .before .before .before .before .before .before .before .before .before .before .before .before .before .before .before .before .before .before .args in
+    let p = c .before .before .before .before .before .before .before .before .before .before .before .before .before .before .before .before .before .before .before .before .before .pre in
+    let n = c .before .before .before .before .before .before .before .before .before .before .before .before .before .before .before .list-cars in
+    let h = c .before .before .before .before .before .before .before .before .before .before .before .before .head-line .ensures in
+    let d = c .before .before .before .before .before .before .before .decision-lines .ensures in
+    let w = c .before .before .sweep-lines .ensures in
+    (put-as (text-is (a .s .now) (a .c) (p .0) (p .1) (n .result) (n .ensures .0 .number)) (then (h .0) (then (d .0) (w .0))), omega (arith, h .1, d .1, w .1))
 
 pub sent-lines-spec : {M : Type 1} → statement M
 sent-lines-spec =
     tie.close
-    (tie.spec
-    slice-aggregate-list-cars
-    list-cars-requires
-    head-line-requires
-    slice-aggregate-decision-lines
-    decision-lines-requires
-    slice-aggregate-sweep-lines
-    sweep-lines-requires
-    same-length
-    returns)
+    (tie.spec (λ c. search needs) list-cars-requires (λ c κs. search needs) (λ c. search needs) decision-lines-requires (λ c. search needs) sweep-lines-requires (λ c. search needs) returns)
