@@ -1,0 +1,61 @@
+-- passprint::decision_lines meets its contract.
+use Prim.Native.Nat.{ℕ, _+_, _-_, _≤_}
+use Rattle.layout.specs.Records.{sheetOf, limitOf}
+use Rattle.passprint.specs.LineLaws.{Putting, putting-start, putting-next, decision-row, put-as}
+use Rattle.passprint.specs.Lines.{linesOf, rowDecision}
+use borrow.Author.Needs.{needs}
+use mathlib.Core.Path.{_≡_, refl, sym, ap, _∙_}
+use native.Mathlib.Omega.{arith}
+use Rattle.passprint.proofs.decision_lines.Statement.{statement}
+use Rattle.passprint.proofs.decision_lines.Tie as tie
+
+abbrev Inv-loop : tie.InvT-loop
+Inv-loop s c cars n decisions out₀ from at₀ r₀ out at r = (r ≤ n) × Putting (rowDecision (sheetOf s c) (limitOf s)) out₀ from r out at
+
+abbrev μ-loop : tie.MeasureT-loop
+μ-loop s c cars n decisions out₀ from at₀ r₀ out at r = n - r
+
+loop-holds : tie.Need-loop-holds Inv-loop μ-loop
+loop-holds c = (omega arith, putting-start _ _ _)
+
+car-id-requires : tie.Need-car-id-requires Inv-loop μ-loop
+unfolding sheetOf
+car-id-requires c κs =
+    let p = c .before .before .before .before .before .before .before .before .pre in
+    let rows = p .1 in
+    let l = c .before .before .loop-test .taken in
+    let r = c .before .before .before .loop .r in
+    (p .0, omega (arith, rows .car-of r l, rows .below r l))
+
+decision-line-requires : tie.Need-decision-line-requires Inv-loop μ-loop
+decision-line-requires c κs =
+    let p = c .before .before .before .before .before .before .before .before .before .before .pre in
+    let l = c .before .before .before .before .before .loop in
+    omega (arith, l .inv .1 .near, l .inv .1 .put .size, p .4, p .1 .few, c .before .before .before .before .loop-test .taken)
+
+loop-less : tie.Need-loop-less Inv-loop μ-loop
+loop-less c = omega arith
+
+loop-again : tie.Need-loop-again Inv-loop μ-loop
+loop-again c =
+    let a = c .before .before .before .before .before .before .before .before .before .before .before .before .before .args in
+    let p = c .before .before .before .before .before .before .before .before .before .before .before .before .before .pre in
+    let l = c .before .before .before .before .before .before .before .before .loop in
+    let t = c .before .before .before .before .before .before .before .loop-test .taken in
+    let call = c .before .before .decision-line .ensures in
+    (omega arith, putting-next (l .inv .1) (decision-row (sheetOf (a .s .now) (a .c)) (p .1) (l .r) t (c .before .before .before .before .car-id .ensures) (limitOf (a .s .now)) (p .3)) (call .0) (call .1))
+
+same-length : tie.Need-same-length Inv-loop μ-loop
+same-length c = c .before .loop .inv .1 .put .size
+
+returns : tie.Need-returns Inv-loop μ-loop
+returns c =
+    let a = c .before .before .before .before .before .before .args in
+    let l = c .before .loop in
+    let e : l .r ≡ a .n = omega arith in
+    (put-as (ap (λ (k : ℕ). linesOf (rowDecision (sheetOf (a .s .now) (a .c)) (limitOf (a .s .now))) k) e) (l .inv .1 .put), omega (arith, l .inv .1 .near, c .before .before .before .before .before .before .pre .1 .few))
+
+pub decision-lines-spec : {M : Type 1} → statement M
+decision-lines-spec =
+    tie.close
+    (tie.spec Inv-loop μ-loop loop-holds (λ c. search needs) (λ c. search needs) car-id-requires (λ c. search needs) (λ c. search needs) decision-line-requires (λ c. search needs) loop-less loop-again same-length returns)

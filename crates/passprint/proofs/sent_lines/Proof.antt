@@ -1,0 +1,46 @@
+-- passprint::sent_lines meets its contract.
+use Rattle.accepted.specs.Accepted.{accepted}
+use Rattle.passprint.specs.LineLaws.{text-is, put-as}
+use Rattle.text.specs.Text.{then}
+use borrow.Author.Needs.{needs}
+use mathlib.Core.Path.{_≡_, refl, sym, ap, _∙_}
+use native.Mathlib.Omega.{arith}
+use Rattle.passprint.proofs.sent_lines.Statement.{statement}
+use Rattle.passprint.proofs.sent_lines.Tie as tie
+
+list-cars-requires : tie.Need-list-cars-requires
+list-cars-requires c κs =
+    let a = c .before .before .before .before .before .args in
+    (accepted (a .s .now) (a .c) (c .before .before .before .before .before .pre .0) .small, refl)
+
+decision-lines-requires : tie.Need-decision-lines-requires
+decision-lines-requires c κs =
+    let a = c .before .before .before .before .before .before .before .before .before .before .before .before .before .args in
+    let p = c .before .before .before .before .before .before .before .before .before .before .before .before .before .pre in
+    let rows = c .before .before .before .before .before .before .before .list-cars .ensures in
+    let h = c .before .before .before .before .head-line .ensures in
+    (accepted (a .s .now) (a .c) (p .0) .small, rows .0, rows .1, p .2, omega (arith, h .1, h .0 .size, p .4))
+
+sweep-lines-requires : tie.Need-sweep-lines-requires
+sweep-lines-requires c κs =
+    let a = c .before .before .before .before .before .before .before .before .before .before .before .before .before .before .before .before .before .before .args in
+    let p = c .before .before .before .before .before .before .before .before .before .before .before .before .before .before .before .before .before .before .pre in
+    let rows = c .before .before .before .before .before .before .before .before .before .before .before .before .list-cars .ensures in
+    let h = c .before .before .before .before .before .before .before .before .before .head-line .ensures in
+    let d = c .before .before .before .before .decision-lines .ensures in
+    (accepted (a .s .now) (a .c) (p .0) .small, rows .0, rows .1, p .3, omega (arith, h .1, h .0 .size, d .1, d .0 .size, p .4))
+
+returns : tie.Need-returns
+returns c =
+    let a = c .before .before .before .before .before .before .before .before .before .before .before .before .before .before .before .before .before .before .before .before .before .args in
+    let p = c .before .before .before .before .before .before .before .before .before .before .before .before .before .before .before .before .before .before .before .before .before .pre in
+    let n = c .before .before .before .before .before .before .before .before .before .before .before .before .before .before .before .list-cars in
+    let h = c .before .before .before .before .before .before .before .before .before .before .before .before .head-line .ensures in
+    let d = c .before .before .before .before .before .before .before .decision-lines .ensures in
+    let w = c .before .before .sweep-lines .ensures in
+    (put-as (text-is (a .s .now) (a .c) (p .0) (p .1) (n .result) (n .ensures .0 .number)) (then (h .0) (then (d .0) (w .0))), omega (arith, h .1, d .1, w .1))
+
+pub sent-lines-spec : {M : Type 1} → statement M
+sent-lines-spec =
+    tie.close
+    (tie.spec (λ c. search needs) list-cars-requires (λ c κs. search needs) (λ c. search needs) decision-lines-requires (λ c. search needs) sweep-lines-requires (λ c. search needs) returns)

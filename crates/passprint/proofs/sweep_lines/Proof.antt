@@ -1,0 +1,70 @@
+-- passprint::sweep_lines meets its contract.
+use Prim.Native.Nat.{ℕ, _+_, _-_, _≤_}
+use Rattle.layout.specs.Records.{sheetOf, limitOf}
+use Rattle.passprint.specs.LineLaws.{Putting, putting-start, putting-next, sweep-row, put-as}
+use Rattle.passprint.specs.Lines.{linesOf, rowSweep}
+use borrow.Author.Needs.{needs}
+use mathlib.Core.Path.{_≡_, refl, sym, ap, _∙_}
+use native.Mathlib.Omega.{arith}
+use Rattle.passprint.proofs.sweep_lines.Statement.{statement}
+use Rattle.passprint.proofs.sweep_lines.Tie as tie
+
+abbrev Inv-loop : tie.InvT-loop
+Inv-loop s c cars n sweeps out₀ from at₀ r₀ out at r = (r ≤ n) × Putting (rowSweep (sheetOf s c)) out₀ from r out at
+
+abbrev μ-loop : tie.MeasureT-loop
+μ-loop s c cars n sweeps out₀ from at₀ r₀ out at r = n - r
+
+loop-holds : tie.Need-loop-holds Inv-loop μ-loop
+loop-holds c = (omega arith, putting-start _ _ _)
+
+car-id-requires : tie.Need-car-id-requires Inv-loop μ-loop
+unfolding sheetOf
+car-id-requires c κs =
+    let p = c .before .before .before .before .before .before .before .before .pre in
+    let rows = p .1 in
+    let l = c .before .before .loop-test .taken in
+    let r = c .before .before .before .loop .r in
+    (p .0, omega (arith, rows .car-of r l, rows .below r l))
+
+shared-slice-read-sweep-line : tie.Need-shared-slice-read-sweep-line Inv-loop μ-loop
+unfolding sheetOf
+shared-slice-read-sweep-line c =
+    let p = c .before .before .before .before .before .before .before .before .before .before .pre in
+    let rows = p .1 in
+    let l = c .before .before .before .before .loop-test .taken in
+    let r = c .before .before .before .before .before .loop .r in
+    omega (arith, rows .car-of r l, rows .below r l, p .0 .cars, p .3 .size)
+
+sweep-line-requires : tie.Need-sweep-line-requires Inv-loop μ-loop
+sweep-line-requires c κs =
+    let p = c .before .before .before .before .before .before .before .before .before .before .pre in
+    let l = c .before .before .before .before .before .loop in
+    omega (arith, l .inv .1 .near, l .inv .1 .put .size, p .4, p .1 .few, c .before .before .before .before .loop-test .taken)
+
+loop-less : tie.Need-loop-less Inv-loop μ-loop
+loop-less c = omega arith
+
+loop-again : tie.Need-loop-again Inv-loop μ-loop
+loop-again c =
+    let a = c .before .before .before .before .before .before .before .before .before .before .before .before .before .args in
+    let p = c .before .before .before .before .before .before .before .before .before .before .before .before .before .pre in
+    let l = c .before .before .before .before .before .before .before .before .loop in
+    let t = c .before .before .before .before .before .before .before .loop-test .taken in
+    let call = c .before .before .sweep-line .ensures in
+    (omega arith, putting-next (l .inv .1) (sweep-row (sheetOf (a .s .now) (a .c)) (p .1) (l .r) t (c .before .before .before .before .car-id .ensures) (p .3)) (call .0) (call .1))
+
+same-length : tie.Need-same-length Inv-loop μ-loop
+same-length c = c .before .loop .inv .1 .put .size
+
+returns : tie.Need-returns Inv-loop μ-loop
+returns c =
+    let a = c .before .before .before .before .before .before .args in
+    let l = c .before .loop in
+    let e : l .r ≡ a .n = omega arith in
+    (put-as (ap (λ (k : ℕ). linesOf (rowSweep (sheetOf (a .s .now) (a .c))) k) e) (l .inv .1 .put), omega (arith, l .inv .1 .near, c .before .before .before .before .before .before .pre .1 .few))
+
+pub sweep-lines-spec : {M : Type 1} → statement M
+sweep-lines-spec =
+    tie.close
+    (tie.spec Inv-loop μ-loop loop-holds (λ c. search needs) (λ c. search needs) car-id-requires shared-slice-read-sweep-line sweep-line-requires (λ c. search needs) loop-less loop-again same-length returns)
