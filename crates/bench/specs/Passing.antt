@@ -20,7 +20,6 @@ use Rattle.layout.specs.declared.Reading.the-variants.{Refused, Accepted}
 use Rattle.layout.specs.Records.{sheetOf, limitOf}
 use Rattle.layout.specs.Verdict.{verdict}
 use Rattle.accepted.specs.Accepted.{accepted}
-use Rattle.manifest.specs.World.{stopId, stopAt}
 use Rattle.manifest.specs.Manifest.{riderlessCall, demandStop}
 use Rattle.manifest.specs.Stops.{HoldsStops}
 use Rattle.assignment_problem.specs.Choice.{cellAt}
@@ -29,18 +28,17 @@ use Rattle.assignment.specs.Pending.{pending, idleCars, rowCar, pendingStops, c
 use Rattle.assignment.specs.Candidates.{kept}
 use Rattle.assignment.specs.Cells.{matrix, answeredTotal}
 use Rattle.assignment.specs.CellLaws.{Small, columns-le, cells-fit}
-use Rattle.pending.specs.Masks.{stopMask, HoldsNames, Boarded}
+use Rattle.pending.specs.Masks.{stopMask}
 use Rattle.rows.specs.KeptLaws.{keptNumber}
 use Rattle.rows.specs.RowLaws.{Listed}
 use Rattle.rows.specs.MatrixLaws.{Rows, FilledRows, listed-count, listed-stop}
-use Rattle.cells.specs.Survey.{Survey, holds-stops}
+use Rattle.cells.specs.Survey.{Survey}
 use Rattle.decisions.specs.Decisions.{Filled, decisionBy}
 use Rattle.decisions.specs.DecisionLaws.{total-same, filled, decisions-same}
 use Rattle.outcome.specs.Outcome.{decisionsOf, cellsOf, rankedMost, refusal1, outcome, decisionsLeft, cellsLeft, sweepsLeft}
 use Rattle.bench.specs.declared.Answer.{Answer}
 use Rattle.bench.specs.Answers.{answerOf, rankedOf, rankedBound}
 use Rattle.outcome.specs.Bound.{ranked-bound}
-use Rattle.outcome.specs.TwoSheets.{rising-of}
 
 -- the stops with their ids and positions, and the masks of those with a call without a rider, with demand, and pending
 pub record Masks (s : Sheet) (ids : List ℕ) (xs : List Float) (calls demand mask : ℕ) : Type 0 where
@@ -130,28 +128,6 @@ module _ (s : Sheet) (limit : ℕ) (small : Small s) (ids : List ℕ) (xs : List
       unfolding decisionsOf
       decisions-are before after e =
           (rw (car-number, width) at e) ∙ decisions-same s limit (take k exit) prefix m stops ids stop-number listed (h .stops-held .id-of) before
-
--- ---- the masks of an accepted sheet
-
--- what an accepted sheet's counts and names give the stages
-pub record Begun (bytes : List ℕ) (c : Counts) (ids : List ℕ) (xs : List Float) : Type 0 where
-  pub stops-held : HoldsStops (sheetOf bytes c) ids xs (c .stops)
-  pub names : HoldsNames (sheetOf bytes c) ids
-  pub boarded : Boarded (sheetOf bytes c)
-  pub few-demands : c .demands ≤ 64
-
-pub begun : (bytes : List ℕ) (c : Counts) → verdict bytes ≡ Accepted c → (ids : List ℕ) (xs : List Float) (r : List ℕ) (q : List Float)
-    → ids ≡ tab (stopId (sheetOf bytes c)) (c .stops) ++ r → xs ≡ tab (stopAt (sheetOf bytes c)) (c .stops) ++ q → Begun bytes c ids xs
-unfolding sheetOf
-begun bytes c e ids xs r q ei ex =
-    let sound = accepted bytes c e .sheet in
-    let held = holds-stops (sheetOf bytes c) ids xs r q ei ex in
-    record {
-      stops-held = held;
-      names = record { held = held .id-of; above-zero = rising-of bytes c e .above-zero };
-      boarded = record { above-zero = λ a l. let (i, b, q) = sound .aboard a l in omega (arith, q, sound .car i b .id) };
-      few-demands = omega (arith, sound .most-demands, sound .most-stops);
-    }
 
 -- ---- refusal 1 in front
 

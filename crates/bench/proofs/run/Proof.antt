@@ -1,6 +1,6 @@
 -- bench::run meets its contract.
 use Rattle.accepted.specs.Accepted.{accepted}
-use Rattle.bench.specs.Passing.{Begun, begun}
+use Rattle.cells.specs.Begun.{Begun, begun}
 use Rattle.layout.specs.Records.{sheetOf}
 use Rattle.outcome.specs.Outcome.{sweepsOf}
 use borrow.Author.Needs.{needs}
