@@ -21,7 +21,7 @@ use Rattle.bench.specs.Passing.{Left, left-as}
 
 -- "The two sheets, both accepted, agree in every bit but the policy's limit, which is the higher number in the second": with the lengths of their buffers,
 -- since a buffer that is too short is refused
-pub record Accepted (first second : List ℕ) (d m w d′ m′ w′ : ℕ) (c e : Counts) : Type 0 where
+pub record AcceptedPair (first second : List ℕ) (d m w d′ m′ w′ : ℕ) (c e : Counts) : Type 0 where
   pub first-accepted : outcome first d m w ≡ reading.Accepted c
   pub second-accepted : outcome second d′ m′ w′ ≡ reading.Accepted e
   pub agree : AgreeButLimit first second
@@ -29,7 +29,7 @@ pub record Accepted (first second : List ℕ) (d m w d′ m′ w′ : ℕ) (c e 
 
 -- demand 3, of what stands in the buffers and what was answered: it holds whenever the two sheets are such a pair
 pub record Claim (first second : List ℕ) (d m w d′ m′ w′ : ℕ) (decisions cells : List ℕ) (answer : Answer) (decisions′ cells′ : List ℕ) (answer′ : Answer) : Type 0 where
-  pub holds : (c e : Counts) → Accepted first second d m w d′ m′ w′ c e
+  pub holds : (c e : Counts) → AcceptedPair first second d m w d′ m′ w′ c e
       → Demand3 (sheetOf first c) (sheetOf second e) (limitOf first) (limitOf second) decisions cells (totalOf answer) decisions′ cells′ (totalOf answer′)
 
 -- an accepted outcome is an accepted verdict
