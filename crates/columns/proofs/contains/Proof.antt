@@ -8,6 +8,7 @@ use lib.Dec.{eqb}
 use lib.ListN.{getD}
 use mathlib.Core.Bool.{Bool, false}
 use mathlib.Core.List.{List}
+use mathlib.Core.Logic.{_≢_}
 use mathlib.Core.Path.{_≡_, refl, sym, ap, _∙_}
 use native.Mathlib.Omega.{arith}
 use Rattle.columns.proofs.contains.Statement.{statement}
@@ -30,13 +31,17 @@ returns : tie.Need-returns Inv-loop μ-loop
 unfolding contains
 returns c =
     let a = c .before .before .before .before .args in
-    sym (any-at (here (a .ids .now) (a .id)) (a .n) (c .before .before .before .loop .i) (c .before .before .loop-test .taken) (eq-eqb _ _ (c .if1 .taken)))
+    let i = c .before .before .before .loop .i in
+    let found : getD (a .ids .now) i 0 ≡ a .id = c .if1 .taken in
+    sym (any-at (here (a .ids .now) (a .id)) (a .n) i (c .before .before .loop-test .taken) (eq-eqb _ _ found))
 
 loop-again : tie.Need-loop-again Inv-loop μ-loop
 unfolding contains
 loop-again c =
     let a = c .before .before .before .before .args in
-    (omega arith, any-no (here (a .ids .now) (a .id)) (c .before .before .before .loop .i) (ne-eqb _ _ (c .if1 .left)) (c .before .before .before .loop .inv .1))
+    let i = c .before .before .before .loop .i in
+    let other : getD (a .ids .now) i 0 ≢ a .id = c .if1 .left in
+    (omega arith, any-no (here (a .ids .now) (a .id)) i (ne-eqb _ _ other) (c .before .before .before .loop .inv .1))
 
 returns-2 : tie.Need-returns-2 Inv-loop μ-loop
 returns-2 c = let a = c .before .before .args in ended (λ k. contains (a .ids .now) k (a .id)) (c .before .loop .inv .0) (c .loop-test .left) (c .before .loop .inv .1)

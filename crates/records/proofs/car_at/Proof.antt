@@ -1,9 +1,9 @@
 -- records::car_at meets its contract.
 use Rattle.bits.specs.Field.{flagAt}
 use Rattle.components.specs.Codes.{phaseOf, directionOf, modeOf}
-use Rattle.layout.specs.Records.{carOf}
+use Rattle.layout.specs.Records.{from, double, carOf}
 use borrow.Author.Needs.{needs}
-use mathlib.Core.Path.{ap, ap₂, _∙_}
+use mathlib.Core.Path.{_≡_, ap, ap₂, _∙_}
 use Rattle.records.proofs.car_at.Statement.{statement}
 use Rattle.records.proofs.car_at.Tie as tie
 
@@ -15,6 +15,9 @@ returns c =
     let d3 = d2 .before .before .before .before in
     let d4 = d3 .before .before .before .before in
     let d5 = d4 .before .before .before .before in
+    let a = d5 .before .before .before .before .args in
+    let capacity : d1 .before .before .before .double-at3 .result ≡ double (from (a .s .now) (a .at)) 287 = d1 .before .before .before .double-at3 .ensures in
+    let load : d1 .before .before .double-at4 .result ≡ double (from (a .s .now) (a .at)) 351 = d1 .before .before .double-at4 .ensures in
     λ i. record {
       id = d5 .before .before .field32 .ensures i;
       line = d5 .before .field322 .ensures i;
@@ -27,8 +30,8 @@ returns c =
       mode = (d2 .before .before .of-bit2 .ensures ∙ ap modeOf (d2 .before .before .before .flag5 .ensures)) i;
       position = d2 .before .double-at .ensures i;
       speed = d2 .double-at2 .ensures i;
-      capacity = d1 .before .before .before .double-at3 .ensures i;
-      load = d1 .before .before .double-at4 .ensures i;
+      capacity = capacity i;
+      load = load i;
       bypassup = d1 .before .threshold-at .ensures i;
       bypassdown = d1 .threshold-at2 .ensures i;
       transition = c .before .before .before .field325 .ensures i;

@@ -2,7 +2,7 @@
 use Rattle.components.specs.Codes.{strategyOf}
 use Rattle.layout.specs.Refusals.{refusal15}
 use borrow.Author.Needs.{needs}
-use mathlib.Core.Path.{sym, ap, _∙_}
+use mathlib.Core.Path.{refl, sym, ap, _∙_}
 use Rattle.refusals_policy.proofs.load_weighed.Statement.{statement}
 use Rattle.refusals_policy.proofs.load_weighed.Tie as tie
 
@@ -12,7 +12,7 @@ returns c = rw (sym (c .before .before .before .of-code .ensures ∙ ap strategy
 
 returns-2 : tie.Need-returns-2
 unfolding refusal15
-returns-2 c = rw (sym (c .before .before .before .of-code .ensures ∙ ap strategyOf (c .before .before .before .before .field .ensures .is)) ∙ c .enum-told2 .given .1, c .before .before .double-at .ensures)
+returns-2 c = rw (sym (c .before .before .before .of-code .ensures ∙ ap strategyOf (c .before .before .before .before .field .ensures .is)) ∙ c .enum-told2 .given .1, c .before .before .double-at .ensures) refl
 
 returns-3 : tie.Need-returns-3
 unfolding refusal15

@@ -37,11 +37,12 @@ loop-again c =
     let l = d .before .before .before .loop in
     let s = d .before .before .before .before .before .args .s .now in
     let f : recordRefusal s (l .c) ≡ 0 = sym (d .before .record-refusal .ensures) ∙ c .before .before .before .if1 .left in
+    let code : c .before .before .field .result ≡ fieldAt s (d .end-of .result + 0) 6 = c .before .before .field .ensures .is in
     let k : c .next .result ≡ next (l .c) (kindOf (kindAt s (l .c))) =
     c .next .ensures
     ∙ ap (next (l .c))
     (c .before .of-code .ensures
-    ∙ ap kindOf (c .before .before .field .ensures .is ∙ ap (λ (x : ℕ). fieldAt s (x + 0) 6) (d .end-of .ensures))) in
+    ∙ ap kindOf (code ∙ ap (λ (x : ℕ). fieldAt s (x + 0) 6) (d .end-of .ensures))) in
     rw k (
       next-small (l .c) (kindOf (kindAt s (l .c))) (l .inv .0) (clean s (l .c) f .has-room) (omega arith),
       omega (arith, next-demands (l .c) (kindOf (kindAt s (l .c)))),
