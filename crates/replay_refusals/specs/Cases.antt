@@ -1,18 +1,14 @@
 -- What a stored case asks, and what the reader answers. Assumes nothing.
-use Prim.Native.Nat.{ℕ, zero, suc, _+_, _*_, _≤_}
+use Prim.Native.Nat.{ℕ, _+_, _≤_}
 use mathlib.Core.List.{List}
-use lib.ListN.{getD, take, drop}
+use lib.ListN.{take, drop}
 use Rattle.layout.specs.declared.Reading.{Reading}
 use Rattle.layout.specs.declared.Reading.the-variants.{Refused, Accepted}
 use Rattle.layout.specs.Verdict.{verdict}
+use Rattle.lists.specs.Lists.{number}
 use Rattle.replay_refusals.specs.declared.Answer.{Answer}
 use Rattle.replay_refusals.specs.declared.Case.{Case}
 use Rattle.replay_refusals.specs.declared.Totals.{Totals}
-
--- n bytes from byte at, most significant first
-unfoldable pub number : List ℕ → ℕ → ℕ → ℕ
-number s at zero = 0
-number s at (suc n) = number s at n * 256 + getD s (at + n) 0
 
 abbrev pub answerOf : Reading → Answer
 answerOf (Refused n o) = record { number = n; offset = o }

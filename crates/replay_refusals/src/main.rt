@@ -12,7 +12,7 @@ use libc::STDOUT_FILENO;
 ghost use mathlib.Core.Path.{_≡_};
 ghost use Prim.Native.Nat.{_+_, _≤_, _<_, _^_, _*_};
 ghost use lib.ListN.{length};
-ghost use Rattle.replay_refusals.specs.Cases.{number, answerOf, caseAt, Counted};
+ghost use Rattle.replay_refusals.specs.Cases.{answerOf, caseAt, Counted};
 
 // A refusal's number and offset; both 0 where the sheet is accepted.
 struct Answer {
@@ -45,26 +45,6 @@ fn list_buffer() -> [u8; 204800]
     [0; 204800]
 }
 
-fn wide(x: u8) -> u64
-    ensures { λ r. ⌜ r ≡ x ⌝ }
-{
-    x as u64
-}
-
-// n bytes from byte at, most significant first.
-fn number(s: &[u8], at: usize, n: usize) -> u64
-    requires { ⌜ (n ≤ 8) × (at + n ≤ length (now s)) ⌝ }
-    ensures { λ r. ⌜ (r ≡ number (now (s .entry)) at n) × (r < 2 ^ (8 * n)) ⌝ }
-{
-    let mut r: u64 = 0;
-    let mut i: usize = 0;
-    while i < n {
-        r = r * 256 + wide(s[at + i]);
-        i += 1;
-    }
-    r
-}
-
 fn answer_of(r: Reading) -> Answer
     ensures { λ a. ⌜ a ≡ answerOf r ⌝ }
 {
@@ -88,8 +68,8 @@ fn case_at(s: &[u8], at: usize, n: usize) -> Case
     let start = at + 2;
     let end = start + n;
     let expected = Answer {
-        number: number(s, end, 1),
-        offset: number(s, end + 1, 4),
+        number: lists::number(s, end, 1),
+        offset: lists::number(s, end + 1, 4),
     };
     let got = answer_of(sheet::read(&s[start..end]));
     Case { got, expected }
@@ -170,7 +150,7 @@ fn turn(s: &[u8], at: usize, t: Totals) -> Step
     if left < 7 {
         return cut(s, at, t);
     }
-    let n = number(s, at, 2) as usize;
+    let n = lists::number(s, at, 2) as usize;
     if left - 7 < n {
         return cut(s, at, t);
     }

@@ -1,19 +1,15 @@
 -- What a vector asks, and what the proved functions answer. Assumes nothing.
-use Prim.Native.Nat.{ℕ, zero, suc, _+_, _*_, _≤_}
+use Prim.Native.Nat.{ℕ, _+_, _≤_}
 use mathlib.Core.List.{List}
-use lib.ListN.{length, getD, take, drop}
+use lib.ListN.{length, take, drop}
 use lib.Ieee.{binary64, ofBits}
 use Rattle.scale.specs.Scale.{scaleCost}
 use Rattle.bits.specs.Field.{fieldAt}
+use Rattle.lists.specs.Lists.{number}
 use Rattle.vectors.specs.declared.Case.{Case}
 use Rattle.vectors.specs.declared.Totals.{Totals}
 use Rattle.vectors.specs.declared.Vector.{Vector}
 use Rattle.vectors.specs.declared.Vector.the-variants.{Scale, Field, Unknown}
-
--- n bytes from byte at, most significant first
-unfoldable pub number : List ℕ → ℕ → ℕ → ℕ
-number s at zero = 0
-number s at (suc n) = number s at n * 256 + getD s (at + n) 0
 
 -- a vector that lies inside the bytes
 abbrev pub Whole : List ℕ → ℕ → Vector → Type 0

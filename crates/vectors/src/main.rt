@@ -4,7 +4,7 @@ use libc::STDOUT_FILENO;
 ghost use mathlib.Core.Path.{_≡_};
 ghost use Prim.Native.Nat.{_+_, _≤_, _<_, _^_, _*_};
 ghost use lib.ListN.{length};
-ghost use Rattle.vectors.specs.Vectors.{number, Whole, Counted, scaleCase, fieldCase};
+ghost use Rattle.vectors.specs.Vectors.{Whole, Counted, scaleCase, fieldCase};
 
 // What the proved function answers, and what Rust gave.
 struct Case {
@@ -33,30 +33,10 @@ struct Step {
     totals: Totals,
 }
 
-fn wide(x: u8) -> u64
-    ensures { λ r. ⌜ r ≡ x ⌝ }
-{
-    x as u64
-}
-
 fn size(x: u8) -> usize
     ensures { λ r. ⌜ r ≡ x ⌝ }
 {
     x as usize
-}
-
-// n bytes from byte at, most significant first.
-fn number(s: &[u8], at: usize, n: usize) -> u64
-    requires { ⌜ (n ≤ 8) × (at + n ≤ length (now s)) ⌝ }
-    ensures { λ r. ⌜ (r ≡ number (now (s .entry)) at n) × (r < 2 ^ (8 * n)) ⌝ }
-{
-    let mut r: u64 = 0;
-    let mut i: usize = 0;
-    while i < n {
-        r = r * 256 + wide(s[at + i]);
-        i += 1;
-    }
-    r
 }
 
 // The vector that starts at byte at.
@@ -93,9 +73,9 @@ fn scale_case(s: &[u8], at: usize) -> Case
     requires { ⌜ at + 17 ≤ length (now s) ⌝ }
     ensures { λ r. ⌜ r ≡ scaleCase (now (s .entry)) at ⌝ }
 {
-    let cost = fp::double(number(s, at + 1, 8));
+    let cost = fp::double(lists::number(s, at + 1, 8));
     let scaled = scale::scale_cost(cost);
-    let expected = number(s, at + 9, 8);
+    let expected = lists::number(s, at + 9, 8);
     Case {
         got: scaled.cell,
         expected,
@@ -106,11 +86,11 @@ fn field_case(s: &[u8], at: usize, w: usize, n: usize) -> Case
     requires { ⌜ (w ≤ 64) × (at + 19 + n ≤ length (now s)) ⌝ }
     ensures { λ r. ⌜ r ≡ fieldCase (now (s .entry)) at w n ⌝ }
 {
-    let from = number(s, at + 1, 4) as u32;
-    let off = number(s, at + 5, 4) as u32;
+    let from = lists::number(s, at + 1, 4) as u32;
+    let off = lists::number(s, at + 5, 4) as u32;
     let start = at + 11;
     let end = start + n;
-    let expected = number(s, end, 8);
+    let expected = lists::number(s, end, 8);
     let got = bits::field(&s[start..end], from, off, w);
     Case { got, expected }
 }

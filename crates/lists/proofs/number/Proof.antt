@@ -1,4 +1,4 @@
--- vectors::number meets its contract.
+-- lists::number meets its contract.
 use Prim.Native.Nat.{ℕ, _+_, _-_, _*_, _^_, _≤_, _<_}
 use mathlib.Core.Path.{_≡_}
 use native.Mathlib.Nat.{lt-of-lt-of-le}
@@ -8,9 +8,9 @@ use borrow.Author.Needs.{needs}
 use mathlib.Core.List.{List}
 use lib.ListN.{getD}
 use lib.Pow.{pow-add, pow-mono}
-use Rattle.vectors.specs.Vectors.{number}
-use Rattle.vectors.proofs.number.Statement.{statement}
-use Rattle.vectors.proofs.number.Tie as tie
+use Rattle.lists.specs.Lists.{number}
+use Rattle.lists.proofs.number.Statement.{statement}
+use Rattle.lists.proofs.number.Tie as tie
 
 abbrev Inv : tie.InvT-loop
 Inv s at n r₀ i₀ r i = (i ≤ n) × (r ≡ number s at i) × (r < 2 ^ (8 * i))

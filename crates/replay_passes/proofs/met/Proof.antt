@@ -1,0 +1,26 @@
+-- replay_passes::met meets its contract.
+use Rattle.replay_passes.specs.Cases.{apart-no, apart-yes}
+use borrow.Author.Needs.{needs}
+use native.Mathlib.Omega.{arith}
+use Rattle.replay_passes.proofs.met.Statement.{statement}
+use Rattle.replay_passes.proofs.met.Tie as tie
+
+returns : tie.Need-returns
+returns c =
+    let a = c .before .args in
+    omega (arith, apart-no (a .ours) (a .theirs) (c .if1 .taken))
+
+returns-2 : tie.Need-returns-2
+returns-2 c =
+    let a = c .before .before .before .before .args in
+    omega (arith, apart-yes (a .ours) (a .theirs) (c .before .before .before .if1 .left))
+
+returns-3 : tie.Need-returns-3
+returns-3 c =
+    let a = c .before .before .before .args in
+    omega (arith, apart-yes (a .ours) (a .theirs) (c .before .before .if1 .left), c .if2 .left)
+
+pub met-spec : {M : Type 1} → statement M
+met-spec =
+    tie.close
+    (tie.spec returns (λ c. search needs) returns-2 returns-3)
