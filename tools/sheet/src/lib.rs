@@ -8,6 +8,8 @@ pub mod draw;
 pub mod explain;
 mod faults;
 pub mod fields;
+// One table of refusals for this program and the crate dispatch-bench.
+#[path = "../../../rust/src/rules.rs"]
 pub mod rules;
 pub mod show;
 pub mod text;

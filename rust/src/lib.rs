@@ -1,0 +1,76 @@
+//! The dispatch bench for Rust hosts: one group pass of lift dispatch over a binary sheet.
+//!
+//! Every function of the linked library is proved to meet its contract; this crate is what a Rust host needs around it and is not proved. Each
+//! function ends on every input, with an answer or a [`Refusal`], and none panics. There is no state, so any number of threads may call at once;
+//! a call takes less than 64 KiB of stack. docs/MANUAL.md has the format of a sheet, the rules of the refusals, and what is proved.
+//!
+//! ```
+//! # let sheet = include_bytes!(concat!(env!("CARGO_MANIFEST_DIR"), "/../crates/passprint/stdin"));
+//! let pass = dispatch_bench::pass(sheet)?;
+//! let idle = dispatch_bench::cars(sheet).filter(|car| car.idle_listed);
+//! for (car, decision) in idle.zip(&pass.decisions) {
+//!     match decision {
+//!         Some(stop) => println!("car {} goes to stop {stop}", car.id),
+//!         None => println!("car {} stays idle", car.id),
+//!     }
+//! }
+//! # Ok::<(), dispatch_bench::Refusal>(())
+//! ```
+
+#![deny(unsafe_code)]
+
+#[allow(unsafe_code)]
+mod library;
+mod pass;
+mod records;
+mod refusal;
+mod rules;
+
+pub use pass::{
+    Buffers, Decision, Pass, Summary, Sweep, SweepDirection, SweepMode, pass, pass_into,
+};
+pub use records::{Car, cars};
+pub use refusal::Refusal;
+
+/// The cell of a pair that has no rank, and the largest cell that [`choose`] takes.
+pub const SENTINEL: u64 = 281_474_976_710_656;
+
+/// The most cars of a matrix.
+const MOST_CARS: usize = 32;
+
+/// A column for each car, with the least total.
+#[derive(Clone, Debug, PartialEq, Eq)]
+pub struct Choice {
+    /// Distinct columns, one for each car.
+    pub columns: Vec<u32>,
+    /// The sum of their cells.
+    pub total: u64,
+}
+
+/// Whether a sheet is accepted.
+pub fn read(sheet: &[u8]) -> Result<(), Refusal> {
+    match library::read(sheet) {
+        (0, _) => Ok(()),
+        (number, offset) => Err(Refusal { number, offset }),
+    }
+}
+
+/// The choice of one column a car with the least total; among these the lowest column for the first car, then for the second, on. The cells
+/// stand row by row.
+///
+/// `None`: more than 32 cars or 64 columns, fewer columns than cars, not cars × columns cells, or a cell above [`SENTINEL`].
+///
+/// ```
+/// let choice = dispatch_bench::choose(2, 2, &[1, 2, 1, 9]).unwrap();
+/// assert_eq!((choice.columns, choice.total), (vec![1, 0], 3));
+/// assert_eq!(dispatch_bench::choose(2, 1, &[1, 2]), None);
+/// ```
+pub fn choose(cars: usize, columns: usize, cells: &[u64]) -> Option<Choice> {
+    let mut chosen = [0; MOST_CARS];
+    let mut total = 0;
+    if !library::choose(cars, columns, cells, &mut chosen, &mut total) {
+        return None;
+    }
+    let columns = chosen.get(..cars)?.to_vec();
+    Some(Choice { columns, total })
+}

@@ -1,0 +1,104 @@
+//! The proved library, by include/dispatch_bench.h. The only module with calls into another language.
+//!
+//! What each call rests on: a slice's address is never null, and it may be read, or written where it is `&mut`, for its whole length while the call
+//! lasts; two `&mut` never overlap, nor does one overlap a `&`. The library keeps no address and no state between calls, and returns from every
+//! input. A `Decision` is laid out as a `u32` with 0 for `None`, and a `Sweep` as a `u8`, so whatever number is written there is a value of them.
+
+use crate::{Decision, Sweep};
+
+unsafe extern "C" {
+    fn dispatch_bench_read(sheet: *const u8, length: usize, offset: *mut u64) -> u32;
+    fn dispatch_bench_choose(
+        cars: usize,
+        columns: usize,
+        cells: *const u64,
+        cell_count: usize,
+        chosen: *mut u32,
+        places: usize,
+        total: *mut u64,
+    ) -> u32;
+    fn dispatch_bench_pass(
+        sheet: *const u8,
+        length: usize,
+        decisions: *mut Decision,
+        decision_count: usize,
+        matrix: *mut u64,
+        cell_count: usize,
+        sweeps: *mut Sweep,
+        sweep_count: usize,
+        cars: *mut u64,
+        stops: *mut u64,
+        total: *mut u64,
+        ranked: *mut u64,
+        offset: *mut u64,
+    ) -> u32;
+}
+
+/// The numbers that a pass answers, beside what it leaves in the buffers.
+#[derive(Default)]
+pub struct Numbers {
+    pub cars: u64,
+    pub stops: u64,
+    pub total: u64,
+    pub ranked: u64,
+    pub offset: u64,
+}
+
+/// 0 for an accepted sheet, or the refusal's number; then its offset.
+pub fn read(sheet: &[u8]) -> (u32, u64) {
+    let mut offset = 0;
+    // SAFETY: the sheet is lent as its address and its length, the offset is a local; see above.
+    let number = unsafe { dispatch_bench_read(sheet.as_ptr(), sheet.len(), &mut offset) };
+    (number, offset)
+}
+
+/// Whether there is a choice: then its columns stand first in `chosen`, and `total` is its total.
+pub fn choose(
+    cars: usize,
+    columns: usize,
+    cells: &[u64],
+    chosen: &mut [u32],
+    total: &mut u64,
+) -> bool {
+    // SAFETY: both slices are lent as their addresses and lengths, and the total as the address of one `u64`; see above.
+    let answer = unsafe {
+        dispatch_bench_choose(
+            cars,
+            columns,
+            cells.as_ptr(),
+            cells.len(),
+            chosen.as_mut_ptr(),
+            chosen.len(),
+            total,
+        )
+    };
+    answer == 1
+}
+
+/// 0 for a pass, or the refusal's number.
+pub fn pass(
+    sheet: &[u8],
+    decisions: &mut [Decision],
+    matrix: &mut [u64],
+    sweeps: &mut [Sweep],
+    numbers: &mut Numbers,
+) -> u32 {
+    // SAFETY: the four slices are lent as their addresses and lengths, and the five numbers are fields of their own; see above.
+    unsafe {
+        dispatch_bench_pass(
+            sheet.as_ptr(),
+            sheet.len(),
+            decisions.as_mut_ptr(),
+            decisions.len(),
+            matrix.as_mut_ptr(),
+            matrix.len(),
+            sweeps.as_mut_ptr(),
+            sweeps.len(),
+            &mut numbers.cars,
+            &mut numbers.stops,
+            &mut numbers.total,
+            &mut numbers.ranked,
+            &mut numbers.offset,
+        )
+    }
+}

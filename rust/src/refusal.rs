@@ -1,0 +1,45 @@
+use std::fmt;
+
+use crate::rules;
+
+/// Why there is no pass: the number of a rule, and the bit offset where the refused record starts.
+///
+/// ```
+/// let refusal = dispatch_bench::read(&[2, 0, 0]).unwrap_err();
+/// assert_eq!((refusal.number, refusal.offset), (3, 0));
+/// assert_eq!(
+///     refusal.to_string(),
+///     "refused 3 at 0: The edition in the first 8 bits is not 1."
+/// );
+/// ```
+#[derive(Clone, Copy, Debug, PartialEq, Eq, Hash)]
+pub struct Refusal {
+    /// 1 to 16; 1 is given for short buffers alone.
+    pub number: u32,
+    /// In bits from the sheet's start; 0 for 1 and 3.
+    pub offset: u64,
+}
+
+impl Refusal {
+    /// The rule that the number stands for. Empty for a number that is none.
+    pub fn rule(&self) -> &'static str {
+        rules::rule(self.number).map_or("", |rule| rule.says)
+    }
+
+    /// What puts an end to the refusal. Empty for a number that is none.
+    pub fn remedy(&self) -> &'static str {
+        rules::rule(self.number).map_or("", |rule| rule.remedy)
+    }
+}
+
+impl fmt::Display for Refusal {
+    fn fmt(&self, f: &mut fmt::Formatter<'_>) -> fmt::Result {
+        write!(f, "refused {} at {}", self.number, self.offset)?;
+        match rules::rule(self.number) {
+            Some(rule) => write!(f, ": {}", rule.says),
+            None => Ok(()),
+        }
+    }
+}
+
+impl std::error::Error for Refusal {}

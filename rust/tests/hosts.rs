@@ -1,0 +1,182 @@
+//! The crate on stored sheets: those of ../fuzz/corpus, whose refused ones are named after their number.
+
+use std::num::NonZeroU32;
+use std::path::Path;
+
+use dispatch_bench::{
+    Buffers, Refusal, SENTINEL, Sweep, SweepDirection, SweepMode, cars, choose, pass, pass_into,
+    read,
+};
+
+const EXAMPLE: &[u8] = include_bytes!("../../crates/passprint/stdin");
+
+fn corpus() -> Vec<(String, Vec<u8>)> {
+    let folder = Path::new(env!("CARGO_MANIFEST_DIR")).join("../fuzz/corpus");
+    let mut sheets = Vec::new();
+    for entry in std::fs::read_dir(folder).unwrap() {
+        let path = entry.unwrap().path();
+        let name = path.file_name().unwrap().to_string_lossy().into_owned();
+        sheets.push((name, std::fs::read(path).unwrap()));
+    }
+    assert!(sheets.len() > 50);
+    sheets
+}
+
+/// The number in a name such as refusal_11_speed.
+fn number_of(name: &str) -> Option<u32> {
+    name.strip_prefix("refusal_")?.get(..2)?.parse().ok()
+}
+
+#[test]
+fn the_example() {
+    let pass = pass(EXAMPLE).unwrap();
+    assert_eq!((pass.cars, pass.stops, pass.total), (2, 2, 10_000_000));
+    assert_eq!(pass.decisions, [NonZeroU32::new(2), NonZeroU32::new(3)]);
+    let rows: Vec<&[u64]> = pass.rows().collect();
+    assert_eq!(rows.len(), 2);
+    assert_eq!(rows[0][0] + rows[1][1], 10_000_000);
+    let sweeps: Vec<_> = pass
+        .sweeps
+        .iter()
+        .map(|s| (s.direction(), s.mode()))
+        .collect();
+    assert_eq!(
+        sweeps,
+        [
+            (SweepDirection::Up, SweepMode::Strict),
+            (SweepDirection::Down, SweepMode::Lenient)
+        ]
+    );
+    assert_eq!(pass.sweeps[1].code(), 3);
+}
+
+#[test]
+fn refused_sheets_get_their_numbers() {
+    let mut seen = [false; 17];
+    for (name, sheet) in corpus() {
+        let refused = read(&sheet);
+        assert_eq!(refused.err().map(|r| r.number), number_of(&name), "{name}");
+        assert_eq!(pass(&sheet).err(), refused.err(), "{name}");
+        seen[number_of(&name).unwrap_or(0) as usize] = true;
+    }
+    let unseen: Vec<usize> = (0..17).filter(|n| !seen[*n]).collect();
+    assert_eq!(
+        unseen,
+        [1],
+        "no sheet is refused by 1, every other number has one"
+    );
+}
+
+#[test]
+fn buffers_are_lent_again() {
+    let mut buffers = Buffers::new();
+    for (name, sheet) in corpus() {
+        let before = buffers.clone();
+        match (pass(&sheet), pass_into(&sheet, &mut buffers)) {
+            (Ok(owned), Ok(lent)) => {
+                assert_eq!(owned.decisions, lent.decisions, "{name}");
+                assert_eq!(owned.matrix, lent.matrix, "{name}");
+                assert_eq!(owned.sweeps, lent.sweeps, "{name}");
+                assert_eq!(owned.total, lent.total, "{name}");
+                assert_eq!(lent.rows().count(), lent.cars, "{name}");
+                assert_eq!(lent.sweeps.len(), cars(&sheet).count(), "{name}");
+            }
+            (Err(owned), Err(lent)) => {
+                assert_eq!(owned, lent, "{name}");
+                assert_eq!(before, buffers, "{name}");
+            }
+            (owned, _) => panic!("{name}: one of the two was refused: {owned:?}"),
+        }
+    }
+}
+
+#[test]
+fn further_entries_are_kept() {
+    let mut buffers = Buffers::new();
+    buffers.decisions = vec![NonZeroU32::new(99); 40];
+    buffers.matrix = vec![99; 3_000];
+    pass_into(EXAMPLE, &mut buffers).unwrap();
+    assert!(
+        buffers.decisions[2..]
+            .iter()
+            .all(|d| *d == NonZeroU32::new(99))
+    );
+    assert!(buffers.matrix[4..].iter().all(|cell| *cell == 99));
+}
+
+#[test]
+fn short_buffers_are_refused_first() {
+    let refusal = Refusal {
+        number: 1,
+        offset: 0,
+    };
+    for sheet in [EXAMPLE, b"no sheet"] {
+        let mut short = [Buffers::new(), Buffers::new(), Buffers::new()];
+        short[0].decisions.truncate(31);
+        short[1].matrix.truncate(2_047);
+        short[2].sweeps = Vec::<Sweep>::new();
+        for buffers in &mut short {
+            assert_eq!(pass_into(sheet, buffers), Err(refusal));
+        }
+    }
+}
+
+#[test]
+fn any_bytes_have_an_answer() {
+    let long = vec![0xff; 70_000];
+    for length in [0, 1, 2, 3, 5, 66, 65_536, 70_000] {
+        let refusal = pass(&long[..length]).unwrap_err();
+        assert_eq!(refusal.number, if length < 3 { 2 } else { 3 });
+        assert_eq!(cars(&long[..length]).count(), 0);
+    }
+    for cut in 0..EXAMPLE.len() {
+        let refusal = pass(&EXAMPLE[..cut]).unwrap_err();
+        assert_eq!(refusal.number, 2, "the first {cut} bytes");
+        assert!(cars(&EXAMPLE[..cut]).count() <= 2);
+    }
+}
+
+#[test]
+fn the_matcher() {
+    assert_eq!(choose(0, 0, &[]).unwrap().total, 0);
+    assert_eq!(choose(2, 2, &[5; 4]).unwrap().columns, [0, 1]);
+    let p3 = [SENTINEL - 1, 1, SENTINEL, SENTINEL - 1];
+    let choice = choose(2, 2, &p3).unwrap();
+    assert_eq!((choice.columns, choice.total), (vec![1, 0], SENTINEL + 1));
+    assert_eq!(
+        choose(32, 64, &[SENTINEL; 2_048]).unwrap().total,
+        32 * SENTINEL
+    );
+    assert_eq!(choose(33, 64, &[0; 33 * 64]), None);
+    assert_eq!(choose(1, 1, &[SENTINEL + 1]), None);
+    assert_eq!(choose(usize::MAX, usize::MAX, &[0]), None);
+}
+
+/// The sentences of the refusals are those of docs/MANUAL.md.
+#[test]
+fn sentences() {
+    let manual = include_str!("../../docs/MANUAL.md");
+    for number in 1..=16 {
+        let refusal = Refusal { number, offset: 24 };
+        let row = format!("| {number} | {} | {} |", refusal.rule(), refusal.remedy());
+        assert_eq!(manual.matches(&row).count(), 1, "{row}");
+        let said = format!("refused {number} at 24: {}", refusal.rule());
+        assert_eq!(refusal.to_string(), said);
+    }
+    let unknown = Refusal {
+        number: 17,
+        offset: 0,
+    };
+    assert_eq!(unknown.to_string(), "refused 17 at 0");
+}
+
+#[test]
+fn threads_do_not_meet() {
+    let alone = pass(EXAMPLE);
+    let threads: Vec<_> = (0..4)
+        .map(|_| std::thread::spawn(|| (0..500).map(|_| pass(EXAMPLE)).collect::<Vec<_>>()))
+        .collect();
+    for thread in threads {
+        assert!(thread.join().unwrap().iter().all(|pass| *pass == alone));
+    }
+}
