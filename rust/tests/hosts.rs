@@ -1,4 +1,4 @@
-//! The crate on stored sheets: those of ../fuzz/corpus, whose refused ones are named after their number.
+//! The crate on stored sheets: those of ../fuzz/corpus_pass, whose refused ones are named after their number.
 
 use std::num::NonZeroU32;
 use std::path::Path;
@@ -11,7 +11,7 @@ use dispatch_bench::{
 const EXAMPLE: &[u8] = include_bytes!("../../crates/passprint/stdin");
 
 fn corpus() -> Vec<(String, Vec<u8>)> {
-    let folder = Path::new(env!("CARGO_MANIFEST_DIR")).join("../fuzz/corpus");
+    let folder = Path::new(env!("CARGO_MANIFEST_DIR")).join("../fuzz/corpus_pass");
     let mut sheets = Vec::new();
     for entry in std::fs::read_dir(folder).unwrap() {
         let path = entry.unwrap().path();

@@ -1,0 +1,56 @@
+#include "facts.h"
+
+#include <string.h>
+
+#include "sheet.h"
+
+/* Where a field stands in its record, the 22 bits in front counted. */
+enum { ID = 22, SECOND = 54, CAR_IDLE = 154, CAR_SWEEP = 157, CAR_RESTRICTED = 609, LIMIT = 24 };
+
+static void read_car(struct facts *f, const uint8_t *bytes, size_t size, size_t at) {
+    size_t i = f->cars++;
+    f->car_line[i] = (uint32_t)get_bits(bytes, size, at + SECOND, 32);
+    f->car_restricted[i] = get_bits(bytes, size, at + CAR_RESTRICTED, 64);
+    f->car_sweep[i] = (uint8_t)get_bits(bytes, size, at + CAR_SWEEP, 2);
+    if (get_bits(bytes, size, at + CAR_IDLE, 1)) {
+        f->idle_car[f->idle++] = i;
+    }
+}
+
+void read_facts(struct facts *f, const uint8_t *bytes, size_t size) {
+    static struct record records[MOST_RECORDS];
+    memset(f, 0, sizeof *f);
+    size_t count = cut_records(bytes, size, records);
+    for (size_t i = 0; i < count; i++) {
+        size_t at = records[i].start;
+        if (records[i].kind == POLICY) {
+            f->strategy = (unsigned)get_bits(bytes, size, at + ID, 2);
+            f->limit = get_bits(bytes, size, at + LIMIT, 16);
+        } else if (records[i].kind == STOP && f->stops < 64) {
+            f->stop_id[f->stops++] = (uint32_t)get_bits(bytes, size, at + ID, 32);
+        } else if (records[i].kind == LINE && f->lines < 8) {
+            f->line_serves[f->lines] = get_bits(bytes, size, at + SECOND, 64);
+            f->line_id[f->lines++] = (uint32_t)get_bits(bytes, size, at + ID, 32);
+        } else if (records[i].kind == CAR && f->cars < 32) {
+            read_car(f, bytes, size, at);
+        }
+    }
+}
+
+size_t stop_place(const struct facts *f, uint32_t id) {
+    size_t place = 0;
+    while (place < f->stops && f->stop_id[place] != id) {
+        place++;
+    }
+    return place;
+}
+
+int may_go(const struct facts *f, size_t car, size_t stop) {
+    uint64_t bit = UINT64_C(1) << (63 - stop);
+    for (size_t i = 0; i < f->lines; i++) {
+        if (f->line_id[i] == f->car_line[car]) {
+            return (f->line_serves[i] & bit) != 0 && (f->car_restricted[car] & bit) == 0;
+        }
+    }
+    return 0;
+}

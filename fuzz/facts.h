@@ -1,0 +1,31 @@
+/* What the checks need to know of an accepted sheet, read apart from the library. */
+#ifndef FACTS_H
+#define FACTS_H
+
+#include <stddef.h>
+#include <stdint.h>
+
+struct facts {
+    unsigned strategy;
+    uint64_t limit;
+    size_t stops, lines, cars, idle;
+    uint32_t stop_id[64];
+    uint32_t line_id[8];
+    uint64_t line_serves[8];
+    uint32_t car_line[32];
+    uint64_t car_restricted[32];
+    /* 2 * sweep + mode before the pass. */
+    uint8_t car_sweep[32];
+    /* The car records that are idle-listed, in record order. */
+    size_t idle_car[32];
+};
+
+void read_facts(struct facts *f, const uint8_t *bytes, size_t size);
+
+/* The place of a stop id among the stop records, or their number. */
+size_t stop_place(const struct facts *f, uint32_t id);
+
+/* Whether a car's line serves a stop that is not barred to the car. */
+int may_go(const struct facts *f, size_t car, size_t stop);
+
+#endif

@@ -1,0 +1,98 @@
+/* Wrong answers in front of the library, to see that the checks notice them: the environment variable FAULT names one. fuzz/check runs each. */
+#include <stdlib.h>
+#include <string.h>
+
+#include "dispatch_bench.h"
+
+uint32_t __real_dispatch_bench_read(const uint8_t *, size_t, uint64_t *);
+uint32_t __wrap_dispatch_bench_read(const uint8_t *, size_t, uint64_t *);
+uint32_t __real_dispatch_bench_choose(size_t, size_t, const uint64_t *, size_t, uint32_t *, size_t, uint64_t *);
+uint32_t __wrap_dispatch_bench_choose(size_t, size_t, const uint64_t *, size_t, uint32_t *, size_t, uint64_t *);
+uint32_t __real_dispatch_bench_pass(const uint8_t *, size_t, uint32_t *, size_t, uint64_t *, size_t, uint8_t *, size_t, uint64_t *, uint64_t *, uint64_t *,
+                                    uint64_t *, uint64_t *);
+uint32_t __wrap_dispatch_bench_pass(const uint8_t *, size_t, uint32_t *, size_t, uint64_t *, size_t, uint8_t *, size_t, uint64_t *, uint64_t *, uint64_t *,
+                                    uint64_t *, uint64_t *);
+
+static int is(const char *fault) {
+    const char *named = getenv("FAULT");
+    return named != NULL && strcmp(named, fault) == 0;
+}
+
+uint32_t __wrap_dispatch_bench_read(const uint8_t *sheet, size_t length, uint64_t *offset) {
+    uint32_t number = __real_dispatch_bench_read(sheet, length, offset);
+    *offset += is("read_offset") && number == 11;
+    *offset += is("read_writes_offset") && number == 0;
+    return is("read_number") && number == 9 ? 10 : number;
+}
+
+uint32_t __wrap_dispatch_bench_choose(size_t cars, size_t columns, const uint64_t *cells, size_t cell_count, uint32_t *chosen, size_t places,
+                                      uint64_t *total) {
+    if (is("choose_none")) {
+        return 0;
+    }
+    uint32_t answer = __real_dispatch_bench_choose(cars, columns, cells, cell_count, chosen, places, total);
+    if (is("choose_writes_refused") && answer == 0 && places > 0) {
+        chosen[0] = 0;
+    }
+    if (is("choose_exchanged") && answer == 1 && cars > 1) {
+        uint32_t first = chosen[0];
+        *total += cells[chosen[1]] + cells[columns + first] - cells[first] - cells[columns + chosen[1]];
+        chosen[0] = chosen[1];
+        chosen[1] = first;
+    }
+    if (is("choose_diagonal") && answer == 1 && cars == 3 && columns == 3) {
+        *total = cells[0] + cells[4] + cells[8];
+        chosen[0] = 0;
+        chosen[1] = 1;
+        chosen[2] = 2;
+    }
+    *total += is("choose_total") && answer == 1;
+    return answer;
+}
+
+/* The faults of a pass that was made. */
+static void spoil_pass(uint32_t *decisions, size_t decision_count, uint64_t *matrix, uint8_t *sweeps, size_t sweep_count, uint64_t n, uint64_t m,
+                       uint64_t *total, uint64_t *ranked, uint64_t *offset) {
+    uint64_t columns = n < m ? m : n;
+    decisions[n < decision_count ? n : 0] += is("decision_past");
+    matrix[n * columns] += is("cell_past") && n * columns < DISPATCH_BENCH_CELLS;
+    sweeps[sweep_count - 1] ^= is("sweep_past");
+    *total += is("total");
+    *ranked += is("ranked") ? 1 + n * m : 0;
+    *offset ^= is("offset_written");
+    if (n > 0) {
+        decisions[0] = is("sent_nowhere") && decisions[0] != 0 ? UINT32_MAX : decisions[0];
+        decisions[0] = is("idle") ? 0 : decisions[0];
+        decisions[n - 1] = is("two_to_one_stop") && decisions[n - 1] != 0 && decisions[0] != 0 ? decisions[0] : decisions[n - 1];
+        matrix[0] += is("cell_too_large") ? UINT64_C(281474976710657) : 0;
+        sweeps[0] ^= is("sweep") ? 3 : 0;
+    }
+}
+
+uint32_t __wrap_dispatch_bench_pass(const uint8_t *sheet, size_t length, uint32_t *decisions, size_t decision_count, uint64_t *matrix, size_t cell_count,
+                                    uint8_t *sweeps, size_t sweep_count, uint64_t *cars, uint64_t *stops, uint64_t *total, uint64_t *ranked,
+                                    uint64_t *offset) {
+    uint32_t held = decision_count > 31 ? decisions[31] : 0;
+    uint32_t number = __real_dispatch_bench_pass(sheet, length, decisions, decision_count, matrix, cell_count, sweeps, sweep_count, cars, stops, total,
+                                                 ranked, offset);
+    if (number == 0) {
+        spoil_pass(decisions, decision_count, matrix, sweeps, sweep_count, *cars, *stops, total, ranked, offset);
+        *ranked -= is("held_before") && *ranked > 0 ? held & 1 : 0;
+    } else if (decision_count > 0 && sweep_count > 0 && cell_count > 0) {
+        decisions[0] ^= is("refusal_writes_decision");
+        matrix[cell_count - 1] ^= is("refusal_writes_cell");
+        sweeps[0] ^= is("refusal_writes_sweep");
+        *cars ^= is("refusal_writes_cars");
+        *offset += is("refusal_offset") && number == 11;
+    }
+    if (is("reads_past_sheet") && length > 0) {
+        *(volatile uint64_t *)total += ((const volatile uint8_t *)sheet)[length] & 0;
+    }
+    if (is("writes_before_decisions")) {
+        decisions[-1] ^= 1;
+    }
+    if (is("writes_sheet") && length > 0) {
+        ((uint8_t *)(uintptr_t)sheet)[0] ^= 1;
+    }
+    return is("short_is_2") && number == 1 ? 2 : is("number") && number == 2 ? 3 : number;
+}

@@ -1,0 +1,285 @@
+/* Any bytes as a sheet, through the C interface: dispatch_bench_read, dispatch_bench_pass and, on what the pass leaves, dispatch_bench_choose. Every
+   pointer leads to guarded pages. The pass is run twice, with other contents, lengths and places of the buffers; and once with each buffer too short. */
+#include <string.h>
+
+#include "dispatch_bench.h"
+#include "facts.h"
+#include "guarded.h"
+#include "require.h"
+#include "sheet.h"
+
+#define SENTINEL UINT64_C(281474976710656)
+#define MORE 16
+
+/* The numbers that a pass answers stand between words of the pattern. */
+enum { CARS = 1, STOPS = 3, TOTAL = 5, RANKED = 7, OFFSET = 9, NUMBERS = 11 };
+
+static struct guarded sheet, decisions, matrix, sweeps, numbers, chosen;
+
+/* How long the buffers are, in entries. */
+struct lengths {
+    size_t decisions, cells, sweeps;
+};
+
+/* What a pass answered and left, apart from the buffers. */
+struct answer {
+    uint32_t number;
+    uint64_t value[NUMBERS];
+    uint32_t decisions[DISPATCH_BENCH_DECISIONS];
+    uint64_t matrix[DISPATCH_BENCH_CELLS];
+    uint8_t sweeps[DISPATCH_BENCH_SWEEPS];
+};
+
+static uint64_t *words(void) {
+    return (uint64_t *)(void *)numbers.at;
+}
+
+static uint64_t unwritten(uint8_t pattern) {
+    return pattern * UINT64_C(0x0101010101010101);
+}
+
+static void make_buffers(void) {
+    static int made;
+    if (!made) {
+        guarded_make(&sheet, MOST_BYTES + 4096);
+        guarded_make(&decisions, 4 * (DISPATCH_BENCH_DECISIONS + MORE));
+        guarded_make(&matrix, 8 * (DISPATCH_BENCH_CELLS + MORE));
+        guarded_make(&sweeps, DISPATCH_BENCH_SWEEPS + MORE);
+        guarded_make(&numbers, 8 * NUMBERS);
+        guarded_make(&chosen, 4 * DISPATCH_BENCH_DECISIONS);
+        made = 1;
+    }
+}
+
+static void lend(const uint8_t *data, size_t size, struct lengths n, int at_end, uint8_t pattern) {
+    guarded_lend(&sheet, size, at_end, pattern);
+    if (size > 0) {
+        memcpy(sheet.at, data, size);
+    }
+    guarded_lend(&decisions, 4 * n.decisions, at_end, pattern);
+    guarded_lend(&matrix, 8 * n.cells, at_end, pattern);
+    guarded_lend(&sweeps, n.sweeps, at_end, pattern);
+    guarded_lend(&numbers, 8 * NUMBERS, at_end, pattern);
+}
+
+static uint32_t call_pass(struct lengths n) {
+    uint64_t *w = words();
+    return dispatch_bench_pass(sheet.at, sheet.length, (uint32_t *)(void *)decisions.at, n.decisions, (uint64_t *)(void *)matrix.at, n.cells, sweeps.at,
+                               n.sweeps, &w[CARS], &w[STOPS], &w[TOTAL], &w[RANKED], &w[OFFSET]);
+}
+
+static void check_sheet(const uint8_t *data, size_t size) {
+    require(size == 0 || memcmp(sheet.at, data, size) == 0, "the sheet is only read");
+    require(guarded_kept(&sheet, 0, size), "nothing is written around the sheet");
+}
+
+/* A refusal wrote its offset and nothing else. */
+static void check_refused(const uint8_t *data, size_t size) {
+    check_sheet(data, size);
+    require(guarded_kept(&decisions, 0, 0), "a refusal keeps the decisions");
+    require(guarded_kept(&matrix, 0, 0), "a refusal keeps the matrix");
+    require(guarded_kept(&sweeps, 0, 0), "a refusal keeps the sweeps");
+    require(guarded_kept(&numbers, 8 * OFFSET, 8 * OFFSET + 8), "a refusal writes no number but its offset");
+}
+
+/* The reader's answer, in number and value[OFFSET]. */
+static void run_read(struct answer *a, const uint8_t *data, size_t size, int at_end, uint8_t pattern) {
+    struct lengths none = {0, 0, 0};
+    lend(data, size, none, at_end, pattern);
+    a->number = dispatch_bench_read(sheet.at, sheet.length, &words()[OFFSET]);
+    a->value[OFFSET] = words()[OFFSET];
+    check_refused(data, size);
+    require(a->number == 0 || (2 <= a->number && a->number <= 16), "the reader answers 0 or 2 to 16");
+    if (a->number == 0) {
+        require(a->value[OFFSET] == unwritten(pattern), "an accepted sheet keeps the offset");
+    } else {
+        require(a->value[OFFSET] <= 8 * (uint64_t)size, "the offset is inside of the sheet");
+    }
+}
+
+/* The numbers of a pass are in their bounds; what it does not write is kept. */
+static void check_bounds(const struct facts *f, const uint8_t *data, size_t size) {
+    uint64_t *w = words(), n = w[CARS], m = w[STOPS];
+    require(n == f->idle, "the cars are the idle-listed ones");
+    require(m <= f->stops, "the pending stops are stops");
+    require(w[TOTAL] <= n * SENTINEL, "the total is at most the sentinels'");
+    require(w[RANKED] <= n * (f->limit == 65535 ? m : f->limit), "the pairs ranked are at most the cars times the limit");
+    require(w[OFFSET] == unwritten(numbers.pattern), "a pass keeps the offset");
+    for (size_t i = 0; i < NUMBERS; i += 2) {
+        require(w[i] == unwritten(numbers.pattern), "nothing is written between the numbers");
+    }
+    size_t columns = n < m ? m : n;
+    check_sheet(data, size);
+    require(guarded_kept(&numbers, 0, 8 * NUMBERS), "nothing is written around the numbers");
+    require(guarded_kept(&decisions, 0, 4 * n), "further decisions are kept");
+    require(guarded_kept(&matrix, 0, 8 * n * columns), "further cells are kept");
+    require(guarded_kept(&sweeps, 0, f->cars), "further sweeps are kept");
+}
+
+/* A pass into buffers of those lengths. */
+static void run_pass(struct answer *a, const struct facts *f, const uint8_t *data, size_t size, struct lengths n, int at_end, uint8_t pattern) {
+    memset(a, 0, sizeof *a);
+    lend(data, size, n, at_end, pattern);
+    a->number = call_pass(n);
+    if (a->number != 0) {
+        check_refused(data, size);
+        a->value[OFFSET] = words()[OFFSET];
+        return;
+    }
+    check_bounds(f, data, size);
+    for (size_t i = CARS; i <= RANKED; i += 2) {
+        a->value[i] = words()[i];
+    }
+    size_t cars = a->value[CARS], columns = cars < a->value[STOPS] ? a->value[STOPS] : cars;
+    memcpy(a->decisions, decisions.at, 4 * cars);
+    memcpy(a->matrix, matrix.at, 8 * cars * columns);
+    memcpy(a->sweeps, sweeps.at, f->cars);
+}
+
+/* The columns of the matrix that a pass left, and that their cells are its total. */
+static void run_choose(const struct answer *a, size_t columns, uint32_t *picked) {
+    size_t cars = a->value[CARS];
+    uint64_t total = 0;
+    guarded_lend(&matrix, 8 * cars * columns, 1, 0x33);
+    memcpy(matrix.at, a->matrix, 8 * cars * columns);
+    guarded_lend(&chosen, 4 * cars, 1, 0x33);
+    uint32_t answer = dispatch_bench_choose(cars, columns, (uint64_t *)(void *)matrix.at, cars * columns, (uint32_t *)(void *)chosen.at, cars, &total);
+    require(answer == 1, "the matrix has a choice");
+    require(total == a->value[TOTAL], "the total is that of the choice");
+    require(guarded_kept(&chosen, 0, 4 * cars), "nothing is written around the columns");
+    require(memcmp(matrix.at, a->matrix, 8 * cars * columns) == 0, "the cells are only read");
+    memcpy(picked, chosen.at, 4 * cars);
+    uint64_t sum = 0, taken = 0;
+    for (size_t i = 0; i < cars; i++) {
+        require(picked[i] < columns, "a chosen column is one of the matrix");
+        require((taken >> picked[i] & 1) == 0, "the chosen columns are distinct");
+        taken |= UINT64_C(1) << picked[i];
+        sum += a->matrix[i * columns + picked[i]];
+    }
+    require(sum == total, "the total is the sum of the chosen cells");
+}
+
+/* Each decision is what the chosen column says, and a stop that the car may go to; no two are the same. */
+static void check_decisions(const struct answer *a, const struct facts *f) {
+    size_t cars = a->value[CARS], stops = a->value[STOPS], columns = cars < stops ? stops : cars;
+    uint32_t picked[DISPATCH_BENCH_DECISIONS];
+    run_choose(a, columns, picked);
+    uint64_t sent = 0;
+    for (size_t i = 0; i < cars; i++) {
+        int goes = picked[i] < stops && a->matrix[i * columns + picked[i]] < SENTINEL;
+        require(goes == (a->decisions[i] != 0), "a car is sent where its chosen cell is a stop's and has a rank");
+        if (goes) {
+            size_t stop = stop_place(f, a->decisions[i]);
+            require(stop < f->stops, "a decision is the id of a stop record");
+            require((sent >> stop & 1) == 0, "no two cars are sent to one stop");
+            require(may_go(f, f->idle_car[i], stop), "a sent car's line serves the stop, which is not barred to it");
+            sent |= UINT64_C(1) << stop;
+        }
+    }
+}
+
+/* Cells and sweeps are in their ranges; under ETD and RSR, and with no pending stop, sweeps are the sheet's. */
+static void check_lists(const struct answer *a, const struct facts *f) {
+    size_t cars = a->value[CARS], stops = a->value[STOPS], columns = cars < stops ? stops : cars;
+    for (size_t i = 0; i < cars * columns; i++) {
+        require(a->matrix[i] <= SENTINEL, "a cell is at most the sentinel");
+        require(i % columns < stops || a->matrix[i] == SENTINEL, "a spare cell is the sentinel");
+    }
+    uint32_t idle = 0;
+    for (size_t i = 0; i < f->idle; i++) {
+        idle |= UINT32_C(1) << f->idle_car[i];
+    }
+    for (size_t i = 0; i < f->cars; i++) {
+        require(a->sweeps[i] < 4, "a sweep is 0 to 3");
+        int prepared = f->strategy == 2 && stops > 0 && (idle >> i & 1);
+        require(prepared || a->sweeps[i] == f->car_sweep[i], "only SCAN's idle cars change their sweep");
+    }
+}
+
+/* Each buffer too short by itself: refusal 1 at 0, whatever the sheet, and nothing else written. */
+static void check_short(const uint8_t *data, size_t size, unsigned by) {
+    struct lengths full = {DISPATCH_BENCH_DECISIONS, DISPATCH_BENCH_CELLS, DISPATCH_BENCH_SWEEPS};
+    for (int which = 0; which < 3; which++) {
+        struct lengths n = full;
+        n.decisions -= which == 0 ? 1 + by % DISPATCH_BENCH_DECISIONS : 0;
+        n.cells -= which == 1 ? 1 + by % DISPATCH_BENCH_CELLS : 0;
+        n.sweeps -= which == 2 ? 1 + by % DISPATCH_BENCH_SWEEPS : 0;
+        lend(data, size, n, 1, 0xc3);
+        require(call_pass(n) == 1, "a short buffer is refusal 1");
+        require(words()[OFFSET] == 0, "refusal 1 is at 0");
+        check_refused(data, size);
+    }
+}
+
+/* Features of the answers, in place of the coverage that the library is not built for. */
+__attribute__((section("__libfuzzer_extra_counters"))) static uint8_t features[4096];
+
+static unsigned bits_of(uint64_t value) {
+    unsigned bits = 0;
+    while (value >> bits > 1) {
+        bits++;
+    }
+    return value == 0 ? 0 : bits + 1;
+}
+
+static void tell_refusal(const struct answer *a, const uint8_t *data, size_t size) {
+    unsigned kind = (unsigned)get_bits(data, size, a->value[OFFSET], 6) % 8;
+    features[a->number * 8 + kind] = 1;
+    features[256 + kind * 16 + bits_of(a->value[OFFSET]) % 16] = 1;
+}
+
+static void tell_pass(const struct answer *a, const struct facts *f) {
+    uint8_t *of = features + 512 + f->strategy * 1024;
+    size_t cars = a->value[CARS], stops = a->value[STOPS], columns = cars < stops ? stops : cars, sent = 0;
+    for (size_t i = 0; i < cars; i++) {
+        sent += a->decisions[i] != 0;
+        of[256 + f->car_sweep[f->idle_car[i]] * 4 + a->sweeps[f->idle_car[i]]] = 1;
+    }
+    for (size_t i = 0; i < cars * columns; i++) {
+        of[320 + bits_of(a->matrix[i])] = 1;
+    }
+    of[cars] = 1;
+    of[64 + stops] = 1;
+    of[160 + sent] = 1;
+    of[400 + (cars - sent) * 8 + bits_of(stops)] = 1;
+    of[720 + bits_of(a->value[TOTAL])] = 1;
+    of[800 + bits_of(a->value[RANKED])] = 1;
+    of[840 + bits_of(f->cars - cars) * 8 + bits_of(f->stops - stops)] = 1;
+}
+
+/* FNV-1a: lengths that vary with the input, and are the same each time it is run. */
+static unsigned hash(const uint8_t *data, size_t size) {
+    unsigned h = 2166136261u;
+    for (size_t i = 0; i < size; i++) {
+        h = (h ^ data[i]) * 16777619u;
+    }
+    return h ^ h >> 15;
+}
+
+int LLVMFuzzerTestOneInput(const uint8_t *data, size_t size) {
+    static struct answer read, first, second;
+    static struct facts facts;
+    if (size > MOST_BYTES + 4096) {
+        return 0;
+    }
+    make_buffers();
+    unsigned h = hash(data, size);
+    struct lengths least = {DISPATCH_BENCH_DECISIONS, DISPATCH_BENCH_CELLS, DISPATCH_BENCH_SWEEPS};
+    struct lengths more = {least.decisions + h % MORE, least.cells + h / 16 % MORE, least.sweeps + h / 256 % MORE};
+    run_read(&read, data, size, h & 1, 0x69);
+    read_facts(&facts, data, size);
+    run_pass(&first, &facts, data, size, least, 1, 0xa5);
+    run_pass(&second, &facts, data, size, more, 0, 0x5a);
+    require(memcmp(&first, &second, sizeof first) == 0, "what the buffers hold and where they are changes no answer");
+    require(first.number == read.number, "the pass and the reader answer the same number");
+    check_short(data, size, h);
+    if (first.number != 0) {
+        require(first.value[OFFSET] == read.value[OFFSET], "the pass and the reader give the same offset");
+        tell_refusal(&first, data, size);
+        return 0;
+    }
+    check_lists(&first, &facts);
+    check_decisions(&first, &facts);
+    tell_pass(&first, &facts);
+    return 0;
+}

@@ -1,0 +1,29 @@
+/* The bits and records of a sheet (docs/MANUAL.md, Where each record stands). */
+#ifndef SHEET_H
+#define SHEET_H
+
+#include <stddef.h>
+#include <stdint.h>
+
+enum { POLICY = 1, STOP, LINE, CAR, ABOARD, WAITING, DEMAND };
+
+#define FIRST_RECORD 24
+#define FRONT 22
+#define MOST_RECORDS 1193
+#define MOST_BYTES 65536
+
+struct record {
+    size_t start;
+    unsigned kind;
+    unsigned length;
+};
+
+/* Up to 64 bits, most significant first; past the end they are zero. */
+uint64_t get_bits(const uint8_t *bytes, size_t size, size_t at, unsigned width);
+
+void put_bits(uint8_t *bytes, size_t at, unsigned width, uint64_t value);
+
+/* The records that the head counts, while their stated bodies are there. */
+size_t cut_records(const uint8_t *bytes, size_t size, struct record *records);
+
+#endif
