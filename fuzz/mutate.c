@@ -84,14 +84,19 @@ static uint64_t any_double(uint64_t now) {
     }
 }
 
+/* The mask of all stop records. */
+static uint64_t all_stops(void) {
+    size_t stops = count_kind(STOP);
+    return stops == 0 ? 0 : ~UINT64_C(0) << (stops >= 64 ? 0 : 64 - stops);
+}
+
 static uint64_t any_mask(uint64_t now) {
     size_t stops = count_kind(STOP);
-    uint64_t all = stops == 0 ? 0 : ~UINT64_C(0) << (stops >= 64 ? 0 : 64 - stops);
     switch (any(8)) {
     case 0: return 0;
-    case 1: return all;
+    case 1: return all_stops();
     case 2: return now ^ UINT64_C(1) << any(64);
-    case 3: return any(UINT64_MAX) & all;
+    case 3: return any(UINT64_MAX) & all_stops();
     default: return stops == 0 ? now : now ^ UINT64_C(1) << (63 - any(stops));
     }
 }
@@ -180,6 +185,26 @@ static int splice(size_t from, size_t to, const uint8_t *with, size_t with_size,
     return 1;
 }
 
+/* A record that was inserted gets an id of its own, or names records of this sheet. */
+static void settle(size_t at, unsigned kind, uint64_t last) {
+    size_t body = at + FRONT;
+    if (kind == STOP || kind == LINE || kind == CAR) {
+        put_bits(bytes, body, 32, last + 1 + any(3));
+    } else {
+        put_bits(bytes, body, 32, any_id(kind == ABOARD ? CAR : STOP));
+    }
+    if (kind == CAR) {
+        put_bits(bytes, body + 32, 32, any_id(LINE));
+    }
+    if (kind == LINE || kind == CAR) {
+        size_t mask = kind == LINE ? body + 32 : body + 587;
+        put_bits(bytes, mask, 64, get_bits(bytes, size, mask, 64) & all_stops());
+    }
+    if (kind == CAR) {
+        put_bits(bytes, body + 651, 64, get_bits(bytes, size, body + 651, 64) & all_stops());
+    }
+}
+
 /* Inserts a record behind the last one that is not of a higher kind. */
 static void insert(const uint8_t *from, size_t from_size, const struct record *r, size_t most) {
     size_t i = count;
@@ -187,14 +212,11 @@ static void insert(const uint8_t *from, size_t from_size, const struct record *r
         i--;
     }
     size_t at = i == 0 ? FIRST_RECORD : records[i - 1].start + FRONT + records[i - 1].length;
-    uint64_t last = i == 0 ? 0 : get_bits(bytes, size, records[i - 1].start + FRONT, 32);
-    if (!splice(at, at, from, from_size, r->start, FRONT + r->length, most)) {
-        return;
-    }
-    if (r->kind >= STOP && r->kind <= CAR) {
-        put_bits(bytes, at + FRONT, 32, last + 1 + any(3));
-    } else if (r->kind == DEMAND) {
-        put_bits(bytes, at + FRONT, 32, any_id(STOP));
+    uint64_t last = i == 0 || records[i - 1].kind != r->kind ? any(64) : get_bits(bytes, size, records[i - 1].start + FRONT, 32);
+    struct record inserted = *r;
+    if (splice(at, at, from, from_size, r->start, FRONT + r->length, most)) {
+        count = cut_records(bytes, size, records);
+        settle(at, inserted.kind, last);
     }
 }
 
@@ -224,9 +246,8 @@ size_t LLVMFuzzerCustomMutator(uint8_t *data, size_t data_size, size_t most, uns
         uint64_t change = any(16);
         if (change == 0 && r->kind != POLICY) {
             splice(r->start, r->start + FRONT + r->length, bytes, size, 0, 0, most);
-        } else if (change <= 2 && r->kind != POLICY) {
-            struct record copied = *r;
-            insert(bytes, size, &copied, most);
+        } else if (change <= 2 && r->kind != POLICY && known(r)) {
+            insert(bytes, size, r, most);
         } else if (known(r)) {
             change_field(r);
         }
@@ -253,7 +274,6 @@ size_t LLVMFuzzerCustomCrossOver(const uint8_t *one, size_t one_size, const uint
         struct record *r = &theirs[any(found)];
         if (r->kind != POLICY && known(r)) {
             insert(other, other_size, r, most);
-            count = cut_records(bytes, size, records);
         }
     }
     if (size > most) {
