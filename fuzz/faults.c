@@ -22,6 +22,7 @@ uint32_t __wrap_dispatch_bench_read(const uint8_t *sheet, size_t length, uint64_
     uint32_t number = __real_dispatch_bench_read(sheet, length, offset);
     *offset += is("read_offset") && number == 11;
     *offset += is("read_writes_offset") && number == 0;
+    *offset += is("read_long") && length > 65536;
     return is("read_number") && number == 9 ? 10 : number;
 }
 

@@ -211,6 +211,21 @@ static void check_short(const uint8_t *data, size_t size, unsigned by) {
     }
 }
 
+/* Bytes past the first 65,536 change no answer. */
+static void check_long(const uint8_t *data, size_t size, unsigned more) {
+    static uint8_t longer[MOST_BYTES + 4096];
+    static struct answer whole, cut;
+    size_t taken = size < MOST_BYTES ? size : MOST_BYTES;
+    memset(longer, 0, MOST_BYTES);
+    memset(longer + MOST_BYTES, 0xff, 4096);
+    if (taken > 0) {
+        memcpy(longer, data, taken);
+    }
+    run_read(&cut, longer, MOST_BYTES, 1, 0x69);
+    run_read(&whole, longer, MOST_BYTES + 1 + more % 4096, 1, 0x69);
+    require(cut.number == whole.number && cut.value[OFFSET] == whole.value[OFFSET], "bytes past the first 65,536 change no answer");
+}
+
 /* Features of the answers, in place of the coverage that the library is not built for. */
 __attribute__((section("__libfuzzer_extra_counters"))) static uint8_t features[4096];
 
@@ -273,6 +288,9 @@ int LLVMFuzzerTestOneInput(const uint8_t *data, size_t size) {
     require(memcmp(&first, &second, sizeof first) == 0, "what the buffers hold and where they are changes no answer");
     require(first.number == read.number, "the pass and the reader answer the same number");
     check_short(data, size, h);
+    if (h % 8 == 0) {
+        check_long(data, size, h / 8);
+    }
     if (first.number != 0) {
         require(first.value[OFFSET] == read.value[OFFSET], "the pass and the reader give the same offset");
         tell_refusal(&first, data, size);
