@@ -97,7 +97,7 @@ static uint64_t any_mask(uint64_t now) {
     case 1: return all_stops();
     case 2: return now ^ UINT64_C(1) << any(64);
     case 3: return any(UINT64_MAX) & all_stops();
-    default: return stops == 0 ? now : now ^ UINT64_C(1) << (63 - any(stops));
+    default: return stops == 0 ? now : now ^ UINT64_C(1) << (63 - any(stops < 64 ? stops : 64));
     }
 }
 

@@ -1,5 +1,7 @@
 /* Any bytes as a sheet, through the C interface: dispatch_bench_read, dispatch_bench_pass and, on what the pass leaves, dispatch_bench_choose. Every
    pointer leads to guarded pages. The pass is run twice, with other contents, lengths and places of the buffers; and once with each buffer too short. */
+#include <stdio.h>
+#include <stdlib.h>
 #include <string.h>
 
 #include "dispatch_bench.h"
@@ -38,9 +40,21 @@ static uint64_t unwritten(uint8_t pattern) {
     return pattern * UINT64_C(0x0101010101010101);
 }
 
-static void make_buffers(void) {
+/* How many inputs had which answer: passes by strategy, refusals by number. */
+static unsigned long passes[3], refusals[17];
+
+static void print_counts(void) {
+    fprintf(stderr, "answers: passes %lu ETD, %lu RSR, %lu SCAN; refusals", passes[0], passes[1], passes[2]);
+    for (int number = 2; number <= 16; number++) {
+        fprintf(stderr, " %d: %lu", number, refusals[number]);
+    }
+    fprintf(stderr, "\n");
+}
+
+static void begin(void) {
     static int made;
     if (!made) {
+        atexit(print_counts);
         guarded_make(&sheet, MOST_BYTES + 4096);
         guarded_make(&decisions, 4 * (DISPATCH_BENCH_DECISIONS + MORE));
         guarded_make(&matrix, 8 * (DISPATCH_BENCH_CELLS + MORE));
@@ -277,7 +291,7 @@ int LLVMFuzzerTestOneInput(const uint8_t *data, size_t size) {
     if (size > MOST_BYTES + 4096) {
         return 0;
     }
-    make_buffers();
+    begin();
     unsigned h = hash(data, size);
     struct lengths least = {DISPATCH_BENCH_DECISIONS, DISPATCH_BENCH_CELLS, DISPATCH_BENCH_SWEEPS};
     struct lengths more = {least.decisions + h % MORE, least.cells + h / 16 % MORE, least.sweeps + h / 256 % MORE};
@@ -293,11 +307,13 @@ int LLVMFuzzerTestOneInput(const uint8_t *data, size_t size) {
     }
     if (first.number != 0) {
         require(first.value[OFFSET] == read.value[OFFSET], "the pass and the reader give the same offset");
+        refusals[first.number]++;
         tell_refusal(&first, data, size);
         return 0;
     }
     check_lists(&first, &facts);
     check_decisions(&first, &facts);
+    passes[facts.strategy]++;
     tell_pass(&first, &facts);
     return 0;
 }
