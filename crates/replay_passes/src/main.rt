@@ -7,7 +7,8 @@
 // n decisions of 32, n × max(n, m) cells of 64, the number of car records in 8, as many sweeps of 8, and 8 bits that are 1 where the Rust
 // built the matrix; the most significant byte comes first.
 //
-// It was tried that it can fail: TRIED
+// Sheets are counted from 0. It was tried that it can fail: a bit flipped in a stored number of stops, total, decision, cell or sweep, or in a sheet's
+// edition, is printed with both values, and so is a list without its last byte.
 use bench::Answer;
 use libc::STDIN_FILENO;
 use libc::STDOUT_FILENO;

@@ -14,8 +14,9 @@ use crate::components::{
     TransportMode,
 };
 use crate::dispatch::{
-    DispatchDecision, DispatchManifest, DispatchScratch, DispatchStrategy, ElevatorGroup,
-    EtdDispatch, LineInfo, RankContext, RiderInfo, RsrDispatch, ScanDispatch, assign_with_scratch,
+    AssignmentResult, DispatchDecision, DispatchManifest, DispatchScratch, DispatchStrategy,
+    ElevatorGroup, EtdDispatch, LineInfo, RankContext, RiderInfo, RsrDispatch, ScanDispatch,
+    assign_with_scratch,
 };
 use crate::door::DoorState;
 use crate::entity::EntityId;
@@ -469,6 +470,20 @@ impl Rust {
         }
     }
 
+    /// The published functions of a group pass, one after the other.
+    fn group_pass(&mut self, strategy: &mut Limited, built: &mut Built) -> AssignmentResult {
+        strategy.pre_dispatch(&built.group, &built.manifest, &mut built.world);
+        self.scratch.clear_all();
+        assign_with_scratch(
+            strategy,
+            &built.idle,
+            &built.group,
+            &built.manifest,
+            &built.world,
+            &mut self.scratch,
+        )
+    }
+
     /// How long it takes from bytes to decisions: reading and building the Rust's world, and the group pass alone.
     pub fn timed(&mut self, bytes: &[u8]) -> (Duration, Duration) {
         let began = Instant::now();
@@ -477,16 +492,7 @@ impl Rust {
         let mut built = build(&sheet, &self.traffic);
         let mut strategy = self.strategy(&sheet, &built.cars);
         let ready = Instant::now();
-        strategy.pre_dispatch(&built.group, &built.manifest, &mut built.world);
-        self.scratch.clear_all();
-        let result = assign_with_scratch(
-            &mut strategy,
-            &built.idle,
-            &built.group,
-            &built.manifest,
-            &built.world,
-            &mut self.scratch,
-        );
+        let result = self.group_pass(&mut strategy, &mut built);
         std::hint::black_box(&result);
         (ready - began, ready.elapsed())
     }
@@ -496,16 +502,7 @@ impl Rust {
         let mut built = build(sheet, &self.traffic);
         let p = &sheet.policy;
         let mut strategy = self.strategy(sheet, &built.cars);
-        strategy.pre_dispatch(&built.group, &built.manifest, &mut built.world);
-        self.scratch.clear_all();
-        let result = assign_with_scratch(
-            &mut strategy,
-            &built.idle,
-            &built.group,
-            &built.manifest,
-            &built.world,
-            &mut self.scratch,
-        );
+        let result = self.group_pass(&mut strategy, &mut built);
         let ranked = strategy.ranked.load(Ordering::Relaxed);
         let id_of: HashMap<EntityId, u32> = built
             .stops
