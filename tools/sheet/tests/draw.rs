@@ -45,7 +45,7 @@ impl Answer<'_> {
 }
 
 fn stored() -> Vec<(Vec<u8>, Pass)> {
-    let list = std::fs::read(here("../oracle/lists/passes")).unwrap();
+    let list = std::fs::read(here("../../crates/replay_passes/stdin")).unwrap();
     let mut left = &list[..];
     let mut cases = Vec::new();
     while !left.is_empty() {

@@ -31,7 +31,7 @@ fn stored_refusals() {
 
 #[test]
 fn stored_passes() {
-    let list = std::fs::read(common::here("../oracle/lists/passes")).unwrap();
+    let list = std::fs::read(common::here("../../crates/replay_passes/stdin")).unwrap();
     let mut left = &list[..];
     let mut sheets = 0;
     while !left.is_empty() {
