@@ -83,9 +83,12 @@ pub extern "C" fn dispatch_bench_pass(
             *ranked = k;
             0
         }
-        Answer::Refused { number, offset: at } => {
-            *offset = at;
-            number
+        Answer::Refused {
+            number: refusal,
+            offset: start,
+        } => {
+            *offset = start;
+            refusal
         }
     }
 }

@@ -46,7 +46,7 @@ returns-2 c =
     let b = a .sheet .now in
     let v = outcome b (length (a .decisions .now)) (length (a .matrix .now)) (length (a .sweeps .now)) in
     let left = c .before .before .before .before .before .before .before .before .before .pass .ensures in
-    let given = c .before .number .given .1 in
+    let given = c .before .refusal .given .1 in
     let is = told v b (c .before .before .before .before .before .before .before .before .before .pass .result) _ given (left .0) in (
       ap numberOf is ∙ any-ranked numberOf (λ n m t k. refl) v b _,
       (
