@@ -13,7 +13,9 @@ use Rattle.laws.specs.Bools.{neither-left, neither-right}
 use Rattle.laws.specs.Folds.{count}
 use Rattle.laws.specs.Sums.{sum}
 use Rattle.laws.specs.Tables.{tab, tabs, length-tabs}
+use Rattle.components.specs.declared.Car.{Car}
 use Rattle.components.specs.Sheet.{Sheet}
+use Rattle.cars.specs.Cars.{HoldsCars}
 use Rattle.layout.specs.declared.Counts.{Counts}
 use Rattle.layout.specs.declared.Reading.{Reading}
 use Rattle.layout.specs.declared.Reading.the-variants.{Refused, Accepted}
@@ -32,11 +34,12 @@ use Rattle.pending.specs.Masks.{stopMask}
 use Rattle.rows.specs.KeptLaws.{keptNumber}
 use Rattle.rows.specs.RowLaws.{Listed}
 use Rattle.rows.specs.MatrixLaws.{Rows, FilledRows, listed-count, listed-stop}
-use Rattle.cells.specs.Survey.{Survey}
+use Rattle.cells.specs.Survey.{Survey, idleMask, rows-listed}
 use Rattle.decisions.specs.Decisions.{Filled, decisionBy}
 use Rattle.decisions.specs.DecisionLaws.{total-same, filled, decisions-same}
 use Rattle.outcome.specs.Outcome.{decisionsOf, cellsOf, rankedMost, refusal1, outcome, decisionsLeft, cellsLeft, sweepsLeft}
 use Rattle.bench.specs.declared.Answer.{Answer}
+use Rattle.bench.specs.declared.Answer.the-variants.{Passed}
 use Rattle.bench.specs.Answers.{answerOf, rankedOf, rankedBound}
 use Rattle.outcome.specs.Bound.{ranked-bound}
 
@@ -47,9 +50,12 @@ pub record Masks (s : Sheet) (ids : List ℕ) (xs : List Float) (calls demand ma
   pub demand-is : demand ≡ stopMask s (demandStop s)
   pub stops-are : mask ≡ stopMask s (pending s)
 
-pub survey : (s : Sheet) (ids : List ℕ) (xs : List Float) (calls demand mask : ℕ) → Masks s ids xs calls demand mask
-    → (entry : List ℕ) (m : ℕ) (stops : List ℕ) → Listed mask entry m stops → (cars : List ℕ) (n : ℕ) → Rows s cars n → Survey s ids xs calls demand mask stops m cars n
-survey s ids xs calls demand mask h entry m stops l cars n r =
+pub survey : (bytes : List ℕ) (c : Counts) → verdict bytes ≡ Accepted c → (ids : List ℕ) (xs : List Float) (calls demand mask : ℕ)
+    → Masks (sheetOf bytes c) ids xs calls demand mask → (cars : List Car) → HoldsCars (sheetOf bytes c) cars
+    → (entry : List ℕ) (m : ℕ) (stops : List ℕ) → Listed mask entry m stops → (blank idle : List ℕ) (n : ℕ) → Listed (idleMask cars (c .cars)) blank n idle
+    → Survey (sheetOf bytes c) ids xs calls demand mask stops m cars idle n
+unfolding sheetOf
+survey bytes c e ids xs calls demand mask h cars hc entry m stops l blank idle n r =
     record {
       stops-held = h .stops-held;
       calls-are = h .calls-are;
@@ -57,7 +63,8 @@ survey s ids xs calls demand mask h entry m stops l cars n r =
       stops-are = h .stops-are;
       entry = entry;
       listed = l;
-      rows = r;
+      cars-held = hc;
+      rows = rows-listed (sheetOf bytes c) cars hc (accepted bytes c e .sheet .most-cars) blank idle n r;
     }
 
 pub small-of : (bytes : List ℕ) (c : Counts) → verdict bytes ≡ Accepted c → Small (sheetOf bytes c)
@@ -68,13 +75,19 @@ pub under : (s : Sheet) {limit′ n w : ℕ} {entry : List ℕ} {ranked : ℕ} {
     → FilledRows s limit n w entry ranked exit
 under s {limit′} {n} {w} {entry} {ranked} {exit} limit e h = subst (λ (l : ℕ). FilledRows s l n w entry ranked exit) e h
 
+pub greater-second : (n m : ℕ) → n < m → m ≡ max n m
+greater-second n m l = omega arith
+
+pub greater-first : (n m : ℕ) → m ≤ n → n ≡ max n m
+greater-first n m l = omega arith
+
 pub prefix-length : (k : ℕ) (l : List ℕ) → k ≤ length l → k ≡ length (take k l)
 prefix-length k l h = simp length-take (omega arith)
 
 -- ---- from the filled rows to the decisions
 
-module _ (s : Sheet) (limit : ℕ) (small : Small s) (ids : List ℕ) (xs : List Float) (calls demand mask : ℕ) (stops : List ℕ) (m : ℕ) (cars : List ℕ) (n : ℕ)
-    (h : Survey s ids xs calls demand mask stops m cars n) (w : ℕ) (ew : w ≡ max n m) where
+module _ (s : Sheet) (limit : ℕ) (small : Small s) (ids : List ℕ) (xs : List Float) (calls demand mask : ℕ) (stops : List ℕ) (m : ℕ) (cars : List Car) (idle : List ℕ) (n : ℕ)
+    (h : Survey s ids xs calls demand mask stops m cars idle n) (w : ℕ) (ew : w ≡ max n m) where
   pub car-number : n ≡ idleCars s
   car-number = h .rows .number
 
@@ -128,6 +141,11 @@ module _ (s : Sheet) (limit : ℕ) (small : Small s) (ids : List ℕ) (xs : List
       unfolding decisionsOf
       decisions-are before after e =
           (rw (car-number, width) at e) ∙ decisions-same s limit (take k exit) prefix m stops ids stop-number listed (h .stops-held .id-of) before
+
+-- what a pass of an accepted sheet answers
+pub answered : (bytes : List ℕ) (c : Counts) (n m total ranked : ℕ) → n ≡ idleCars (sheetOf bytes c) → m ≡ pendingStops (sheetOf bytes c)
+    → total ≡ answeredTotal (sheetOf bytes c) (limitOf bytes) → Passed n m total ranked ≡ answerOf (Accepted c) bytes ranked
+answered bytes c n m total ranked en em et = rw (en, em, et) refl
 
 -- ---- refusal 1 in front
 

@@ -2,6 +2,7 @@
 ghost use mathlib.Core.Path.{_≡_};
 ghost use Prim.Native.Nat.{_<_, _≤_, max};
 ghost use lib.ListN.{length};
+ghost use Rattle.cars.specs.Cars.{HoldsCars};
 ghost use Rattle.layout.specs.declared.Reading.the-variants.{Accepted};
 ghost use Rattle.layout.specs.Offsets.{Small};
 ghost use Rattle.layout.specs.Records.{sheetOf, limitOf};
@@ -10,6 +11,7 @@ ghost use Rattle.outcome.specs.Outcome.{refusal1, outcome, decisionsOf, cellsOf
 ghost use Rattle.bench.specs.Answers.{answerOf, rankedOf, rankedBound};
 ghost use Rattle.bench.specs.Passing.{Masks, Left};
 ghost use Rattle.bench.specs.TwoPasses.{Claim};
+use components::Car;
 use layout::Counts;
 use layout::Reading;
 
@@ -41,7 +43,7 @@ fn limit(s: &[u8]) -> u32
     sheet::limit(s) as u32
 }
 
-// The cells and the decisions, where the stops and the masks of an accepted sheet are at hand.
+// The cells and the decisions, where the cars, the stops and the masks of an accepted sheet are at hand.
 fn send<'a>(
     s: &'a [u8],
     c: Counts,
@@ -50,19 +52,20 @@ fn send<'a>(
     calls: u64,
     demand: u64,
     pending: u64,
+    cars: [Car; 32],
     decisions: &mut [u32],
     matrix: &mut [u64],
 ) -> Answer
-    requires { ⌜ (verdict (now s) ≡ Accepted c) × (length (now ids) ≡ 64) × (length (now xs) ≡ 64) × (32 ≤ length (now decisions)) × (2048 ≤ length (now matrix)) × Masks (sheetOf (now s) c) (now ids) (now xs) calls demand pending ⌝ }
+    requires { ⌜ (verdict (now s) ≡ Accepted c) × (length (now ids) ≡ 64) × (length (now xs) ≡ 64) × (32 ≤ length (now decisions)) × (2048 ≤ length (now matrix)) × Masks (sheetOf (now s) c) (now ids) (now xs) calls demand pending × HoldsCars (sheetOf (now s) c) cars ⌝ }
     ensures answer { λ r. ⌜ r ≡ answerOf (Accepted c) (now (s .entry)) (rankedOf r) ⌝ }
     ensures ranked { λ r. ⌜ rankedOf r ≤ rankedBound (Accepted c) (now (s .entry)) ⌝ }
     ensures decisions { λ _. ⌜ (length (now (decisions .exit)) ≡ length (now (decisions .entry))) × (now (decisions .exit) ≡ decisionsOf (sheetOf (now (s .entry)) c) (limitOf (now (s .entry))) (now (decisions .entry))) ⌝ }
     ensures matrix { λ _. ⌜ (length (now (matrix .exit)) ≡ length (now (matrix .entry))) × (now (matrix .exit) ≡ cellsOf (sheetOf (now (s .entry)) c) (limitOf (now (s .entry))) (now (matrix .entry))) ⌝ }
 {
     let mut stops = [0usize; 64];
-    let mut cars = [0usize; 64];
+    let mut idle = [0usize; 64];
     let m = rows::list_ones(pending, &mut stops);
-    let n = cells::list_cars(s, c, &mut cars);
+    let n = cells::list_idle(cars, c.cars as usize, &mut idle);
     let w = columns(n, m);
     let most = limit(s);
     let ranked = cells::fill_matrix(
@@ -76,7 +79,8 @@ fn send<'a>(
         pending,
         &stops,
         m,
-        &cars,
+        cars,
+        &idle,
         n,
         w,
         matrix,
@@ -106,8 +110,11 @@ fn run(s: &[u8], c: Counts, decisions: &mut [u32], matrix: &mut [u64], sweeps: &
     let calls = pending::call_stops(s, c, &ids);
     let demand = pending::demand_stops(s, c, calls, &ids);
     let stops = pending::pending_stops(s, c, demand, &ids);
-    sweeps::fill_sweeps(s, c, stops, demand, &xs, sweeps);
-    send(s, c, &ids, &xs, calls, demand, stops, decisions, matrix)
+    let cars = cars::cars_of(s, c);
+    sweeps::fill_sweeps(s, c, cars, stops, demand, &xs, sweeps);
+    send(
+        s, c, &ids, &xs, calls, demand, stops, cars, decisions, matrix,
+    )
 }
 
 // Whether a buffer is too short: refusal 1.

@@ -3,21 +3,27 @@ use Prim.Native.Nat.{ℕ, _+_, _*_, _≤_, _<_}
 use mathlib.Core.Path.{_≡_, refl, sym, ap, _∙_}
 use mathlib.Core.Bool.{Bool, _&&_}
 use mathlib.Core.List.{List, _++_}
+use mathlib.Core.Logic.{⊎-elim}
 use native.Mathlib.Omega.{arith}
 use lib.Dec.{ltb}
 use lib.ListN.{length, getD}
 use lib.Ieee.{Float, nan, ofBits, binary64}
+use borrow.Author.Tests.{le-ltb}
+use Rattle.laws.specs.Bools.{less?}
 use Rattle.laws.specs.Folds.{count-le}
 use Rattle.laws.specs.Tables.{tab, filtered, length-filtered, front-length}
 use Rattle.mask.specs.Mask.{has, built}
+use Rattle.mask.specs.MaskLaws.{built-cong}
 use Rattle.bits.specs.Field.{fieldAt}
 use Rattle.columns.specs.Held.{held}
+use Rattle.components.specs.declared.Car.{Car}
 use Rattle.components.specs.Sheet.{Sheet}
 use Rattle.layout.specs.declared.Counts.{Counts}
 use Rattle.layout.specs.declared.Reading.the-variants.{Accepted}
 use Rattle.layout.specs.Offsets.{waitsFrom}
 use Rattle.layout.specs.Records.{sheetOf, waitingOf}
 use Rattle.layout.specs.Verdict.{verdict}
+use Rattle.cars.specs.Cars.{noCar, HoldsCars}
 use Rattle.accepted.specs.Sound.{SoundSheet}
 use Rattle.accepted.specs.Accepted.{accepted}
 use Rattle.fp.specs.Order.{finite-real}
@@ -41,15 +47,17 @@ use Rattle.rows.specs.MatrixLaws.{Ready, Rows, listed-number, listed-at, listed
 pub record Waiting (s : Sheet) (waiters : List Waiters) : Type 0 where
   pub at : (j : ℕ) → j < s .stops → HoldsWaiters s j (getD waiters j nobody)
 
--- the stops with their ids and positions, the masks of those with a call without a rider, with demand, and pending; the pending stops and the idle cars, listed
-pub record Survey (s : Sheet) (ids : List ℕ) (xs : List Float) (calls demand mask : ℕ) (stops : List ℕ) (m : ℕ) (cars : List ℕ) (n : ℕ) : Type 0 where
+-- the stops with their ids and positions, the masks of those with a call without a rider, with demand, and pending; the cars; the pending stops and the idle
+-- cars, listed
+pub record Survey (s : Sheet) (ids : List ℕ) (xs : List Float) (calls demand mask : ℕ) (stops : List ℕ) (m : ℕ) (cars : List Car) (idle : List ℕ) (n : ℕ) : Type 0 where
   pub stops-held : HoldsStops s ids xs (s .stops)
   pub calls-are : calls ≡ stopMask s (riderlessCall s)
   pub demand-is : demand ≡ stopMask s (demandStop s)
   pub stops-are : mask ≡ stopMask s (pending s)
   pub entry : List ℕ
   pub listed : Listed mask entry m stops
-  pub rows : Rows s cars n
+  pub cars-held : HoldsCars s cars
+  pub rows : Rows s idle n
 
 -- ---- columns that were filled hold the sheet's records
 
@@ -91,16 +99,30 @@ holds-waiting b c at base wstop wdest wweight wwait r q u t e f g h =
 
 -- ---- the idle cars
 
-pub rows-listed : (s : Sheet) (mask : ℕ) (entry cars : List ℕ) (n : ℕ) → s .cars ≤ 32 → mask ≡ built (λ i. ltb i (s .cars) && idle s i) 64 → Listed mask entry n cars → Rows s cars n
+-- the idle ones of the first n, as a mask of their records
+unfoldable pub idleMask : List Car → ℕ → ℕ
+idleMask cars n = built (λ i. ltb i n && getD cars i noCar .listed) 64
+
+pub idle-same : (s : Sheet) (cars : List Car) → HoldsCars s cars → idleMask cars (s .cars) ≡ built (λ i. ltb i (s .cars) && idle s i) 64
+unfolding idleMask idle
+idle-same s cars h =
+    built-cong (λ i. ltb i (s .cars) && getD cars i noCar .listed) (λ i. ltb i (s .cars) && s .car i .listed) 64
+    (λ i l. ⊎-elim
+    (λ (b : i < s .cars). ap (λ (k : Car). ltb i (s .cars) && k .listed) (h .each i b))
+    (λ (b : s .cars ≤ i). rw (le-ltb i (s .cars) b))
+    (less? i (s .cars)))
+
+pub rows-listed : (s : Sheet) (cars : List Car) → HoldsCars s cars → s .cars ≤ 32 → (entry list : List ℕ) (n : ℕ) → Listed (idleMask cars (s .cars)) entry n list → Rows s list n
 unfolding idleCars rowCar
-rows-listed s mask entry cars n few e h =
+rows-listed s cars held few entry list n h =
     let fit : s .cars ≤ 64 = omega arith in
-    let number = listed-number (idle s) (s .cars) fit mask e entry n cars h in
+    let e = idle-same s cars held in
+    let number = listed-number (idle s) (s .cars) fit (idleMask cars (s .cars)) e entry n list h in
     record {
       number = number;
       few = omega (arith, number, count-le (idle s) (s .cars));
-      car-of = listed-at (idle s) (s .cars) fit mask e entry n cars h;
-      below = listed-below (idle s) (s .cars) fit mask e entry n cars h;
+      car-of = listed-at (idle s) (s .cars) fit (idleMask cars (s .cars)) e entry n list h;
+      below = listed-below (idle s) (s .cars) fit (idleMask cars (s .cars)) e entry n list h;
     }
 
 -- a listing keeps the length of its buffer
@@ -118,10 +140,10 @@ weighed-of s h i l =
       room = room-finite (s .car i .capacity) (s .car i .load) (h .car i l .capacity) (h .car i l .load);
     }
 
-pub ready : (bytes : List ℕ) (c : Counts) → verdict bytes ≡ Accepted c → (ids : List ℕ) (xs : List Float) (calls demand mask : ℕ) (stops : List ℕ) (m : ℕ) (cars : List ℕ) (n : ℕ)
-    → Survey (sheetOf bytes c) ids xs calls demand mask stops m cars n → (acar adest : List ℕ) → HoldsAboard (sheetOf bytes c) acar adest (sheetOf bytes c .aboards)
+pub ready : (bytes : List ℕ) (c : Counts) → verdict bytes ≡ Accepted c → (ids : List ℕ) (xs : List Float) (calls demand mask : ℕ) (stops : List ℕ) (m : ℕ) (cars : List Car) (idle : List ℕ) (n : ℕ)
+    → Survey (sheetOf bytes c) ids xs calls demand mask stops m cars idle n → (acar adest : List ℕ) → HoldsAboard (sheetOf bytes c) acar adest (sheetOf bytes c .aboards)
     → (waiters : List Waiters) → Waiting (sheetOf bytes c) waiters → Ready (sheetOf bytes c) ids xs acar adest mask demand waiters stops m
-ready bytes c e ids xs calls demand mask stops m cars n h acar adest ha waiters hw =
+ready bytes c e ids xs calls demand mask stops m cars idle n h acar adest ha waiters hw =
     let sound = accepted bytes c e .sheet in
     record {
       held = record {

@@ -1,12 +1,9 @@
 // From an accepted sheet to its cells: what is read of it once, and the rows of its idle cars.
 ghost use mathlib.Core.Path.{_≡_};
-ghost use mathlib.Core.Bool.{_&&_};
 ghost use mathlib.Core.List.{_++_};
 ghost use Prim.Native.Nat.{_<_, _≤_};
-ghost use lib.Dec.{ltb};
 ghost use lib.ListN.{length, drop};
 ghost use Rattle.laws.specs.Tables.{tab};
-ghost use Rattle.mask.specs.Mask.{built};
 ghost use Rattle.layout.specs.declared.Reading.the-variants.{Accepted};
 ghost use Rattle.layout.specs.Offsets.{Small};
 ghost use Rattle.layout.specs.Records.{sheetOf};
@@ -14,10 +11,11 @@ ghost use Rattle.layout.specs.Verdict.{verdict};
 ghost use Rattle.manifest.specs.World.{stopId, stopAt};
 ghost use Rattle.manifest.specs.Stops.{HoldsStops};
 ghost use Rattle.manifest.specs.Manifest.{riderlessCall};
-ghost use Rattle.assignment.specs.Pending.{idle};
 ghost use Rattle.pending.specs.Masks.{stopMask};
+ghost use Rattle.rows.specs.RowLaws.{Listed};
 ghost use Rattle.rows.specs.MatrixLaws.{Rows, FilledRows};
-ghost use Rattle.cells.specs.Survey.{Survey, Waiting};
+ghost use Rattle.cells.specs.Survey.{Survey, Waiting, idleMask};
+use components::Car;
 use layout::Counts;
 use manifest::Waiters;
 
@@ -79,38 +77,39 @@ pub fn waiting<'a>(
     )
 }
 
-// Whether there is a car record i, and it is idle-listed.
-fn is_idle(s: &[u8], c: Counts, i: usize) -> bool
-    requires { ⌜ Small c ⌝ }
-    ensures { λ r. ⌜ r ≡ (ltb i (c .cars) && idle (sheetOf (now (s .entry)) c) i) ⌝ }
-{
-    if c.cars as usize <= i {
-        return false;
-    }
-    let car = sheet::car_at(s, c, i as u32);
-    car.listed
-}
-
-// The idle cars, as a mask of their records.
-fn idle_cars(s: &[u8], c: Counts) -> u64
-    requires { ⌜ Small c ⌝ }
-    ensures { λ r. ⌜ r ≡ built (λ i. ltb i (c .cars) && idle (sheetOf (now (s .entry)) c) i) 64 ⌝ }
+// The idle ones of the first n cars, as a mask of their records.
+fn idle_cars(cars: [Car; 32], n: usize) -> u64
+    requires { ⌜ (n ≤ 32) × (length cars ≡ 32) ⌝ }
+    ensures { λ r. ⌜ r ≡ idleMask cars n ⌝ }
 {
     let mut m: u64 = 0;
     let mut i: usize = 0;
     while i < 64 {
-        m = mask::pushed(m, is_idle(s, c, i));
+        let mut idle = false;
+        if i < n {
+            let car = cars[i];
+            idle = car.listed;
+        }
+        m = mask::pushed(m, idle);
         i += 1;
     }
     m
 }
 
-// The records of the idle cars in order, and how many they are.
-pub fn list_cars(s: &[u8], c: Counts, cars: &mut [usize]) -> usize
-    requires { ⌜ Small c × (length (now cars) ≡ 64) ⌝ }
-    ensures { λ r. ⌜ Rows (sheetOf (now (s .entry)) c) (now (cars .exit)) r × (length (now (cars .exit)) ≡ length (now (cars .entry))) ⌝ }
+// The records of the idle ones of the first n cars in order, and how many they are.
+pub fn list_idle(cars: [Car; 32], n: usize, idle: &mut [usize]) -> usize
+    requires { ⌜ (n ≤ 32) × (length cars ≡ 32) × (length (now idle) ≡ 64) ⌝ }
+    ensures { λ r. ⌜ Listed (idleMask cars n) (now (idle .entry)) r (now (idle .exit)) × (length (now (idle .exit)) ≡ length (now (idle .entry))) ⌝ }
 {
-    rows::list_ones(idle_cars(s, c), cars)
+    rows::list_ones(idle_cars(cars, n), idle)
+}
+
+// The records of a sheet's idle cars in order, and how many they are.
+pub fn list_cars(s: &[u8], c: Counts, idle: &mut [usize]) -> usize
+    requires { ⌜ Small c × (length (now idle) ≡ 64) ⌝ }
+    ensures { λ r. ⌜ Rows (sheetOf (now (s .entry)) c) (now (idle .exit)) r × (length (now (idle .exit)) ≡ length (now (idle .entry))) ⌝ }
+{
+    list_idle(cars::cars_of(s, c), c.cars as usize, idle)
 }
 
 // The cells of the n idle cars, a row each, and how many pairs are ranked.
@@ -125,13 +124,14 @@ pub fn fill_matrix<'a>(
     pending: u64,
     stops: &'a [usize],
     m: usize,
-    cars: &'a [usize],
+    cars: [Car; 32],
+    idle: &'a [usize],
     n: usize,
     columns: usize,
     matrix: &mut [u64],
 ) -> u64
-    requires { ⌜ (verdict (now s) ≡ Accepted c) × (length (now ids) ≡ 64) × (length (now xs) ≡ 64) × (length (now stops) ≡ 64) × (length (now cars) ≡ 64) × (m ≤ columns) × (columns ≤ 64) × (2048 ≤ length (now matrix)) ⌝ }
-    requires { ⌜ Survey (sheetOf (now s) c) (now ids) (now xs) calls demand pending (now stops) m (now cars) n ⌝ }
+    requires { ⌜ (verdict (now s) ≡ Accepted c) × (length (now ids) ≡ 64) × (length (now xs) ≡ 64) × (length (now stops) ≡ 64) × (length (now idle) ≡ 64) × (m ≤ columns) × (columns ≤ 64) × (2048 ≤ length (now matrix)) ⌝ }
+    requires { ⌜ Survey (sheetOf (now s) c) (now ids) (now xs) calls demand pending (now stops) m cars (now idle) n ⌝ }
     ensures { λ r. ⌜ FilledRows (sheetOf (now (s .entry)) c) limit n columns (now (matrix .entry)) r (now (matrix .exit)) ⌝ }
 {
     let mut acar = [0u32; 512];
@@ -152,6 +152,7 @@ pub fn fill_matrix<'a>(
         stops,
         m,
         cars,
+        idle,
         n,
         columns,
         matrix,

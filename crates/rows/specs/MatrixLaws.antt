@@ -17,17 +17,28 @@ use Rattle.mask.specs.Mask.{has, built}
 use Rattle.mask.specs.MaskLaws.{has-built}
 use Rattle.components.specs.declared.Car.{Car}
 use Rattle.components.specs.Sheet.{Sheet}
+use Rattle.components.specs.declared.Place.{Place}
+use Rattle.components.specs.declared.Policy.{Policy}
+use Rattle.layout.specs.declared.Counts.{Counts}
+use Rattle.layout.specs.Offsets.{Small}
+use Rattle.layout.specs.Records.{sheetOf}
+use Rattle.cars.specs.Cars.{noCar, HoldsCars}
+use Rattle.manifest.specs.World.{goalOf}
 use Rattle.manifest.specs.declared.Waiters.{Waiters}
-use Rattle.manifest.specs.Stops.{HoldsStops}
+use Rattle.manifest.specs.Stops.{HoldsStops, positionIn}
+use Rattle.riders.specs.declared.Riders.{Riders}
+use Rattle.riders.specs.Riders.{Seats}
 use Rattle.dispatch.specs.WaitersLaws.{Weighed, HoldsWaiters}
 use Rattle.assignment.specs.Pending.{pending, pendingStops, columnStop, idleCars, rowCar}
 use Rattle.assignment.specs.Candidates.{kept}
 use Rattle.assignment.specs.Cells.{matrix, cell}
 use Rattle.pending.specs.Masks.{stopMask}
+use Rattle.sweep.specs.declared.Sweep.{Sweep}
 use Rattle.ranking.specs.declared.Row.{Row}
+use Rattle.ranking.specs.Ranking.{sweepBy}
 use Rattle.ranking.specs.RankingLaws.{HoldsRow, cell-is}
 use Rattle.rows.specs.KeptLaws.{keptOf, keptNumber, kept-of}
-use Rattle.rows.specs.HeldLaws.{Held}
+use Rattle.rows.specs.HeldLaws.{Held, row-held}
 use Rattle.rows.specs.RowLaws.{nobody, rowCell, padded, Listed}
 
 -- ---- the pending stops, listed from their mask, are the columns'; the idle cars, the rows'
@@ -111,6 +122,23 @@ kept-size s i limit m car few ec e =
     masked-count (keptOf s car limit) (s .stops) few m e
     ∙ count-cong (keptOf s car limit) (kept s i limit) (s .stops) (λ j l. ap (λ (k : Car). keptOf s k limit j) ec ∙ kept-of s i limit j)
 
+-- the row of a car by value, whichever record it is
+pub record RowOf (s : Sheet) (limit : ℕ) (car : Car) (row : Row) (dests : List Float) : Type 0 where
+  pub held : (i : ℕ) → car ≡ s .car i → HoldsRow s i limit row dests
+  pub number : (i : ℕ) → car ≡ s .car i → count (has (row .kept)) 64 ≡ keptNumber s limit i
+
+pub row-of : (s : Sheet) (ids : List ℕ) (xs : List Float) (acar adest : List ℕ) (stops demand : ℕ) → Held s ids xs acar adest stops demand
+    → (limit : ℕ) (policy : Policy) (car : Car) (sweep : Sweep) (goal : Place) (riders : Riders) (kept : ℕ) {entry dests : List Float}
+    → policy ≡ s .policy → Seats ids xs (s .stops) acar adest (s .aboards) (car .id) entry riders dests
+    → goal ≡ goalOf (positionIn ids xs (s .stops)) (car .phase) → sweep ≡ sweepBy (policy .strategy) car stops demand xs (s .stops)
+    → kept ≡ stopMask s (keptOf s car limit)
+    → RowOf s limit car (record { policy = policy; car = car; sweep = sweep; goal = goal; riders = riders; demand = demand; kept = kept }) dests
+row-of s ids xs acar adest stops demand h limit policy car sweep goal riders kept ep seats eg es ek =
+    record {
+      held = λ i e. row-held s ids xs acar adest stops demand h i limit policy car sweep goal riders kept ep e seats eg es ek;
+      number = λ i e. kept-size s i limit kept car (h .few) e ek;
+    }
+
 -- a buffer of n cells that holds the row of car i, whichever row that is
 pub record FilledRow (s : Sheet) (limit i n : ℕ) (exit : List ℕ) : Type 0 where
   pub row : (r : ℕ) → rowCar s r ≡ i → exit ≡ tab (matrix s limit r) n
@@ -139,6 +167,33 @@ module _ (s : Sheet) (ids : List ℕ) (xs : List Float) (acar adest : List ℕ) 
   ready-row i limit row {dests} l hr r n e =
       row-is s (h .held .few) mask (h .held .stops-are) (h .entry) m stops (h .listed) ids xs (h .held .stops-held) r limit (rw e (h .weighed i l)) row dests
       (rw e hr) waiters (h .waiting) n
+
+-- what the row of a car needs, in a buffer of some cells
+pub record CarNeeds (b : List ℕ) (c : Counts) (ids : List ℕ) (xs : List Float) (acar adest : List ℕ) (mask demand : ℕ) (waiters : List Waiters) (stops : List ℕ) (m cells : ℕ) : Type 0 where
+  pub small : Small c
+  pub ids-size : length ids ≡ 64
+  pub xs-size : length xs ≡ 64
+  pub acar-size : length acar ≡ 512
+  pub adest-size : length adest ≡ 512
+  pub stops-size : length stops ≡ 64
+  pub fits : m ≤ cells
+  pub ready : Ready (sheetOf b c) ids xs acar adest mask demand waiters stops m
+
+-- n cells hold the row of a car by value, whichever record it is, and so many of its pairs are ranked
+pub record FilledCar (s : Sheet) (limit : ℕ) (car : Car) (n ranked : ℕ) (exit : List ℕ) : Type 0 where
+  pub size : length exit ≡ n
+  pub row : (i : ℕ) → i < s .cars → car ≡ s .car i → FilledRow s limit i n exit
+  pub number : (i : ℕ) → car ≡ s .car i → ranked ≡ keptNumber s limit i
+
+-- the row of car i of a list that holds the sheet's cars
+pub filled-at : (s : Sheet) (limit i n ranked : ℕ) (cars : List Car) (exit : List ℕ) → HoldsCars s cars → i < s .cars
+    → FilledCar s limit (getD cars i noCar) n ranked exit → FilledRow s limit i n exit × (ranked ≡ keptNumber s limit i)
+filled-at s limit i n ranked cars exit h l f = (f .row i l (h .each i l), f .number i (h .each i l))
+
+-- a car is ranked for no more than 64 stops
+pub kept-few : (s : Sheet) (limit i : ℕ) → s .stops ≤ 64 → keptNumber s limit i ≤ 64
+unfolding keptNumber
+kept-few s limit i few = omega (arith, count-le (kept s i limit) (s .stops))
 
 -- ---- the rows
 

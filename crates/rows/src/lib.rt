@@ -19,7 +19,8 @@ ghost use Rattle.ranking.specs.RankingLaws.{HoldsRow};
 ghost use Rattle.rows.specs.HeldLaws.{Held};
 ghost use Rattle.rows.specs.RowLaws.{Listed, rowCell, Spared, padded};
 ghost use Rattle.rows.specs.Gathered.{Gathered};
-ghost use Rattle.rows.specs.MatrixLaws.{Ready, FilledRow, Rows, FilledRows};
+ghost use Rattle.cars.specs.Cars.{noCar, HoldsCars};
+ghost use Rattle.rows.specs.MatrixLaws.{Ready, RowOf, CarNeeds, FilledCar, Rows, FilledRows};
 use components::Car;
 use layout::Counts;
 use manifest::Waiters;
@@ -116,11 +117,11 @@ pub fn car_row<'a>(
     fill_spare(out, m);
 }
 
-// The row of car i, under a limit; the known destinations of its riders are left in dests.
+// The row of a car, under a limit; the known destinations of its riders are left in dests.
 pub fn row_for<'a>(
     s: &'a [u8],
     c: Counts,
-    i: u32,
+    car: Car,
     limit: u32,
     ids: &'a [u32],
     xs: &'a [f64],
@@ -130,11 +131,10 @@ pub fn row_for<'a>(
     demand: u64,
     dests: &mut [f64],
 ) -> Row
-    requires { ⌜ Small c × (i < c .cars) × (length (now ids) ≡ 64) × (length (now xs) ≡ 64) × (length (now acar) ≡ 512) × (length (now adest) ≡ 512) × (length (now dests) ≡ 512) ⌝ }
+    requires { ⌜ Small c × (length (now ids) ≡ 64) × (length (now xs) ≡ 64) × (length (now acar) ≡ 512) × (length (now adest) ≡ 512) × (length (now dests) ≡ 512) ⌝ }
     requires { ⌜ Held (sheetOf (now s) c) (now ids) (now xs) (now acar) (now adest) stops demand ⌝ }
-    ensures { λ r. ⌜ HoldsRow (sheetOf (now (s .entry)) c) i limit r (now (dests .exit)) × (length (now (dests .exit)) ≡ length (now (dests .entry))) × (r .riders .count ≤ length (now (dests .exit))) × (count (has (r .kept)) 64 ≡ keptNumber (sheetOf (now (s .entry)) c) limit i) ⌝ }
+    ensures { λ r. ⌜ RowOf (sheetOf (now (s .entry)) c) limit car r (now (dests .exit)) × (length (now (dests .exit)) ≡ length (now (dests .entry))) × (r .riders .count ≤ length (now (dests .exit))) ⌝ }
 {
-    let car = sheet::car_at(s, c, i);
     let policy = sheet::policy_at(s, c);
     let n = c.stops as usize;
     let riders = riders::riders_of(ids, xs, n, acar, adest, c.aboards as usize, car.id, dests);
@@ -179,11 +179,12 @@ pub fn waiters_of<'a>(
     all
 }
 
-// The cells of car i, as many as the buffer has, and how many of its pairs are ranked.
-pub fn fill_car<'a>(
+// The cells of a car, as many as the row has, and how many of its pairs are ranked.
+fn fill_car<'r, 'a>(
+    row: &'r mut [u64],
+    car: Car,
     s: &'a [u8],
     c: Counts,
-    i: u32,
     limit: u32,
     ids: &'a [u32],
     xs: &'a [f64],
@@ -194,17 +195,15 @@ pub fn fill_car<'a>(
     waiters: [Waiters; 64],
     stops: &'a [usize],
     m: usize,
-    out: &mut [u64],
-) -> u32
-    requires { ⌜ Small c × (i < c .cars) × (length (now ids) ≡ 64) × (length (now xs) ≡ 64) × (length (now acar) ≡ 512) × (length (now adest) ≡ 512) × (length (now stops) ≡ 64) × (m ≤ length (now out)) ⌝ }
-    requires { ⌜ Ready (sheetOf (now s) c) (now ids) (now xs) (now acar) (now adest) pending demand waiters (now stops) m ⌝ }
-    ensures { λ r. ⌜ FilledRow (sheetOf (now (s .entry)) c) limit i (length (now (out .entry))) (now (out .exit)) × (r ≡ keptNumber (sheetOf (now (s .entry)) c) limit i) × (length (now (out .exit)) ≡ length (now (out .entry))) ⌝ }
+) -> usize
+    requires { ⌜ CarNeeds (now s) c (now ids) (now xs) (now acar) (now adest) pending demand waiters (now stops) m (length (now row)) ⌝ }
+    ensures { λ r. ⌜ FilledCar (sheetOf (now (s .entry)) c) limit car (length (now (row .entry))) r (now (row .exit)) ⌝ }
 {
     let mut dests = [0.0f64; 512];
-    let row = row_for(
+    let held = row_for(
         s,
         c,
-        i,
+        car,
         limit,
         ids,
         xs,
@@ -214,11 +213,64 @@ pub fn fill_car<'a>(
         demand,
         &mut dests,
     );
-    car_row(row, &dests, waiters, xs, c.stops as usize, stops, m, out);
-    mask::size(row.kept)
+    car_row(held, &dests, waiters, xs, c.stops as usize, stops, m, row);
+    mask::size(held.kept) as usize
 }
 
-// The cells of n cars, a row each, and how many of their pairs are ranked.
+// The cells of car i of a lent list: the car is copied out.
+fn fill_car_of<'c, 'r, 'a>(
+    cars: &'c [Car],
+    i: usize,
+    row: &'r mut [u64],
+    s: &'a [u8],
+    c: Counts,
+    limit: u32,
+    ids: &'a [u32],
+    xs: &'a [f64],
+    acar: &'a [u32],
+    adest: &'a [u32],
+    pending: u64,
+    demand: u64,
+    waiters: [Waiters; 64],
+    stops: &'a [usize],
+    m: usize,
+) -> usize
+    requires { ⌜ (i < length (now cars)) × CarNeeds (now s) c (now ids) (now xs) (now acar) (now adest) pending demand waiters (now stops) m (length (now row)) ⌝ }
+    ensures { λ r. ⌜ FilledCar (sheetOf (now (s .entry)) c) limit (getD (now (cars .entry)) i noCar) (length (now (row .entry))) r (now (row .exit)) ⌝ }
+{
+    let car = cars[i];
+    fill_car(
+        row, car, s, c, limit, ids, xs, acar, adest, pending, demand, waiters, stops, m,
+    )
+}
+
+// The same of an array, which is lent for the call.
+fn fill_car_in<'r, 'a>(
+    cars: [Car; 32],
+    i: usize,
+    row: &'r mut [u64],
+    s: &'a [u8],
+    c: Counts,
+    limit: u32,
+    ids: &'a [u32],
+    xs: &'a [f64],
+    acar: &'a [u32],
+    adest: &'a [u32],
+    pending: u64,
+    demand: u64,
+    waiters: [Waiters; 64],
+    stops: &'a [usize],
+    m: usize,
+) -> usize
+    requires { ⌜ (i < 32) × CarNeeds (now s) c (now ids) (now xs) (now acar) (now adest) pending demand waiters (now stops) m (length (now row)) ⌝ }
+    ensures { λ r. ⌜ FilledCar (sheetOf (now (s .entry)) c) limit (getD cars i noCar) (length (now (row .entry))) r (now (row .exit)) ⌝ }
+{
+    fill_car_of(
+        &cars, i, row, s, c, limit, ids, xs, acar, adest, pending, demand, waiters, stops, m,
+    )
+}
+
+// The cells of n cars of the array, a row each, and how many of their pairs are ranked.
 pub fn fill_rows<'a>(
     s: &'a [u8],
     c: Counts,
@@ -232,13 +284,14 @@ pub fn fill_rows<'a>(
     waiters: [Waiters; 64],
     stops: &'a [usize],
     m: usize,
-    cars: &'a [usize],
+    cars: [Car; 32],
+    idle: &'a [usize],
     n: usize,
     columns: usize,
     matrix: &mut [u64],
 ) -> u64
-    requires { ⌜ Small c × (length (now ids) ≡ 64) × (length (now xs) ≡ 64) × (length (now acar) ≡ 512) × (length (now adest) ≡ 512) × (length (now stops) ≡ 64) × (length (now cars) ≡ 64) × (m ≤ columns) × (columns ≤ 64) × (2048 ≤ length (now matrix)) ⌝ }
-    requires { ⌜ Ready (sheetOf (now s) c) (now ids) (now xs) (now acar) (now adest) pending demand waiters (now stops) m × Rows (sheetOf (now s) c) (now cars) n ⌝ }
+    requires { ⌜ CarNeeds (now s) c (now ids) (now xs) (now acar) (now adest) pending demand waiters (now stops) m columns ⌝ }
+    requires { ⌜ HoldsCars (sheetOf (now s) c) cars × Rows (sheetOf (now s) c) (now idle) n × (length (now idle) ≡ 64) × (columns ≤ 64) × (2048 ≤ length (now matrix)) ⌝ }
     ensures { λ r. ⌜ FilledRows (sheetOf (now (s .entry)) c) limit n columns (now (matrix .entry)) r (now (matrix .exit)) ⌝ }
 {
     let mut ranked: u64 = 0;
@@ -246,10 +299,12 @@ pub fn fill_rows<'a>(
     let mut r: usize = 0;
     while r < n {
         let e = at + columns;
-        ranked += fill_car(
+        ranked += fill_car_in(
+            cars,
+            idle[r],
+            &mut matrix[at..e],
             s,
             c,
-            cars[r] as u32,
             limit,
             ids,
             xs,
@@ -260,7 +315,6 @@ pub fn fill_rows<'a>(
             waiters,
             stops,
             m,
-            &mut matrix[at..e],
         ) as u64;
         at = e;
         r += 1;

@@ -1,5 +1,6 @@
 -- bench::run meets its contract.
 use Rattle.accepted.specs.Accepted.{accepted}
+use Rattle.cars.specs.Cars.{HoldsCars}
 use Rattle.cells.specs.Begun.{Begun, begun}
 use Rattle.layout.specs.Records.{sheetOf}
 use Rattle.outcome.specs.Outcome.{sweepsOf}
@@ -41,28 +42,33 @@ pending-stops-requires c κs =
     let known = begun b (a .c) (p .0) _ _ _ _ (filled .0 .1) (filled .1 .1) in
     ((small, filled .0 .0, known .names, known .boarded), c .before .demand-stops .ensures)
 
+cars-of-requires : tie.Need-cars-of-requires
+cars-of-requires c κs = let a = c .before .before .before .before .before .before .before .before .before .before .before .before .before .before .before .args in accepted (a .s .now) (a .c) (c .before .before .before .before .before .before .before .before .before .before .before .before .before .before .before .pre .0) .small
+
 fill-sweeps-requires : tie.Need-fill-sweeps-requires
 unfolding sheetOf
 fill-sweeps-requires c κs =
-    let a = c .before .before .before .before .before .before .before .before .before .before .before .before .before .before .before .before .before .args in
-    let p = c .before .before .before .before .before .before .before .before .before .before .before .before .before .before .before .before .before .pre in
+    let a = c .before .before .before .before .before .before .before .before .before .before .before .before .before .before .before .before .before .before .args in
+    let p = c .before .before .before .before .before .before .before .before .before .before .before .before .before .before .before .before .before .before .pre in
     let b = a .s .now in
     let small = accepted b (a .c) (p .0) .small in
-    let filled = c .before .before .before .before .before .before .before .before .before .before .fill-stops .ensures in
-    let known = begun b (a .c) (p .0) _ _ _ _ (filled .0 .1) (filled .1 .1) in (
-      (small, filled .1 .0, p .3),
-      record { few = small .stops; at = known .stops-held .at; pending-is = c .before .before .pending-stops .ensures; demand-is = c .before .before .before .before .demand-stops .ensures },
+    let filled = c .before .before .before .before .before .before .before .before .before .before .before .fill-stops .ensures in
+    let known = begun b (a .c) (p .0) _ _ _ _ (filled .0 .1) (filled .1 .1) in
+    (
+      (small, filled .1 .0, p .3, c .before .before .cars-of .ensures),
+      record { few = small .stops; at = known .stops-held .at; pending-is = c .before .before .before .pending-stops .ensures; demand-is = c .before .before .before .before .before .demand-stops .ensures },
     )
 
 send-requires : tie.Need-send-requires
 unfolding sheetOf
 send-requires c κs =
-    let a = c .before .before .before .before .before .before .before .before .before .before .before .before .before .before .before .before .before .before .before .before .before .before .before .before .args in
-    let p = c .before .before .before .before .before .before .before .before .before .before .before .before .before .before .before .before .before .before .before .before .before .before .before .before .pre in
+    let a = c .before .before .before .before .before .before .before .before .before .before .before .before .before .before .before .before .before .before .before .before .before .before .before .before .before .args in
+    let p = c .before .before .before .before .before .before .before .before .before .before .before .before .before .before .before .before .before .before .before .before .before .before .before .before .before .pre in
     let b = a .s .now in
     let small = accepted b (a .c) (p .0) .small in
-    let filled = c .before .before .before .before .before .before .before .before .before .before .before .before .before .before .before .before .before .fill-stops .ensures in
-    let known = begun b (a .c) (p .0) _ _ _ _ (filled .0 .1) (filled .1 .1) in (
+    let filled = c .before .before .before .before .before .before .before .before .before .before .before .before .before .before .before .before .before .before .fill-stops .ensures in
+    let known = begun b (a .c) (p .0) _ _ _ _ (filled .0 .1) (filled .1 .1) in
+    (
       p .0,
       filled .0 .0,
       filled .1 .0,
@@ -70,10 +76,11 @@ send-requires c κs =
       p .2,
       record {
         stops-held = known .stops-held;
-        calls-are = c .before .before .before .before .before .before .before .before .before .before .before .before .before .call-stops .ensures;
-        demand-is = c .before .before .before .before .before .before .before .before .before .before .before .demand-stops .ensures;
-        stops-are = c .before .before .before .before .before .before .before .before .before .pending-stops .ensures;
+        calls-are = c .before .before .before .before .before .before .before .before .before .before .before .before .before .before .call-stops .ensures;
+        demand-is = c .before .before .before .before .before .before .before .before .before .before .before .before .demand-stops .ensures;
+        stops-are = c .before .before .before .before .before .before .before .before .before .before .pending-stops .ensures;
       },
+      c .before .before .before .before .before .before .before .before .before .cars-of .ensures,
     )
 
 same-length : tie.Need-same-length
@@ -95,5 +102,5 @@ pub run-spec : {M : Type 1} → statement M
 run-spec =
     tie.close
     (tie.spec (λ c. search needs) (λ c. search needs) fill-stops-requires (λ c. search needs) call-stops-requires (λ c. search needs) demand-stops-requires
-    (λ c. search needs) pending-stops-requires (λ c. search needs) fill-sweeps-requires (λ c. search needs) (λ c. search needs) send-requires
+    (λ c. search needs) pending-stops-requires cars-of-requires (λ c. search needs) fill-sweeps-requires (λ c. search needs) (λ c. search needs) send-requires
     same-length same-length-2 same-length-3 returns)

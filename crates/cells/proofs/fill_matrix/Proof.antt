@@ -2,6 +2,7 @@
 use Rattle.accepted.specs.Accepted.{accepted}
 use Rattle.cells.specs.Survey.{Survey, holds-aboard, ready}
 use Rattle.layout.specs.Records.{sheetOf}
+use Rattle.rows.specs.MatrixLaws.{CarNeeds}
 use borrow.Author.Needs.{needs}
 use lib.ListN.{length}
 use mathlib.Core.Path.{_≡_, refl, _∙_}
@@ -30,8 +31,17 @@ fill-rows-requires c κs =
     let b = a .s .now in
     let aboard = c .before .before .before .before .before .before .fill-aboard .ensures in
     let held = holds-aboard (sheetOf b (a .c)) _ _ _ _ (aboard .0 .1) (aboard .1 .1) in (
-      (accepted b (a .c) (p .0 .0) .small, p .0 .1, p .0 .2, aboard .0 .0, aboard .1 .0, p .0 .3, p .0 .4, p .0 .5, p .0 .6, p .0 .7),
-      (ready b (a .c) (p .0 .0) (a .ids .now) (a .xs .now) (a .calls) (a .demand) (a .pending) (a .stops .now) (a .m) (a .cars .now) (a .n) (p .1) _ _ held _ (c .before .before .before .waiting .ensures), p .1 .rows),
+      record {
+        small = accepted b (a .c) (p .0 .0) .small;
+        ids-size = p .0 .1;
+        xs-size = p .0 .2;
+        acar-size = aboard .0 .0;
+        adest-size = aboard .1 .0;
+        stops-size = p .0 .3;
+        fits = p .0 .5;
+        ready = ready b (a .c) (p .0 .0) (a .ids .now) (a .xs .now) (a .calls) (a .demand) (a .pending) (a .stops .now) (a .m) (a .cars) (a .idle .now) (a .n) (p .1) _ _ held _ (c .before .before .before .waiting .ensures);
+      },
+      (p .1 .cars-held, p .1 .rows, p .0 .4, p .0 .6, p .0 .7),
     )
 
 same-length : tie.Need-same-length

@@ -1,6 +1,6 @@
 -- rows::fill_car meets its contract.
 use Rattle.layout.specs.Records.{sheetOf}
-use Rattle.rows.specs.MatrixLaws.{Ready, FilledRow, ready-few, ready-below, ready-row}
+use Rattle.rows.specs.MatrixLaws.{CarNeeds, FilledCar, FilledRow, ready-few, ready-below, ready-row}
 use borrow.Author.Needs.{needs}
 use lib.ListN.{length}
 use mathlib.Core.Path.{_≡_, refl, _∙_}
@@ -10,20 +10,20 @@ use Rattle.rows.proofs.fill_car.Tie as tie
 
 row-for-requires : tie.Need-row-for-requires
 unfolding sheetOf
-row-for-requires c κs = let p = c .before .before .before .before .before .before .before .before .pre in ((p .0 .0, p .0 .1, p .0 .2, p .0 .3, p .0 .4, p .0 .5, refl), p .1 .held)
+row-for-requires c κs = let p = c .before .before .before .before .before .before .before .before .pre in ((p .small, p .ids-size, p .xs-size, p .acar-size, p .adest-size, refl), p .ready .held)
 
 car-row-requires : tie.Need-car-row-requires
 unfolding sheetOf
 car-row-requires c κs =
     let a = c .before .before .before .before .before .before .before .before .before .before .before .before .before .args in
     let p = c .before .before .before .before .before .before .before .before .before .before .before .before .before .pre in
-    let few = ready-few (sheetOf (a .s .now) (a .c)) (a .ids .now) (a .xs .now) (a .acar .now) (a .adest .now) (a .pending) (a .demand) (a .waiters) (a .stops .now) (a .m) (p .1) in (
+    let few = ready-few (sheetOf (a .s .now) (a .c)) (a .ids .now) (a .xs .now) (a .acar .now) (a .adest .now) (a .pending) (a .demand) (a .waiters) (a .stops .now) (a .m) (p .ready) in (
       c .before .before .before .before .row-for .ensures .2,
-      p .0 .0 .stops,
-      omega (arith, p .0 .0 .stops, p .0 .3),
-      omega (arith, few, p .0 .6),
-      p .0 .7,
-      ready-below (sheetOf (a .s .now) (a .c)) (a .ids .now) (a .xs .now) (a .acar .now) (a .adest .now) (a .pending) (a .demand) (a .waiters) (a .stops .now) (a .m) (p .1),
+      p .small .stops,
+      omega (arith, p .small .stops, p .xs-size),
+      omega (arith, few, p .stops-size),
+      p .fits,
+      ready-below (sheetOf (a .s .now) (a .c)) (a .ids .now) (a .xs .now) (a .acar .now) (a .adest .now) (a .pending) (a .demand) (a .waiters) (a .stops .now) (a .m) (p .ready),
     )
 
 same-length : tie.Need-same-length
@@ -34,16 +34,17 @@ unfolding sheetOf
 returns c =
     let a = c .before .before .before .before .before .before .before .before .before .before .before .before .before .before .before .before .before .args in
     let p = c .before .before .before .before .before .before .before .before .before .before .before .before .before .before .before .before .before .pre in
-    let row = c .before .before .before .before .before .before .before .before .row-for in
-    let filled = c .before .before .before .car-row .ensures in (
-      record {
-        row = λ r e. filled .1 ∙ ready-row (sheetOf (a .s .now) (a .c)) (a .ids .now) (a .xs .now) (a .acar .now) (a .adest .now) (a .pending) (a .demand) (a .waiters) (a .stops .now) (a .m) (p .1) (a .i) (a .limit) (row .result) (p .0 .1) (row .ensures .0) r (length (a .out .now)) e;
-      },
-      c .size .ensures ∙ row .ensures .3,
-      filled .0,
-    )
+    let held = c .before .before .before .before .before .before .before .before .row-for in
+    let filled = c .before .before .before .car-row .ensures in
+    record {
+      size = filled .0;
+      row = λ i l e. record {
+        row = λ r f. filled .1 ∙ ready-row (sheetOf (a .s .now) (a .c)) (a .ids .now) (a .xs .now) (a .acar .now) (a .adest .now) (a .pending) (a .demand) (a .waiters) (a .stops .now) (a .m) (p .ready) i (a .limit) (held .result) l (held .ensures .0 .held i e) r (length (a .row .now)) f;
+      };
+      number = λ i e. c .size .ensures ∙ held .ensures .0 .number i e;
+    }
 
 pub fill-car-spec : {M : Type 1} → statement M
 fill-car-spec =
     tie.close
-    (tie.spec (λ c. search needs) row-for-requires (λ c. search needs) (λ c. search needs) car-row-requires (λ c κs. search needs) same-length returns)
+    (tie.spec (λ c. search needs) row-for-requires (λ c. search needs) (λ c. search needs) car-row-requires (λ c κs. search needs) (λ c. search needs) same-length returns)

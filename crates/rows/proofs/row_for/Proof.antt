@@ -1,7 +1,7 @@
 -- rows::row_for meets its contract.
 use Rattle.layout.specs.Records.{sheetOf}
-use Rattle.rows.specs.HeldLaws.{Held, seats-length, row-held}
-use Rattle.rows.specs.MatrixLaws.{kept-size}
+use Rattle.rows.specs.HeldLaws.{Held, seats-length}
+use Rattle.rows.specs.MatrixLaws.{row-of}
 use borrow.Author.Needs.{needs}
 use native.Mathlib.Omega.{arith}
 use Rattle.rows.proofs.row_for.Statement.{statement}
@@ -9,52 +9,50 @@ use Rattle.rows.proofs.row_for.Tie as tie
 
 riders-of-requires : tie.Need-riders-of-requires
 riders-of-requires c κs =
-    let p = c .before .before .before .before .before .before .before .before .before .before .before .pre in (
+    let p = c .before .before .before .before .before .before .before .before .before .before .pre in (
+      omega (arith, p .0 .0 .stops, p .0 .1),
       omega (arith, p .0 .0 .stops, p .0 .2),
-      omega (arith, p .0 .0 .stops, p .0 .3),
       p .0 .0 .stops,
+      omega (arith, p .0 .0 .aboards, p .0 .3),
       omega (arith, p .0 .0 .aboards, p .0 .4),
       omega (arith, p .0 .0 .aboards, p .0 .5),
-      omega (arith, p .0 .0 .aboards, p .0 .6),
     )
 
 goal-requires : tie.Need-goal-requires
 goal-requires c κs =
-    let p = c .before .before .before .before .before .before .before .before .before .before .before .before .before .before .pre in
-    (omega (arith, p .0 .0 .stops, p .0 .2), omega (arith, p .0 .0 .stops, p .0 .3))
+    let p = c .before .before .before .before .before .before .before .before .before .before .before .before .before .pre in
+    (omega (arith, p .0 .0 .stops, p .0 .1), omega (arith, p .0 .0 .stops, p .0 .2))
 
 sweep-after-requires : tie.Need-sweep-after-requires
 sweep-after-requires c κs =
-    let p = c .before .before .before .before .before .before .before .before .before .before .before .before .before .before .before .pre in
-    (p .0 .0 .stops, omega (arith, p .0 .0 .stops, p .0 .3))
+    let p = c .before .before .before .before .before .before .before .before .before .before .before .before .before .before .pre in
+    (p .0 .0 .stops, omega (arith, p .0 .0 .stops, p .0 .2))
 
 kept-by-requires : tie.Need-kept-by-requires
 unfolding sheetOf
 kept-by-requires c κs =
-    let p = c .before .before .before .before .before .before .before .before .before .before .before .before .before .before .before .before .pre in
-    ((p .0 .0, p .0 .3, p .1 .stops-held, p .1 .rising), p .1 .stops-are)
+    let p = c .before .before .before .before .before .before .before .before .before .before .before .before .before .before .before .pre in
+    ((p .0 .0, p .0 .2, p .1 .stops-held, p .1 .rising), p .1 .stops-are)
 
 returns : tie.Need-returns
 unfolding sheetOf
 returns c =
-    let a = c .before .before .before .before .before .before .before .before .before .before .before .before .before .before .before .before .before .args in
-    let p = c .before .before .before .before .before .before .before .before .before .before .before .before .before .before .before .before .before .pre in
-    let car = c .before .before .before .before .before .before .before .before .before .before .car-at in
+    let a = c .before .before .before .before .before .before .before .before .before .before .before .before .before .before .before .before .args in
+    let p = c .before .before .before .before .before .before .before .before .before .before .before .before .before .before .before .before .pre in
     let policy = c .before .before .before .before .before .before .before .before .before .policy-at in
     let riders = c .before .before .before .before .before .riders-of in
     let goal = c .before .before .goal in
     let sweep = c .before .sweep-after in
-    let len = seats-length (a .ids .now) (a .xs .now) (a .c .stops) (a .acar .now) (a .adest .now) (a .c .aboards) (car .result .id) (riders .result) (riders .ensures) (omega (arith, p .0 .0 .aboards, p .0 .6)) in (
-      row-held (sheetOf (a .s .now) (a .c)) (a .ids .now) (a .xs .now) (a .acar .now) (a .adest .now) (a .stops) (a .demand) (p .1) (a .i) (a .limit)
-          (policy .result) (car .result) (sweep .result) (goal .result) (riders .result) (c .kept-by .result)
-          (policy .ensures) (car .ensures) (riders .ensures) (goal .ensures) (sweep .ensures) (c .kept-by .ensures),
+    let len = seats-length (a .ids .now) (a .xs .now) (a .c .stops) (a .acar .now) (a .adest .now) (a .c .aboards) (a .car .id) (riders .result) (riders .ensures) (omega (arith, p .0 .0 .aboards, p .0 .5)) in (
+      row-of (sheetOf (a .s .now) (a .c)) (a .ids .now) (a .xs .now) (a .acar .now) (a .adest .now) (a .stops) (a .demand) (p .1) (a .limit)
+          (policy .result) (a .car) (sweep .result) (goal .result) (riders .result) (c .kept-by .result)
+          (policy .ensures) (riders .ensures) (goal .ensures) (sweep .ensures) (c .kept-by .ensures),
       len .0,
       len .1,
-      kept-size (sheetOf (a .s .now) (a .c)) (a .i) (a .limit) (c .kept-by .result) (car .result) (p .0 .0 .stops) (car .ensures) (c .kept-by .ensures),
     )
 
 pub row-for-spec : {M : Type 1} → statement M
 row-for-spec =
     tie.close
-    (tie.spec (λ c κs. search needs) (λ c κs. search needs) (λ c. search needs) (λ c. search needs) riders-of-requires goal-requires
+    (tie.spec (λ c κs. search needs) (λ c. search needs) (λ c. search needs) riders-of-requires goal-requires
     sweep-after-requires kept-by-requires (λ c. search needs) returns)
