@@ -143,9 +143,9 @@ module _ (s : Sheet) (limit : ℕ) (small : Small s) (ids : List ℕ) (xs : List
           (rw (car-number, width) at e) ∙ decisions-same s limit (take k exit) prefix m stops ids stop-number listed (h .stops-held .id-of) before
 
 -- what a pass of an accepted sheet answers
-pub answered : (bytes : List ℕ) (c : Counts) (n m total ranked : ℕ) → n ≡ idleCars (sheetOf bytes c) → m ≡ pendingStops (sheetOf bytes c)
-    → total ≡ answeredTotal (sheetOf bytes c) (limitOf bytes) → Passed n m total ranked ≡ answerOf (Accepted c) bytes ranked
-answered bytes c n m total ranked en em et = rw (en, em, et) refl
+pub answered : (bytes : List ℕ) (c : Counts) (n m total ranked : ℕ) {r : Answer} → r ≡ Passed n m total ranked → n ≡ idleCars (sheetOf bytes c)
+    → m ≡ pendingStops (sheetOf bytes c) → total ≡ answeredTotal (sheetOf bytes c) (limitOf bytes) → r ≡ answerOf (Accepted c) bytes (rankedOf r)
+answered bytes c n m total ranked {r} e en em et = subst (λ (x : Answer). x ≡ answerOf (Accepted c) bytes (rankedOf x)) (sym e) (rw (en, em, et) refl)
 
 -- ---- refusal 1 in front
 

@@ -8,6 +8,7 @@ ghost use Rattle.layout.specs.Offsets.{Small};
 ghost use Rattle.layout.specs.Records.{sheetOf, limitOf};
 ghost use Rattle.layout.specs.Verdict.{verdict};
 ghost use Rattle.outcome.specs.Outcome.{refusal1, outcome, decisionsOf, cellsOf, sweepsOf, decisionsLeft, cellsLeft, sweepsLeft};
+ghost use Rattle.bench.specs.declared.Answer.the-variants.{Passed};
 ghost use Rattle.bench.specs.Answers.{answerOf, rankedOf, rankedBound};
 ghost use Rattle.bench.specs.Passing.{Masks, Left};
 ghost use Rattle.bench.specs.TwoPasses.{Claim};
@@ -34,6 +35,18 @@ fn columns(n: usize, m: usize) -> usize
     ensures { λ r. ⌜ r ≡ max n m ⌝ }
 {
     if n < m { m } else { n }
+}
+
+// A pass of n cars and m stops.
+fn passed(n: usize, m: usize, total: u64, ranked: u64) -> Answer
+    ensures { λ r. ⌜ r ≡ Passed n m total ranked ⌝ }
+{
+    Answer::Passed {
+        cars: n as u64,
+        stops: m as u64,
+        total,
+        ranked,
+    }
 }
 
 // The candidate limit of a sheet.
@@ -87,12 +100,7 @@ fn send<'a>(
     );
     let e = n * w;
     let total = decisions::decide(&matrix[..e], n, w, m, &stops, ids, decisions);
-    Answer::Passed {
-        cars: n as u64,
-        stops: m as u64,
-        total,
-        ranked,
-    }
+    passed(n, m, total, ranked)
 }
 
 // A pass of an accepted sheet into buffers that are long enough.
@@ -113,7 +121,16 @@ fn run(s: &[u8], c: Counts, decisions: &mut [u32], matrix: &mut [u64], sweeps: &
     let cars = cars::cars_of(s, c);
     sweeps::fill_sweeps(s, c, cars, stops, demand, &xs, sweeps);
     send(
-        s, c, &ids, &xs, calls, demand, stops, cars, decisions, matrix,
+        s,
+        c,
+        &ids,
+        &xs,
+        calls,
+        demand,
+        stops,
+        cars,
+        decisions,
+        matrix,
     )
 }
 

@@ -240,7 +240,20 @@ fn fill_car_of<'c, 'r, 'a>(
 {
     let car = cars[i];
     fill_car(
-        row, car, s, c, limit, ids, xs, acar, adest, pending, demand, waiters, stops, m,
+        row,
+        car,
+        s,
+        c,
+        limit,
+        ids,
+        xs,
+        acar,
+        adest,
+        pending,
+        demand,
+        waiters,
+        stops,
+        m,
     )
 }
 
@@ -266,7 +279,21 @@ fn fill_car_in<'r, 'a>(
     ensures { λ r. ⌜ FilledCar (sheetOf (now (s .entry)) c) limit (getD cars i noCar) (length (now (row .entry))) r (now (row .exit)) ⌝ }
 {
     fill_car_of(
-        &cars, i, row, s, c, limit, ids, xs, acar, adest, pending, demand, waiters, stops, m,
+        &cars,
+        i,
+        row,
+        s,
+        c,
+        limit,
+        ids,
+        xs,
+        acar,
+        adest,
+        pending,
+        demand,
+        waiters,
+        stops,
+        m,
     )
 }
 

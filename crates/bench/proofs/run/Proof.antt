@@ -53,8 +53,7 @@ fill-sweeps-requires c κs =
     let b = a .s .now in
     let small = accepted b (a .c) (p .0) .small in
     let filled = c .before .before .before .before .before .before .before .before .before .before .before .fill-stops .ensures in
-    let known = begun b (a .c) (p .0) _ _ _ _ (filled .0 .1) (filled .1 .1) in
-    (
+    let known = begun b (a .c) (p .0) _ _ _ _ (filled .0 .1) (filled .1 .1) in (
       (small, filled .1 .0, p .3, c .before .before .cars-of .ensures),
       record { few = small .stops; at = known .stops-held .at; pending-is = c .before .before .before .pending-stops .ensures; demand-is = c .before .before .before .before .before .demand-stops .ensures },
     )
@@ -67,8 +66,7 @@ send-requires c κs =
     let b = a .s .now in
     let small = accepted b (a .c) (p .0) .small in
     let filled = c .before .before .before .before .before .before .before .before .before .before .before .before .before .before .before .before .before .before .fill-stops .ensures in
-    let known = begun b (a .c) (p .0) _ _ _ _ (filled .0 .1) (filled .1 .1) in
-    (
+    let known = begun b (a .c) (p .0) _ _ _ _ (filled .0 .1) (filled .1 .1) in (
       p .0,
       filled .0 .0,
       filled .1 .0,

@@ -52,17 +52,19 @@ fill-car-in-requires c κs =
     let r = at-loop .r in
     let rows = p .1 .1 in
     let l : r < a .n = omega (arith, c .before .before .loop-test .taken) in
-    let part = part-length (at-loop .at) (a .columns) (at-loop .matrix) (omega (arith, at-loop .inv .1 .near, at-loop .inv .1 .held .size, p .1 .3, p .1 .4, rows .few)) in
-    (omega (arith, rows .car-of r l, rows .below r l, p .0 .small .cars), record {
-      small = p .0 .small;
-      ids-size = p .0 .ids-size;
-      xs-size = p .0 .xs-size;
-      acar-size = p .0 .acar-size;
-      adest-size = p .0 .adest-size;
-      stops-size = p .0 .stops-size;
-      fits = omega (arith, part, p .0 .fits);
-      ready = p .0 .ready;
-    })
+    let part = part-length (at-loop .at) (a .columns) (at-loop .matrix) (omega (arith, at-loop .inv .1 .near, at-loop .inv .1 .held .size, p .1 .3, p .1 .4, rows .few)) in (
+      omega (arith, rows .car-of r l, rows .below r l, p .0 .small .cars),
+      record {
+        small = p .0 .small;
+        ids-size = p .0 .ids-size;
+        xs-size = p .0 .xs-size;
+        acar-size = p .0 .acar-size;
+        adest-size = p .0 .adest-size;
+        stops-size = p .0 .stops-size;
+        fits = omega (arith, part, p .0 .fits);
+        ready = p .0 .ready;
+      },
+    )
 
 add-ranked : tie.Need-add-ranked Inv-loop μ-loop
 unfolding sheetOf
