@@ -221,6 +221,14 @@ fn case_at(s: &[u8], at: usize) -> Case
     }
 }
 
+// Where the stored answer to pair k starts: after the indices, 9 bytes for each pair before it.
+fn answer_at(case: Case, k: usize) -> usize
+    requires { ⌜ Inside case × (k < case .pairs) ⌝ }
+    ensures { λ r. ⌜ r ≡ case .end + 2 + case .cars + case .stops + 9 * k ⌝ }
+{
+    case.end + 2 + case.cars + case.stops + 9 * k
+}
+
 // Pair k of a case, row by row.
 fn pair_at(s: &[u8], case: Case, k: usize) -> Pair
     requires { ⌜ Inside case × (k < case .pairs) ⌝ }
@@ -228,7 +236,7 @@ fn pair_at(s: &[u8], case: Case, k: usize) -> Pair
 {
     let first = case.end + 2;
     let stops = case.stops;
-    let at = first + case.cars + stops + 9 * k;
+    let at = answer_at(case, k);
     let car = number(s, first + k / stops, 8);
     let stop = number(s, first + case.cars + k % stops, 8);
     let stored = Answer {
