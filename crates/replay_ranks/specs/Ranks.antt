@@ -121,8 +121,8 @@ pub record Counted (at : ℕ) (t : Totals) : Type 0 where
   pub ranks : t .ranks ≤ at
   pub differ : t .differ ≤ at
 
--- a case that lies in 65,536 bytes
+-- a case that lies in 262,144 bytes
 pub record Inside (case : Case) : Type 0 where
   pub pairs : case .pairs ≡ case .cars * case .stops
   pub next : case .next ≡ case .end + 2 + case .cars + case .stops + 9 * case .pairs
-  pub below : case .next ≤ 65536
+  pub below : case .next ≤ 262144

@@ -19,7 +19,7 @@ use Rattle.replay_ranks.specs.Ranks.{differs, caseAt, pairAt, refusedAt,
 -- ---- a case
 
 pub record Placed (at : ℕ) (case : Case) : Type 0 where
-  pub inside : case .next ≤ 65536 → Inside case
+  pub inside : case .next ≤ 262144 → Inside case
   pub sheet : at + 2 ≤ case .end
   pub end : case .end ≤ case .next
   pub long : at + 4 + 9 * case .pairs ≤ case .next

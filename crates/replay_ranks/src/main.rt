@@ -4,11 +4,33 @@
 // The list was made by `oracle list ranks 1 crates/replay_ranks/stdin` (tools/oracle): the ranks are those that the published Rust gives, before scaling. A
 // case is the sheet's length in 16 bits and its bytes, n and m in 8 bits each, n indices of car records and m of stop records in 8 bits each, and row by
 // row for each pair 8 bits that are 1 where there is a rank, and its 64 bits; these are 0 where there is none, and for a zero of either sign, which the Rust
-// leaves open. The most significant byte comes first. Of the 306 pairs 83 have no rank, and 111 a zero.
+// leaves open. The most significant byte comes first.
+//
+// 176 sheets are small and tell a faulty pass from the right one or come from the profiles; 48 have 100 pairs or more each. The pairs:
+//                                                           ETD    RSR   SCAN
+//     all                                                 2,129  2,109  2,252
+//     without a rank                                        892    959  1,278
+//     of rank zero                                          180    220     53
+//     of a rank above zero                                1,057    930    921
+//     car and stop within 1e-9 of each other, not equal     276    249    202
+//     two pending stops within 1e-9, not equal              856    628    762
+//     car and stop at equal positions                       137    111    124
+//     two pending stops at equal positions                  490    394    489
+//     car or stop at -0.0                                    54     88     59
+//     another -0.0                                          299    201    145
+//     a rider aboard bound for an unknown stop              149     91    190
+//     a waiting rider bound for an unknown stop             154    139    105
+//     the threshold of the car's way at its load ratio       90     49     33
+//     capacity 0                                            127     50     97
+//     a policy weight of 0 (SCAN reads none)              1,485    869
+//     a policy weight of 1,000,000,000                      248    468
+//     a waiting rider of weight 0                           160    124    132
+//     a waiting rider of weight 1,000,000,000                39     39     28
+//     a waiting rider with 2^53 wait ticks                   82    116    103
 //
 // A rank that differs shows. With the last bit of the list's first rank changed, in byte 342, the program prints
 //     the case at byte 0: car 0 stop 1 got 4024000000000000, expected 4024000000000001
-//     176 sheets, 306 ranks compared, 1 differ
+//     224 sheets, 6490 ranks compared, 1 differ
 use components::Rank;
 use layout::Counts;
 use layout::Reading;
@@ -63,6 +85,13 @@ struct Totals {
 struct Step {
     next: usize,
     totals: Totals,
+}
+
+// Room for the list.
+fn list_buffer() -> [u8; 262144]
+    ensures { λ r. ⌜ 262144 ≡ length r ⌝ }
+{
+    [0; 262144]
 }
 
 // The bits of a double; of a zero of either sign 0.
@@ -176,7 +205,7 @@ fn number(s: &[u8], at: usize, w: usize) -> u64
 
 // The case at byte at.
 fn case_at(s: &[u8], at: usize) -> Case
-    requires { ⌜ at ≤ 65536 ⌝ }
+    requires { ⌜ at ≤ 262144 ⌝ }
     ensures { λ r. ⌜ r ≡ caseAt (now (s .entry)) at ⌝ }
 {
     let end = at + 2 + number(s, at, 16) as usize;
@@ -192,6 +221,14 @@ fn case_at(s: &[u8], at: usize) -> Case
     }
 }
 
+// Where the stored answer to pair k starts: after the indices, 9 bytes for each pair before it.
+fn answer_at(case: Case, k: usize) -> usize
+    requires { ⌜ Inside case × (k < case .pairs) ⌝ }
+    ensures { λ r. ⌜ r ≡ case .end + 2 + case .cars + case .stops + 9 * k ⌝ }
+{
+    case.end + 2 + case.cars + case.stops + 9 * k
+}
+
 // Pair k of a case, row by row.
 fn pair_at(s: &[u8], case: Case, k: usize) -> Pair
     requires { ⌜ Inside case × (k < case .pairs) ⌝ }
@@ -199,7 +236,7 @@ fn pair_at(s: &[u8], case: Case, k: usize) -> Pair
 {
     let first = case.end + 2;
     let stops = case.stops;
-    let at = first + case.cars + stops + 9 * k;
+    let at = answer_at(case, k);
     let car = number(s, first + k / stops, 8);
     let stop = number(s, first + case.cars + k % stops, 8);
     let stored = Answer {
@@ -272,7 +309,7 @@ fn count_differ<'a>(s: &'a [u8], b: &'a [u8], c: Counts, case: Case, at: usize, 
 
 // A refused sheet counts as one that differs.
 fn refused(t: Totals, case: Case, at: usize) -> Step
-    requires { ⌜ Counted at t × (at < case .next) × (case .next ≤ 65536) ⌝ }
+    requires { ⌜ Counted at t × (at < case .next) × (case .next ≤ 262144) ⌝ }
     ensures { λ r. ⌜ r ≡ refusedAt case t ⌝ }
 {
     print_number(b"no sheet at byte ", at as u64);
@@ -313,7 +350,7 @@ fn compare<'a>(s: &'a [u8], b: &'a [u8], at: usize, case: Case, t: Totals) -> St
 
 // A case that is cut short ends the run, and counts as one that differs.
 fn cut(s: &[u8], at: usize, t: Totals) -> Step
-    requires { ⌜ (at < length (now s)) × (length (now s) ≤ 65536) × Counted at t ⌝ }
+    requires { ⌜ (at < length (now s)) × (length (now s) ≤ 262144) × Counted at t ⌝ }
     ensures { λ r. ⌜ r ≡ cutAt (now (s .entry)) t ⌝ }
 {
     print_number(b"no whole case at byte ", at as u64);
@@ -329,7 +366,7 @@ fn cut(s: &[u8], at: usize, t: Totals) -> Step
 }
 
 fn turn(s: &[u8], at: usize, t: Totals) -> Step
-    requires { ⌜ (at < length (now s)) × (length (now s) ≤ 65536) × Counted at t ⌝ }
+    requires { ⌜ (at < length (now s)) × (length (now s) ≤ 262144) × Counted at t ⌝ }
     ensures { λ r. ⌜ Turned (now (s .entry)) at t r ⌝ }
 {
     let case = case_at(s, at);
@@ -342,7 +379,7 @@ fn turn(s: &[u8], at: usize, t: Totals) -> Step
 }
 
 fn run(s: &[u8]) -> Totals
-    requires { ⌜ length (now s) ≤ 65536 ⌝ }
+    requires { ⌜ length (now s) ≤ 262144 ⌝ }
     ensures { λ r. ⌜ Replayed (now (s .entry)) r ⌝ }
 {
     let mut t = Totals {
@@ -360,7 +397,7 @@ fn run(s: &[u8]) -> Totals
 }
 
 fn main() {
-    let mut buffer = io::large_buffer();
+    let mut buffer = list_buffer();
     let n = io::read_full(STDIN_FILENO, &mut buffer);
     let t = run(&buffer[..n]);
     print_number(b"", t.sheets);

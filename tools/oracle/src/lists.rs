@@ -2,16 +2,17 @@
 //! hand. README.md has the formats; numbers are most significant byte first.
 
 use sheetgen::bits;
-use sheetgen::generate::{PROFILES, Profile, generate};
+use sheetgen::generate::{PROFILES, Profile, crowded, generate};
 use sheetgen::provoke;
 use sheetgen::rng::Rng;
+use sheetgen::sheet::{ETD, RSR, SCAN};
 use sheetgen::shrink::shrink;
 use sheetgen::{Aboard, Car, Demand, Line, Sheet, Stop, Waiting, read};
 
 use crate::answer::{Answer, Pass, answer};
 use crate::compare::Comparison;
 use crate::paper::{FAULTS, Fault, Paper};
-use crate::rust_pass::Rust;
+use crate::rust_pass::{Rust, RustPass};
 
 fn put(list: &mut Vec<u8>, sheet: &[u8]) {
     list.extend(
@@ -287,34 +288,302 @@ pub fn passes(seed: u64) -> (Vec<u8>, usize) {
     (list, cases.len())
 }
 
-/// Accepted sheets with the rank of each idle car for each pending stop, before scaling.
-pub fn ranks(seed: u64) -> (Vec<u8>, usize) {
-    let mut rust = Rust::new();
-    let mut list = Vec::new();
-    let mut held = 0;
-    for case in telling(seed + 2, 300, 5).0 {
-        let sheet = Sheet::of_accepted(&case);
+/// An idle car and a pending stop, with the rank that the Rust gives them.
+struct Pair<'a> {
+    sheet: &'a Sheet,
+    pending: &'a [&'a Stop],
+    car: &'a Car,
+    stop: &'a Stop,
+    rank: Option<f64>,
+}
+
+fn near(a: f64, b: f64) -> bool {
+    a != b && (a - b).abs() <= 1e-9
+}
+
+fn minus_zero(x: f64) -> bool {
+    x == 0.0 && x.is_sign_negative()
+}
+
+impl<'a> Pair<'a> {
+    fn of(
+        sheet: &'a Sheet,
+        pending: &'a [&'a Stop],
+        ranks: &'a [Rank],
+    ) -> impl Iterator<Item = Self> {
+        ranks.iter().map(move |(car, stop, rank)| Pair {
+            sheet,
+            pending,
+            car: sheet.cars.iter().find(|c| c.id == *car).unwrap(),
+            stop: sheet.stops.iter().find(|s| s.id == *stop).unwrap(),
+            rank: *rank,
+        })
+    }
+
+    /// Whether there is a rank and it is no zero.
+    fn above_zero(&self) -> bool {
+        self.rank.is_some_and(|cost| cost != 0.0)
+    }
+
+    fn unknown(&self, id: Option<u32>) -> bool {
+        id.is_some_and(|id| self.sheet.stops.iter().all(|s| s.id != id))
+    }
+
+    fn waiter(&self, test: impl Fn(&Waiting) -> bool) -> bool {
+        let here = |w: &&Waiting| w.stop == self.stop.id;
+        self.sheet.waiting.iter().filter(here).any(test)
+    }
+
+    /// A policy weight that the strategy reads and that a sheet may choose.
+    fn weight(&self, test: impl Fn(f64) -> bool) -> bool {
+        let read: &[usize] = match self.sheet.policy.strategy {
+            ETD => &[0, 1, 2, 3, 4],
+            RSR => &[0, 1, 2, 4, 5],
+            _ => &[],
+        };
+        read.iter().any(|k| test(self.sheet.policy.weights[*k]))
+    }
+
+    /// The threshold of the direction that the car moves in.
+    fn threshold(&self) -> Option<f64> {
+        let bound = |s: &&Stop| s.id == self.car.stop;
+        let to = self.sheet.stops.iter().find(bound)?.position;
+        if to > self.car.position {
+            self.car.up_threshold
+        } else if to < self.car.position {
+            self.car.down_threshold
+        } else {
+            None
+        }
+    }
+}
+
+type Rank = (u32, u32, Option<f64>);
+type Shows = fn(&Pair) -> bool;
+
+/// What pairs are counted by.
+const FEATURES: [(&str, Shows); 15] = [
+    ("car and stop within 1e-9 of each other, not equal", |p| {
+        near(p.car.position, p.stop.position)
+    }),
+    (
+        "another pending stop within 1e-9 of the stop, not equal",
+        |p| p.pending.iter().any(|s| near(s.position, p.stop.position)),
+    ),
+    ("car and stop at equal positions", |p| {
+        p.car.position == p.stop.position
+    }),
+    ("another pending stop at the stop's position", |p| {
+        let same = |s: &&&Stop| s.position == p.stop.position;
+        p.pending.iter().filter(same).count() > 1
+    }),
+    ("car or stop at -0.0", |p| {
+        minus_zero(p.car.position) || minus_zero(p.stop.position)
+    }),
+    (
+        "a capacity, load, threshold or rider's weight of -0.0",
+        |p| {
+            let held = [p.car.capacity, p.car.load, p.threshold().unwrap_or(0.0)];
+            held.into_iter().any(minus_zero) || p.waiter(|w| minus_zero(w.weight))
+        },
+    ),
+    ("a rider aboard bound for an unknown stop", |p| {
+        let own = |a: &&Aboard| a.car == p.car.id;
+        let mut riders = p.sheet.aboard.iter().filter(own);
+        riders.any(|a| p.unknown(a.destination))
+    }),
+    ("a waiting rider bound for an unknown stop", |p| {
+        p.waiter(|w| p.unknown(w.destination))
+    }),
+    (
+        "the threshold of the car's direction at its load ratio",
+        |p| p.threshold() == Some(p.car.load / p.car.capacity),
+    ),
+    ("capacity 0", |p| p.car.capacity == 0.0),
+    ("a policy weight of 0", |p| p.weight(|w| w == 0.0)),
+    ("a policy weight of 1,000,000,000", |p| {
+        p.weight(|w| w == 1e9)
+    }),
+    ("a waiting rider of weight 0", |p| {
+        p.waiter(|w| w.weight == 0.0)
+    }),
+    ("a waiting rider of weight 1,000,000,000", |p| {
+        p.waiter(|w| w.weight == 1e9)
+    }),
+    ("a waiting rider with 2^53 wait ticks", |p| {
+        p.waiter(|w| w.wait == 1 << 53)
+    }),
+];
+
+/// How many pairs there are, how many of them have no rank, how many a zero, and of each feature how many show
+/// it and how many of these have a rank above zero.
+#[derive(Clone, Default)]
+struct Tally {
+    pairs: usize,
+    none: usize,
+    zero: usize,
+    shown: [(usize, usize); FEATURES.len()],
+}
+
+impl Tally {
+    fn add(&mut self, pair: &Pair) {
+        self.pairs += 1;
+        self.none += usize::from(pair.rank.is_none());
+        self.zero += usize::from(pair.rank == Some(0.0));
+        for ((all, above), (_, shows)) in self.shown.iter_mut().zip(FEATURES) {
+            *all += usize::from(shows(pair));
+            *above += usize::from(shows(pair) && pair.above_zero());
+        }
+    }
+}
+
+/// A sheet with its pass.
+struct Ranked {
+    bytes: Vec<u8>,
+    sheet: Sheet,
+    pass: RustPass,
+}
+
+impl Ranked {
+    fn new(rust: &mut Rust, bytes: Vec<u8>) -> Self {
+        let sheet = Sheet::of_accepted(&bytes);
         let pass = rust.pass(&sheet, true);
-        if pass.ranks.is_empty() {
-            continue;
-        }
-        held += 1;
-        put(&mut list, &case);
-        list.push(pass.idle.len() as u8);
-        list.push(pass.pending.len() as u8);
+        Self { bytes, sheet, pass }
+    }
+
+    fn count(&self, tally: &mut Tally) {
+        let known = |id: &u32| self.sheet.stops.iter().find(|s| s.id == *id).unwrap();
+        let pending: Vec<&Stop> = self.pass.pending.iter().map(known).collect();
+        Pair::of(&self.sheet, &pending, &self.pass.ranks).for_each(|pair| tally.add(&pair));
+    }
+
+    fn tally(&self) -> Tally {
+        let mut tally = Tally::default();
+        self.count(&mut tally);
+        tally
+    }
+
+    /// How many ranks there are that are no zero, each once.
+    fn different(&self) -> usize {
+        let above = |rank: &Rank| rank.2.filter(|cost| *cost != 0.0).map(f64::to_bits);
+        let bits = self.pass.ranks.iter().filter_map(above);
+        bits.collect::<std::collections::BTreeSet<_>>().len()
+    }
+
+    fn put(&self, list: &mut Vec<u8>) {
+        put(list, &self.bytes);
+        list.push(self.pass.idle.len() as u8);
+        list.push(self.pass.pending.len() as u8);
         let place = |k: Option<usize>| k.unwrap() as u8;
-        for id in &pass.idle {
-            list.push(place(sheet.cars.iter().position(|c| c.id == *id)));
+        for id in &self.pass.idle {
+            list.push(place(self.sheet.cars.iter().position(|c| c.id == *id)));
         }
-        for id in &pass.pending {
-            list.push(place(sheet.stops.iter().position(|s| s.id == *id)));
+        for id in &self.pass.pending {
+            list.push(place(self.sheet.stops.iter().position(|s| s.id == *id)));
         }
-        for (_, _, rank) in &pass.ranks {
+        for (_, _, rank) in &self.pass.ranks {
             list.push(u8::from(rank.is_some()));
             // The Rust leaves the sign of a zero rank open (`max` of zeros of unlike sign).
             let bits = rank.filter(|cost| *cost != 0.0).map_or(0, f64::to_bits);
             list.extend(bits.to_be_bytes());
         }
     }
-    (list, held)
+}
+
+/// Sheets of a strategy with at least 100 pairs each: of each profile the one with the most different ranks; for each
+/// feature that fewer than 40 ranks above zero show, the one in which most do; and of the profiles in turn the one
+/// with the most different ranks among those left, until there are 2,000 pairs.
+fn crowds(rust: &mut Rust, strategy: u8, seed: u64) -> Vec<Ranked> {
+    const PROFILES: [Profile; 5] = [
+        Profile::Valid,
+        Profile::Ties,
+        Profile::Near,
+        Profile::Extreme,
+        Profile::Fine,
+    ];
+    const LARGEST: usize = 2000;
+    let mut left: Vec<Vec<Ranked>> = PROFILES
+        .map(|profile| {
+            (0..1000)
+                .map(|index| crowded(profile, strategy, seed, index).write())
+                .filter(|bytes| bytes.len() <= LARGEST)
+                .map(|bytes| Ranked::new(rust, bytes))
+                .filter(|ranked| ranked.pass.ranks.len() >= 100)
+                .collect()
+        })
+        .into();
+    for found in &mut left {
+        found.sort_by_key(|ranked| std::cmp::Reverse(ranked.different()));
+    }
+    let (mut chosen, mut tally) = (Vec::new(), Tally::default());
+    let mut choose = |ranked: Ranked, tally: &mut Tally| {
+        ranked.count(tally);
+        chosen.push(ranked);
+    };
+    for found in &mut left {
+        choose(found.remove(0), &mut tally);
+    }
+    for feature in 0..FEATURES.len() {
+        if tally.shown[feature].1 >= 40 {
+            continue;
+        }
+        let places = (0..left.len()).flat_map(|k| (0..left[k].len()).map(move |i| (k, i)));
+        let shown = |(k, i): &(usize, usize)| {
+            let (all, above) = left[*k][*i].tally().shown[feature];
+            (above, all)
+        };
+        if let Some(best) = places.max_by_key(shown).filter(|at| shown(at).0 > 0) {
+            let ranked = left[best.0].remove(best.1);
+            choose(ranked, &mut tally);
+        }
+    }
+    for k in (0..left.len()).cycle() {
+        if tally.pairs >= 2000 {
+            break;
+        }
+        choose(left[k].remove(0), &mut tally);
+    }
+    chosen
+}
+
+/// Accepted sheets with the rank of each idle car for each pending stop, before scaling. Prints what is in them.
+pub fn ranks(seed: u64) -> (Vec<u8>, usize) {
+    let mut rust = Rust::new();
+    let small = telling(seed + 2, 300, 5).0;
+    let mut cases: Vec<Ranked> = small
+        .into_iter()
+        .map(|bytes| Ranked::new(&mut rust, bytes))
+        .filter(|ranked| !ranked.pass.ranks.is_empty())
+        .collect();
+    for strategy in [ETD, RSR, SCAN] {
+        cases.extend(crowds(&mut rust, strategy, seed));
+    }
+    let mut list = Vec::new();
+    let mut tallies: [Tally; 3] = Default::default();
+    for case in &cases {
+        case.put(&mut list);
+        case.count(&mut tallies[usize::from(case.sheet.policy.strategy)]);
+    }
+    print_tallies(&tallies);
+    (list, cases.len())
+}
+
+fn print_tallies(tallies: &[Tally; 3]) {
+    let line = |what: &str, numbers: [String; 3]| {
+        println!(
+            "{what:<56}{:>12}{:>12}{:>12}",
+            numbers[0], numbers[1], numbers[2]
+        );
+    };
+    let each = |number: fn(&Tally) -> usize| [0, 1, 2].map(|k| number(&tallies[k]).to_string());
+    line("", ["ETD", "RSR", "SCAN"].map(String::from));
+    line("pairs", each(|t| t.pairs));
+    line("no rank", each(|t| t.none));
+    line("rank zero", each(|t| t.zero));
+    line("rank above zero", each(|t| t.pairs - t.none - t.zero));
+    println!("pairs with, and those of them with a rank above zero:");
+    for (k, (what, _)) in FEATURES.iter().enumerate() {
+        let both = |t: &Tally| format!("{} {}", t.shown[k].0, t.shown[k].1);
+        line(what, [0, 1, 2].map(|i| both(&tallies[i])));
+    }
 }

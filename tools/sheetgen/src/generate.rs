@@ -97,6 +97,27 @@ pub fn sized(
     }
 }
 
+/// A sheet of one of the accepted profiles and of a strategy, with many cars and pending stops.
+pub fn crowded(profile: Profile, strategy: u8, seed: u64, index: u64) -> Sheet {
+    let source = 2000 + 10 * profile as u64 + u64::from(strategy);
+    let rng = &mut Rng::new(seed, source, index);
+    let size = Size {
+        stops: 12 + rng.below(13),
+        lines: 1 + rng.below(3),
+        cars: 8 + rng.below(9),
+        aboard: rng.below(16),
+        waiting: 4 + rng.below(14),
+        demands: 8 + rng.below(12),
+    };
+    let mut maker = Maker { rng, profile };
+    let mut sheet = maker.sheet(&size);
+    sheet.policy = maker.policy_of(strategy);
+    if profile == Profile::Fine && strategy != SCAN {
+        cancel(rng, &mut sheet);
+    }
+    sheet
+}
+
 /// A sheet of one of the accepted profiles.
 pub fn accepted(profile: Profile, rng: &mut Rng) -> Sheet {
     let size = if profile == Profile::Full {
@@ -417,6 +438,10 @@ impl Maker<'_> {
             Profile::Fine => self.rng.pick(&[ETD, RSR]),
             _ => self.rng.pick(&[ETD, RSR, SCAN]),
         };
+        self.policy_of(strategy)
+    }
+
+    fn policy_of(&mut self, strategy: u8) -> Policy {
         let limit = match self.rng.below(10) {
             _ if self.profile == Profile::Limits => 1 + self.rng.below(12) as u16,
             0..=4 => NO_LIMIT,
@@ -924,6 +949,19 @@ mod tests {
                 let bytes = generate(profile, 3, index);
                 assert_eq!(read(&bytes), None, "{name} {index}");
                 assert_eq!(Sheet::of_accepted(&bytes).write(), bytes, "{name} {index}");
+            }
+        }
+    }
+
+    #[test]
+    fn crowded_sheets_are_accepted_and_of_their_strategy() {
+        for (name, profile) in &PROFILES[..8] {
+            for strategy in [ETD, RSR, SCAN] {
+                for index in 0..1000 {
+                    let sheet = crowded(*profile, strategy, 3, index);
+                    assert_eq!(read(&sheet.write()), None, "{name} {strategy} {index}");
+                    assert_eq!(sheet.policy.strategy, strategy);
+                }
             }
         }
     }

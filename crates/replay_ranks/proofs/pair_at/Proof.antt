@@ -50,5 +50,5 @@ returns c = cc
 pub pair-at-spec : {M : Type 1} → statement M
 pair-at-spec =
     tie.close
-    (tie.spec (λ c. search needs) (λ c. search needs) (λ c. search needs) (λ c. search needs) (λ c. search needs) div-number add-number number-requires
-    (λ c. search needs) rem-number add-number-3 number-requires-2 (λ c κs. search needs) (λ c. search needs) (λ c κs. search needs) returns)
+    (tie.spec (λ c. search needs) (λ c κs. search needs) div-number add-number number-requires (λ c. search needs) rem-number add-number-3 number-requires-2
+    (λ c κs. search needs) (λ c. search needs) (λ c κs. search needs) returns)
