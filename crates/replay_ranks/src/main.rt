@@ -140,10 +140,11 @@ fn rank_by<'a>(
     let mut dests = [0.0f64; 512];
     cells::fill_aboard(s, c, &mut acar, &mut adest);
     let waiters = cells::waiting(s, c, ids, xs, calls);
+    let car = sheet::car_at(s, c, i);
     let row = rows::row_for(
         s,
         c,
-        i,
+        car,
         65535,
         ids,
         xs,
