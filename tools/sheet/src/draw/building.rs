@@ -1,12 +1,12 @@
 //! The shafts by line, with stops, cars, riders and decisions.
 
+use dispatch_bench::Decision;
 use sheetgen::sheet::mask_bit;
 use sheetgen::{Car, Line, Sheet};
 
 use super::heights::{self, Heights};
 use super::svg::{Anchor, Svg, short};
-use super::{car_name, cost};
-use crate::bench::Pass;
+use super::{Chosen, car_name, cost};
 use crate::fields::PHASES;
 
 const LABELS: f64 = 306.0;
@@ -25,7 +25,7 @@ const COLOURS: [&str; 7] = [
 
 struct Building<'a> {
     sheet: &'a Sheet,
-    pass: Option<&'a Pass>,
+    chosen: &'a Chosen,
     heights: Heights,
     left: f64,
     /// Where height 0 stands.
@@ -33,13 +33,13 @@ struct Building<'a> {
 }
 
 /// Draws at a corner; answers the right and lower edge.
-pub fn draw(svg: &mut Svg, sheet: &Sheet, pass: Option<&Pass>, at: (f64, f64)) -> (f64, f64) {
+pub fn draw(svg: &mut Svg, sheet: &Sheet, chosen: &Chosen, at: (f64, f64)) -> (f64, f64) {
     let stops: Vec<f64> = sheet.stops.iter().map(|s| s.position).collect();
     let cars: Vec<f64> = sheet.cars.iter().map(|c| c.position).collect();
     let height = (17.0 * stops.len() as f64).max(260.0);
     let building = Building {
         sheet,
-        pass,
+        chosen,
         heights: Heights::new(&stops, &cars, height),
         left: at.0,
         top: at.1 + HEADER + 30.0,
@@ -187,11 +187,10 @@ impl Building<'_> {
             ("small", bound),
             ("small", load),
         ];
-        lines.push(("small", self.sweep(k, car)));
+        lines.push(("small", self.sweep(k)));
         let decision = match self.decided(k) {
-            Some(0) => ("small", "stays idle".into()),
-            Some(stop) => ("cost", format!("to {stop}")),
-            None if car.idle => ("small", "idle-listed".into()),
+            Some(None) => ("small", "stays idle".into()),
+            Some(Some(stop)) => ("cost", format!("to {stop}")),
             None => ("small", String::new()),
         };
         lines.push(decision);
@@ -202,15 +201,14 @@ impl Building<'_> {
         }
     }
 
-    /// A car's sweep and mode after the pass, or before it where there is none.
-    fn sweep(&self, k: usize, car: &Car) -> String {
-        let before = 2 * u8::from(car.sweep_down) + u8::from(car.lenient);
-        let code = self.pass.and_then(|pass| pass.sweeps.get(k)).copied();
-        match code.unwrap_or(before) {
-            0 => "up strict",
-            1 => "up lenient",
-            2 => "down strict",
-            _ => "down lenient",
+    /// A car's sweep and mode after the pass.
+    fn sweep(&self, k: usize) -> String {
+        match self.chosen.pass.sweeps.get(k).map(|sweep| sweep.code()) {
+            None => "",
+            Some(0) => "up strict",
+            Some(1) => "up lenient",
+            Some(2) => "down strict",
+            Some(_) => "down lenient",
         }
         .into()
     }
@@ -221,9 +219,9 @@ impl Building<'_> {
         self.sheet.cars[k].idle.then_some(idle)
     }
 
-    /// The stop that car record `k` is sent to, 0 for idle; `None` where nothing is decided for it.
-    fn decided(&self, k: usize) -> Option<u32> {
-        self.pass?.decisions.get(self.row(k)?).copied()
+    /// What is decided for car record `k`, where it is idle-listed.
+    fn decided(&self, k: usize) -> Option<Decision> {
+        self.chosen.pass.decisions.get(self.row(k)?).copied()
     }
 
     fn car(&self, svg: &mut Svg, car: &Car, middle: f64) {
@@ -255,10 +253,10 @@ impl Building<'_> {
 
     /// An arrow to the stop that the car is sent to, with the cell as a cost.
     fn decision(&self, svg: &mut Svg, k: usize, car: &Car, middle: f64) {
-        let stop = match self.decided(k) {
-            None | Some(0) => return,
-            Some(id) => self.sheet.stops.iter().find(|stop| stop.id == id),
+        let Some(Some(id)) = self.decided(k) else {
+            return;
         };
+        let stop = self.sheet.stops.iter().find(|stop| stop.id == id.get());
         let Some(stop) = stop else { return };
         let (from, to, x) = (self.y(car.position), self.y(stop.position), middle + 22.0);
         let up = to < from;
@@ -269,7 +267,7 @@ impl Building<'_> {
             svg.line("arrow", (x, from), (x, to + back));
             svg.triangle("head", x, to + back, 7.0, up);
         }
-        let cell = self.row(k).and_then(|row| self.pass?.chosen_cell(row));
+        let cell = self.row(k).and_then(|row| self.chosen.of_row(row));
         if let Some(cell) = cell {
             svg.text("cost", x + 8.0, to + 3.5, Anchor::Start, &cost(cell));
         }

@@ -1,11 +1,11 @@
 //! The cost matrix as a heat map, the chosen cells framed.
 
+use dispatch_bench::SENTINEL;
 use sheetgen::Sheet;
 use sheetgen::sheet::mask_bit;
 
 use super::svg::{Anchor, Svg};
-use super::{SENTINEL, car_name, cost};
-use crate::bench::Pass;
+use super::{Chosen, car_name, cost};
 
 const LABELS: f64 = 90.0;
 const HEADER: f64 = 70.0;
@@ -17,7 +17,8 @@ const COLOURS: [&str; 7] = [
 const NO_RANK: &str = "#e6e6e6";
 
 /// Draws at a corner; answers the right and lower edge.
-pub fn draw(svg: &mut Svg, sheet: &Sheet, pass: &Pass, at: (f64, f64)) -> (f64, f64) {
+pub fn draw(svg: &mut Svg, sheet: &Sheet, chosen: &Chosen, at: (f64, f64)) -> (f64, f64) {
+    let pass = &chosen.pass;
     let columns = pass.columns();
     let title = "Costs of idle cars and pending stops";
     svg.text("name", at.0, at.1, Anchor::Start, title);
@@ -31,14 +32,14 @@ pub fn draw(svg: &mut Svg, sheet: &Sheet, pass: &Pass, at: (f64, f64)) -> (f64, 
         _ => (20.0, 20.0),
     };
     let corner = (at.0 + LABELS, at.1 + HEADER);
-    names(svg, sheet, pass, corner, size);
+    names(svg, sheet, chosen, corner, size);
     let shades = Shades::new(&pass.matrix);
     for row in 0..pass.cars {
         for column in 0..columns {
-            cell(svg, pass, &shades, (row, column), corner, size);
+            cell(svg, chosen, &shades, (row, column), corner, size);
         }
     }
-    frames(svg, pass, corner, size);
+    frames(svg, chosen, corner, size);
     let bottom = corner.1 + size.1 * pass.cars as f64;
     shades.legend(svg, (at.0, bottom + 22.0));
     let right = corner.0 + size.0 * columns as f64 + 40.0;
@@ -46,13 +47,13 @@ pub fn draw(svg: &mut Svg, sheet: &Sheet, pass: &Pass, at: (f64, f64)) -> (f64, 
 }
 
 /// The stops above the columns and the cars beside the rows.
-fn names(svg: &mut Svg, sheet: &Sheet, pass: &Pass, corner: (f64, f64), size: (f64, f64)) {
-    for (k, name) in column_names(sheet, pass).iter().enumerate() {
+fn names(svg: &mut Svg, sheet: &Sheet, chosen: &Chosen, corner: (f64, f64), size: (f64, f64)) {
+    for (k, name) in column_names(sheet, chosen).iter().enumerate() {
         let x = corner.0 + size.0 * (k as f64 + 0.5);
         svg.slanted("small", x, corner.1 - 5.0, name);
     }
     let idle = sheet.cars.iter().filter(|car| car.idle);
-    for (row, car) in idle.enumerate().take(pass.cars) {
+    for (row, car) in idle.enumerate().take(chosen.pass.cars) {
         let y = corner.1 + size.1 * (row as f64 + 0.5) + 3.5;
         svg.text("name", corner.0 - 6.0, y, Anchor::End, &car_name(car.id));
     }
@@ -60,13 +61,13 @@ fn names(svg: &mut Svg, sheet: &Sheet, pass: &Pass, corner: (f64, f64), size: (f
 
 fn cell(
     svg: &mut Svg,
-    pass: &Pass,
+    chosen: &Chosen,
     shades: &Shades,
     (row, column): (usize, usize),
     corner: (f64, f64),
     size: (f64, f64),
 ) {
-    let Some(value) = pass.cell(row, column) else {
+    let Some(value) = chosen.cell(row, column) else {
         return;
     };
     let x = corner.0 + size.0 * column as f64;
@@ -90,11 +91,11 @@ fn cell(
 }
 
 /// The chosen cells; broken where the car stays idle.
-fn frames(svg: &mut Svg, pass: &Pass, corner: (f64, f64), size: (f64, f64)) {
-    for (row, column) in pass.chosen.iter().enumerate() {
+fn frames(svg: &mut Svg, chosen: &Chosen, corner: (f64, f64), size: (f64, f64)) {
+    for (row, column) in chosen.columns.iter().enumerate() {
         let x = corner.0 + size.0 * *column as f64;
         let y = corner.1 + size.1 * row as f64;
-        let sent = pass.decisions.get(row).is_some_and(|stop| *stop != 0);
+        let sent = chosen.pass.decisions.get(row).is_some_and(Option::is_some);
         let class = if sent { "chosen" } else { "unsent" };
         svg.rect(class, x + 1.0, y + 1.0, size.0 - 2.0, size.1 - 2.0);
     }
@@ -102,11 +103,12 @@ fn frames(svg: &mut Svg, pass: &Pass, corner: (f64, f64), size: (f64, f64)) {
 
 /// What each column stands for. The pass tells the stop of a column only where a car is sent there; the
 /// columns between are named where the demand stops between leave no other reading.
-fn column_names(sheet: &Sheet, pass: &Pass) -> Vec<String> {
+fn column_names(sheet: &Sheet, chosen: &Chosen) -> Vec<String> {
+    let pass = &chosen.pass;
     let mut known: Vec<Option<u32>> = vec![None; pass.columns()];
-    for (column, stop) in pass.chosen.iter().zip(&pass.decisions) {
-        if let Some(name) = known.get_mut(*column as usize).filter(|_| *stop != 0) {
-            *name = Some(*stop);
+    for (column, stop) in chosen.columns.iter().zip(&pass.decisions) {
+        if let (Some(name), Some(stop)) = (known.get_mut(*column as usize), stop) {
+            *name = Some(stop.get());
         }
     }
     let pending = pass.stops.min(known.len());

@@ -6,34 +6,58 @@ mod matrix;
 mod refused;
 mod svg;
 
+use dispatch_bench::{Pass, SENTINEL};
 use sheetgen::Sheet;
 
-use crate::bench::Pass;
 use crate::fields::STRATEGIES;
+use crate::show::number_of;
 use svg::{Anchor, Svg};
 
-pub use refused::draw as draw_refusal;
-
-/// The cell of a pair without a rank.
-pub const SENTINEL: u64 = 281_474_976_710_656;
 /// The cost of a unit.
 const UNIT: f64 = 1_000_000.0;
 const EDGE: f64 = 24.0;
 
-/// A sheet that the bench accepted, and its pass where there is one.
-pub fn draw(sheet: &Sheet, pass: Option<&Pass>) -> String {
-    let mut svg = Svg::default();
-    svg.text("title", EDGE, 30.0, Anchor::Start, &title(sheet, pass));
-    let (mut width, mut height) = building::draw(&mut svg, sheet, pass, (EDGE, 56.0));
-    if let Some(pass) = pass {
-        let (right, bottom) = matrix::draw(&mut svg, sheet, pass, (EDGE, height + 40.0));
-        width = width.max(right);
-        height = bottom;
+/// A sheet and its pass, or where the sheet is refused.
+pub fn draw(bytes: &[u8]) -> String {
+    match dispatch_bench::pass(bytes) {
+        Ok(pass) => draw_pass(&Sheet::of_accepted(bytes), &Chosen::new(pass)),
+        Err(refusal) => refused::draw(bytes, refusal),
     }
-    svg.finish(width.max(560.0) + EDGE, height + EDGE)
 }
 
-fn title(sheet: &Sheet, pass: Option<&Pass>) -> String {
+/// A pass and the columns that it chose: its matrix has one choice that the rules allow.
+struct Chosen {
+    pass: Pass,
+    columns: Vec<u32>,
+}
+
+impl Chosen {
+    fn new(pass: Pass) -> Self {
+        let choice = dispatch_bench::choose(pass.cars, pass.columns(), &pass.matrix);
+        let columns = choice.map_or(Vec::new(), |choice| choice.columns);
+        Self { pass, columns }
+    }
+
+    fn cell(&self, row: usize, column: usize) -> Option<u64> {
+        self.pass.rows().nth(row)?.get(column).copied()
+    }
+
+    /// The chosen cell of an idle car.
+    fn of_row(&self, row: usize) -> Option<u64> {
+        self.cell(row, *self.columns.get(row)? as usize)
+    }
+}
+
+fn draw_pass(sheet: &Sheet, chosen: &Chosen) -> String {
+    let mut svg = Svg::default();
+    let title = title(sheet, &chosen.pass);
+    svg.text("title", EDGE, 30.0, Anchor::Start, &title);
+    let (width, height) = building::draw(&mut svg, sheet, chosen, (EDGE, 56.0));
+    let (right, bottom) = matrix::draw(&mut svg, sheet, chosen, (EDGE, height + 40.0));
+    svg.finish(width.max(right).max(560.0) + EDGE, bottom + EDGE)
+}
+
+fn title(sheet: &Sheet, pass: &Pass) -> String {
     let strategy = STRATEGIES
         .get(usize::from(sheet.policy.strategy))
         .unwrap_or(&"?");
@@ -41,14 +65,12 @@ fn title(sheet: &Sheet, pass: Option<&Pass>) -> String {
         sheetgen::sheet::NO_LIMIT => "none".into(),
         limit => limit.to_string(),
     };
-    let sizes = match pass {
-        Some(pass) => format!(
-            "{} idle cars, {} pending stops, total {}",
-            pass.cars, pass.stops, pass.total
-        ),
-        None => "the sheet without its pass".into(),
-    };
-    format!("{strategy}, limit {limit}: {sizes}")
+    let cars = number_of(pass.cars, "idle car");
+    let stops = number_of(pass.stops, "pending stop");
+    format!(
+        "{strategy}, limit {limit}: {cars}, {stops}, total {}",
+        pass.total
+    )
 }
 
 /// A cell as a cost.

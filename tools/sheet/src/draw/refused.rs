@@ -1,11 +1,11 @@
 //! A refused sheet: its records as a strip, the refused one marked, its fields one by one.
 
+use dispatch_bench::Refusal;
 use sheetgen::sheet::HEAD_BITS;
 
 use crate::cut::{Cut, Record};
 use crate::explain::{self, Reason};
 use crate::fields::KINDS;
-use crate::rules;
 use crate::value;
 
 use super::EDGE;
@@ -17,29 +17,18 @@ const COLOURS: [&str; 8] = [
     "#999999", "#6a3d9a", "#1f78b4", "#33a02c", "#ff7f00", "#b2df8a", "#a6cee3", "#fdbf6f",
 ];
 
-pub fn draw(bytes: &[u8], number: u32, offset: u64) -> String {
+pub fn draw(bytes: &[u8], refusal: Refusal) -> String {
     let cut = Cut::new(bytes);
-    let reason = explain::reason(&cut, number, offset);
+    let Refusal { number, offset } = refusal;
+    let reason = explain::reason(&cut, refusal);
     let mut svg = Svg::default();
     let title = format!("Refused {number} at {offset}");
     svg.text("title", EDGE, 30.0, Anchor::Start, &title);
     svg.text("fault", EDGE, 50.0, Anchor::Start, &reason.sentence);
-    if let Some(rule) = rules::rule(number) {
-        svg.text(
-            "",
-            EDGE,
-            66.0,
-            Anchor::Start,
-            &format!("Rule {number}: {}", rule.says),
-        );
-        svg.text(
-            "",
-            EDGE,
-            82.0,
-            Anchor::Start,
-            &format!("To do: {}", rule.remedy),
-        );
-    }
+    let rule = format!("Rule {number}: {}", refusal.rule());
+    svg.text("", EDGE, 66.0, Anchor::Start, &rule);
+    let to_do = format!("To do: {}", refusal.remedy());
+    svg.text("", EDGE, 82.0, Anchor::Start, &to_do);
     strip(&mut svg, &cut, 118.0);
     mark(&mut svg, &cut, &reason, offset, 118.0);
     legend(&mut svg, 190.0);
