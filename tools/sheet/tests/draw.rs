@@ -71,7 +71,7 @@ fn drawn(bytes: &[u8], pass: &Pass, file: &str) {
     assert_eq!(count(&svg, "<rect class=\"chosen\""), sent, "{file}");
     assert_eq!(count(&svg, "<rect class=\"unsent\""), pass.cars - sent);
     assert_eq!(count(&svg, ">stays idle<"), pass.cars - sent);
-    let tiles = count(&svg, "<title>row ");
+    let tiles = count(&svg, ")</title></rect>");
     assert_eq!(tiles, pass.cars * pass.columns(), "{file}");
 }
 

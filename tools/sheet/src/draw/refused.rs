@@ -65,16 +65,14 @@ fn mark(svg: &mut Svg, cut: &Cut, reason: &Reason, offset: u64, y: f64) {
         None if at == 0 => x(cut, HEAD_BITS),
         None => x(cut, cut.bits()),
     };
-    let width = (to - from).max(4.0);
-    svg.rect("chosen", from, y - 2.0, width, 30.0);
-    let middle = from + width / 2.0;
-    svg.triangle("head", middle, y + 40.0, 6.0, true);
-    let anchor = match middle {
-        m if m < EDGE + 60.0 => Anchor::Start,
-        m if m > EDGE + WIDTH - 60.0 => Anchor::End,
-        _ => Anchor::Middle,
+    svg.rect("refused", from, y - 3.0, (to - from).max(4.0), 32.0);
+    svg.triangle("here", from, y + 40.0, 6.0, true);
+    let (x, anchor) = match from {
+        m if m < EDGE + 60.0 => (m - 6.0, Anchor::Start),
+        m if m > EDGE + WIDTH - 60.0 => (m + 6.0, Anchor::End),
+        m => (m, Anchor::Middle),
     };
-    svg.text("fault", middle, y + 53.0, anchor, &format!("bit {offset}"));
+    svg.text("fault", x, y + 53.0, anchor, &format!("bit {offset}"));
 }
 
 fn legend(svg: &mut Svg, y: f64) {
@@ -84,6 +82,9 @@ fn legend(svg: &mut Svg, y: f64) {
         let name = if kind == 0 { "other kind" } else { KINDS[kind] };
         svg.text("small", x + 16.0, y, Anchor::Start, name);
     }
+    let x = EDGE + 100.0 * COLOURS.len() as f64;
+    svg.rect("field", x, y - 9.0, 12.0, 11.0);
+    svg.text("small", x + 16.0, y, Anchor::Start, "head, or no record");
 }
 
 /// Each field of the refused record with its value; answers the lower edge.
