@@ -130,21 +130,18 @@ fn the_manual_has_an_example_of_every_number() {
     let file = |path: &str| text(&std::fs::read(here(path)).unwrap());
     let manual = file("../../docs/MANUAL.md");
     assert!(manual.contains(&indented(&file("examples/lobby.txt"))));
+    let is_shown = |example: &str| {
+        let said = file(&format!("examples/{example}.explain"));
+        let mut lines = said.lines();
+        let (first, reason) = (lines.next().unwrap(), lines.next().unwrap());
+        let sheet = indented(&file(&format!("examples/{example}.txt")));
+        manual.contains(&format!("{sheet}\n`{first}`: {reason}\n"))
+    };
+    let names: Vec<String> = files("examples", "txt").iter().map(|p| name(p)).collect();
     for number in 2..=16 {
         let start = format!("refusal_{number:02}_");
-        let paths = files("examples", "txt").into_iter();
-        let shown = paths.filter(|path| {
-            name(path).starts_with(&start) && {
-                let example = file(&format!("examples/{}.txt", name(path)));
-                let said = file(&format!("examples/{}.explain", name(path)));
-                let lines: Vec<&str> = said.lines().take(2).collect();
-                manual.contains(&format!(
-                    "{}\n{}",
-                    indented(&example),
-                    indented(&lines.join("\n"))
-                ))
-            }
-        });
+        let examples = names.iter().filter(|n| n.starts_with(&start));
+        let shown = examples.filter(|n| is_shown(n));
         assert_eq!(shown.count(), 1, "refusal {number}");
     }
 }
