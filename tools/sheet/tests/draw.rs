@@ -111,9 +111,17 @@ fn full_tables() {
 
 #[test]
 fn document_01_as_stored() {
-    let drawn = run(&["draw", "-"], &Sheet::example().write());
+    let bytes = Sheet::example().write();
+    let drawn = run(&["draw", "-"], &bytes);
     let stored = std::fs::read(here("examples/document_01.svg")).unwrap();
     assert_eq!(text(&drawn.stdout), text(&stored));
+    let out = std::path::Path::new(env!("CARGO_TARGET_TMPDIR")).join("document_01.svg");
+    let drawn = run(&["draw", "-", out.to_str().unwrap()], &bytes);
+    assert_eq!(
+        (drawn.status.code(), text(&drawn.stdout)),
+        (Some(0), String::new())
+    );
+    assert_eq!(text(&std::fs::read(&out).unwrap()), text(&stored));
 }
 
 #[test]
