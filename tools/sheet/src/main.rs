@@ -14,7 +14,7 @@ usage: sheet COMMAND
   draw SHEET [OUT]     draw a sheet and its pass, or where it is refused, as SVG
   rule [NUMBER]        print a refusal's rule, or all of them
   help                 print this
-- stands for standard input. The text is described in docs/MANUAL.md, \"Sheets as text\".
+- stands for standard input, as OUT for standard output. The text is described in docs/MANUAL.md, \"Sheets as text\".
 Exit 0: done, a refused sheet explained included. 1: not done, the reason is on standard error. 2: no such command.
 ";
 
@@ -40,11 +40,13 @@ fn main() -> ExitCode {
     let path = |k: usize| PathBuf::from(&args[k]);
     let done = match words.as_slice() {
         ["help" | "--help" | "-h"] => print(USAGE.as_bytes()),
-        ["write", _] => write(&path(1), None),
+        ["write", _] | ["write", _, "-"] => write(&path(1), None),
         ["write", _, _] => write(&path(1), Some(&path(2))),
         ["show", _] => input(&path(1)).and_then(|bytes| print(show::show(&bytes).as_bytes())),
         ["explain", _] => input(&path(1)).and_then(|bytes| print(explain(&bytes)?.as_bytes())),
-        ["draw", _] => input(&path(1)).and_then(|bytes| print(draw(&bytes)?.as_bytes())),
+        ["draw", _] | ["draw", _, "-"] => {
+            input(&path(1)).and_then(|bytes| print(draw(&bytes)?.as_bytes()))
+        }
         ["draw", _, _] => {
             input(&path(1)).and_then(|bytes| replace(&path(2), draw(&bytes)?.as_bytes()))
         }

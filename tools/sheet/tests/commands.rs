@@ -99,6 +99,7 @@ fn written_file_is_the_sheet() {
     assert_eq!(bytes, sheetgen::Sheet::example().write());
     let shown = run(&["show", out.to_str().unwrap()], b"");
     assert_eq!(run(&["write", "-"], &shown.stdout).stdout, bytes);
+    assert_eq!(run(&["write", "-", "-"], &shown.stdout).stdout, bytes);
     assert_eq!(std::fs::read_dir(&folder).unwrap().count(), 1);
     std::fs::remove_dir_all(&folder).unwrap();
 }

@@ -112,9 +112,10 @@ fn full_tables() {
 #[test]
 fn document_01_as_stored() {
     let bytes = Sheet::example().write();
-    let drawn = run(&["draw", "-"], &bytes);
     let stored = std::fs::read(here("examples/document_01.svg")).unwrap();
-    assert_eq!(text(&drawn.stdout), text(&stored));
+    for args in [&["draw", "-"][..], &["draw", "-", "-"]] {
+        assert_eq!(text(&run(args, &bytes).stdout), text(&stored));
+    }
     let out = std::path::Path::new(env!("CARGO_TARGET_TMPDIR")).join("document_01.svg");
     let drawn = run(&["draw", "-", out.to_str().unwrap()], &bytes);
     assert_eq!(
