@@ -51,9 +51,9 @@ fn strip(svg: &mut Svg, cut: &Cut, y: f64) {
         let class = if to - from > 3.0 { "cell" } else { "" };
         svg.tile((from, y), (to - from, 26.0), colour, class, &tip);
     }
-    svg.text("small", EDGE, y - 5.0, Anchor::Start, "bit 0");
+    svg.text("small", EDGE, y - 9.0, Anchor::Start, "bit 0");
     let end = format!("bit {}", cut.bits());
-    svg.text("small", EDGE + WIDTH, y - 5.0, Anchor::End, &end);
+    svg.text("small", EDGE + WIDTH, y - 9.0, Anchor::End, &end);
 }
 
 /// The place of the refusal on the strip.
