@@ -1,11 +1,11 @@
 //! A verdict in words. The verdict is the proved library's; what stands here only looks for the field
 //! that the refusal's number is about, and says so where it finds none.
 
-use crate::bench::Verdict;
+use dispatch_bench::Refusal;
+
 use crate::cut::{Cut, Record};
 use crate::faults;
 use crate::fields::KINDS;
-use crate::rules;
 use crate::show;
 
 /// A refusal in words.
@@ -19,27 +19,26 @@ pub struct Reason {
 }
 
 /// The lines of `sheet explain`.
-pub fn explain(bytes: &[u8], verdict: Verdict) -> String {
+pub fn explain(bytes: &[u8]) -> String {
     let cut = Cut::new(bytes);
-    match verdict {
-        Verdict::Accepted => format!("accepted\n{}\n", show::counts(&cut)),
-        Verdict::Refused { number, offset } => {
-            let reason = reason(&cut, number, offset);
-            let mut lines = format!("refused {number} at {offset}\n{}\n", reason.sentence);
-            if let Some(rule) = rules::rule(number) {
-                lines += &format!("rule {number}: {}\nto do: {}\n", rule.says, rule.remedy);
-            }
-            if let Some(record) = reason.record {
-                lines += &format!("text: {}\n", show::record_line(&cut, &record, &cut.stops()));
-            }
-            lines
-        }
+    let Err(refusal) = dispatch_bench::read(bytes) else {
+        return format!("accepted\n{}\n", show::counts(&cut));
+    };
+    let Refusal { number, offset } = refusal;
+    let reason = reason(&cut, refusal);
+    let mut lines = format!("refused {number} at {offset}\n{}\n", reason.sentence);
+    lines += &format!("rule {number}: {}\n", refusal.rule());
+    lines += &format!("to do: {}\n", refusal.remedy());
+    if let Some(record) = reason.record {
+        lines += &format!("text: {}\n", show::record_line(&cut, &record, &cut.stops()));
     }
+    lines
 }
 
-/// Why a sheet was refused by this number at this bit.
-pub fn reason(cut: &Cut, number: u32, offset: u64) -> Reason {
-    let at = usize::try_from(offset).unwrap_or(usize::MAX);
+/// Why a sheet was refused.
+pub fn reason(cut: &Cut, refusal: Refusal) -> Reason {
+    let number = refusal.number;
+    let at = usize::try_from(refusal.offset).unwrap_or(usize::MAX);
     let whole = |sentence: String, field: Option<&'static str>| Reason {
         sentence,
         record: None,

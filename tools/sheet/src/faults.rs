@@ -222,6 +222,7 @@ fn load_weight(cut: &Cut, record: &Record) -> Option<String> {
 #[cfg(test)]
 mod tests {
     use super::*;
+    use dispatch_bench::Refusal;
     use sheetgen::generate::{Profile, generate};
 
     /// The numbers whose field is searched for.
@@ -250,14 +251,12 @@ mod tests {
     }
 
     /// The library gives the lowest number, so a refused record has no fault of a lower one.
-    #[cfg(feature = "pass")]
     #[test]
     fn refused_records_have_no_lower_fault() {
-        use crate::bench::{Verdict, read};
         let mut searched = 0;
         for index in 0..4_000 {
             let bytes = generate(Profile::Provoked, 5, index);
-            let Ok(Verdict::Refused { number, offset }) = read(&bytes) else {
+            let Err(Refusal { number, offset }) = dispatch_bench::read(&bytes) else {
                 continue;
             };
             let cut = Cut::new(&bytes);

@@ -1,14 +1,17 @@
 //! Sheets of the dispatch bench as text: `text` writes them, `show` shows them, `explain` says why the
 //! proved library refuses one, `draw` draws a sheet and its pass. `fields` is the one table of the
-//! format that they read.
+//! format that they read. Verdicts and passes come from the crate dispatch-bench, with the feature
+//! `pass`.
 
-pub mod bench;
 pub mod cut;
+#[cfg(feature = "pass")]
 pub mod draw;
+#[cfg(feature = "pass")]
 pub mod explain;
+#[cfg(feature = "pass")]
 mod faults;
 pub mod fields;
-// One table of refusals for this program and the crate dispatch-bench.
+// The table of refusals is that of the crate dispatch-bench; `rule` needs it without the library too.
 #[path = "../../../rust/src/rules.rs"]
 pub mod rules;
 pub mod show;

@@ -1,11 +1,10 @@
-//! `sheet`: sheets of the dispatch bench written from text, shown as text, and explained.
+//! `sheet`: sheets of the dispatch bench written from text, shown as text, explained and drawn.
 
 use std::io::{ErrorKind, IsTerminal, Read, Write};
 use std::path::{Path, PathBuf};
 use std::process::ExitCode;
 
-use sheet::bench::{self, Verdict};
-use sheet::{draw, explain, rules, show, text};
+use sheet::{rules, show, text};
 
 const USAGE: &str = "\
 usage: sheet COMMAND
@@ -15,7 +14,7 @@ usage: sheet COMMAND
   draw SHEET [OUT]     draw a sheet and its pass, or where it is refused, as SVG
   rule [NUMBER]        print a refusal's rule, or all of them
   help                 print this
-- stands for standard input. The text is described in docs/MANUAL.md, \"Sheets as text\".
+- stands for standard input, as OUT for standard output. The text is described in docs/MANUAL.md, \"Sheets as text\".
 Exit 0: done, a refused sheet explained included. 1: not done, the reason is on standard error. 2: no such command.
 ";
 
@@ -41,12 +40,16 @@ fn main() -> ExitCode {
     let path = |k: usize| PathBuf::from(&args[k]);
     let done = match words.as_slice() {
         ["help" | "--help" | "-h"] => print(USAGE.as_bytes()),
-        ["write", _] => write(&path(1), None),
+        ["write", _] | ["write", _, "-"] => write(&path(1), None),
         ["write", _, _] => write(&path(1), Some(&path(2))),
         ["show", _] => input(&path(1)).and_then(|bytes| print(show::show(&bytes).as_bytes())),
-        ["explain", _] => explain(&path(1)),
-        ["draw", _] => drawing(&path(1)).and_then(|svg| print(svg.as_bytes())),
-        ["draw", _, _] => drawing(&path(1)).and_then(|svg| replace(&path(2), svg.as_bytes())),
+        ["explain", _] => input(&path(1)).and_then(|bytes| print(explain(&bytes)?.as_bytes())),
+        ["draw", _] | ["draw", _, "-"] => {
+            input(&path(1)).and_then(|bytes| print(draw(&bytes)?.as_bytes()))
+        }
+        ["draw", _, _] => {
+            input(&path(1)).and_then(|bytes| replace(&path(2), draw(&bytes)?.as_bytes()))
+        }
         ["rule"] => rules_from(1, rules::RULES.len() as u32),
         ["rule", number] => rule(number),
         _ => Err(Stop::Usage),
@@ -124,22 +127,25 @@ fn replace(path: &Path, bytes: &[u8]) -> Result<(), Stop> {
     })
 }
 
-fn explain(path: &Path) -> Result<(), Stop> {
-    let bytes = input(path)?;
-    let verdict = bench::read(&bytes).map_err(failed)?;
-    print(explain::explain(&bytes, verdict).as_bytes())
+#[cfg(feature = "pass")]
+fn explain(bytes: &[u8]) -> Result<String, Stop> {
+    Ok(sheet::explain::explain(bytes))
 }
 
-fn drawing(path: &Path) -> Result<String, Stop> {
-    let bytes = input(path)?;
-    match bench::read(&bytes).map_err(failed)? {
-        Verdict::Refused { number, offset } => Ok(draw::draw_refusal(&bytes, number, offset)),
-        Verdict::Accepted => {
-            let sheet = sheetgen::Sheet::of_accepted(&bytes);
-            let pass = bench::pass(&bytes, sheet.cars.len()).map_err(failed)?;
-            Ok(draw::draw(&sheet, pass.as_ref()))
-        }
-    }
+#[cfg(feature = "pass")]
+fn draw(bytes: &[u8]) -> Result<String, Stop> {
+    Ok(sheet::draw::draw(bytes))
+}
+
+#[cfg(not(feature = "pass"))]
+use {unlinked as draw, unlinked as explain};
+
+/// What gives verdicts and passes is not there.
+#[cfg(not(feature = "pass"))]
+fn unlinked(_: &[u8]) -> Result<String, Stop> {
+    Err(failed(
+        "this program was built without the proved library (feature `pass`), which alone gives verdicts",
+    ))
 }
 
 fn rule(number: &str) -> Result<(), Stop> {

@@ -29,7 +29,7 @@ impl<'t> Line<'t> {
         let mut pairs: Vec<(&str, &str)> = Vec::new();
         for part in words {
             let what = match part.split_once('=') {
-                None => format!("\"{part}\": expected FIELD=VALUE"),
+                None => format!("\"{part}\": expected FIELD=VALUE, without blanks"),
                 Some((name, _)) if pairs.iter().any(|p| p.0 == name) => {
                     format!("{name}: expected once, found twice")
                 }

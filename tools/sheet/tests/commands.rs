@@ -32,10 +32,21 @@ fn no_such_command() {
 
 #[test]
 fn no_such_file() {
-    for command in ["write", "show", "explain"] {
+    for command in ["write", "show", "explain", "draw"] {
         let output = run(&[command, "/no/such/file"], b"");
         assert_eq!(output.status.code(), Some(1));
         assert!(text(&output.stderr).starts_with("/no/such/file: "));
+        assert_eq!(text(&output.stdout), "");
+    }
+}
+
+#[cfg(not(feature = "pass"))]
+#[test]
+fn without_the_library() {
+    for command in ["explain", "draw"] {
+        let output = run(&[command, "-"], b"");
+        assert_eq!(output.status.code(), Some(1));
+        assert!(text(&output.stderr).contains("built without the proved library"));
         assert_eq!(text(&output.stdout), "");
     }
 }
@@ -88,6 +99,7 @@ fn written_file_is_the_sheet() {
     assert_eq!(bytes, sheetgen::Sheet::example().write());
     let shown = run(&["show", out.to_str().unwrap()], b"");
     assert_eq!(run(&["write", "-"], &shown.stdout).stdout, bytes);
+    assert_eq!(run(&["write", "-", "-"], &shown.stdout).stdout, bytes);
     assert_eq!(std::fs::read_dir(&folder).unwrap().count(), 1);
     std::fs::remove_dir_all(&folder).unwrap();
 }

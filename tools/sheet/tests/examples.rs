@@ -4,7 +4,7 @@
 mod common;
 
 use common::{files, here, name, run, text};
-use sheet::bench::{self, Verdict};
+use dispatch_bench::{Refusal, read};
 use sheet::{explain, rules};
 use sheetgen::generate::{PROFILES, generate};
 
@@ -57,22 +57,22 @@ fn stored_verdicts() {
             .iter()
             .fold(0, |n, b| n << 8 | u64::from(*b));
         let stored = match case.after[0] {
-            0 => Verdict::Accepted,
-            number => Verdict::Refused {
+            0 => Ok(()),
+            number => Err(Refusal {
                 number: number.into(),
                 offset,
-            },
+            }),
         };
-        assert_eq!(bench::read(case.sheet), Ok(stored));
-        has_sentence(case.sheet, stored);
+        assert_eq!(read(case.sheet), stored);
+        has_sentence(case.sheet);
         left = &case.after[5..];
     }
 }
 
 /// A refusal names its record and field, and its rule.
-fn has_sentence(sheet: &[u8], verdict: Verdict) {
-    let said = explain::explain(sheet, verdict);
-    let Verdict::Refused { number, offset } = verdict else {
+fn has_sentence(sheet: &[u8]) {
+    let said = explain::explain(sheet);
+    let Err(Refusal { number, offset }) = read(sheet) else {
         assert!(said.starts_with("accepted\n"), "{said}");
         return;
     };
@@ -94,9 +94,7 @@ fn has_sentence(sheet: &[u8], verdict: Verdict) {
 fn every_generated_refusal_has_its_sentence() {
     for (_, profile) in PROFILES {
         for index in 0..300 {
-            let bytes = generate(profile, 11, index);
-            let verdict = bench::read(&bytes).unwrap();
-            has_sentence(&bytes, verdict);
+            has_sentence(&generate(profile, 11, index));
         }
     }
 }
@@ -114,5 +112,36 @@ fn the_manual_has_every_rule() {
             "{}",
             name(&path)
         );
+    }
+}
+
+/// Text as the manual shows it.
+fn indented(text: &str) -> String {
+    let line = |line: &str| match line {
+        "" => "\n".into(),
+        _ => format!("    {line}\n"),
+    };
+    text.lines().map(line).collect()
+}
+
+/// The manual shows the text of the first sheet, and of one for each number with what is said of it.
+#[test]
+fn the_manual_has_an_example_of_every_number() {
+    let file = |path: &str| text(&std::fs::read(here(path)).unwrap());
+    let manual = file("../../docs/MANUAL.md");
+    assert!(manual.contains(&indented(&file("examples/lobby.txt"))));
+    let is_shown = |example: &str| {
+        let said = file(&format!("examples/{example}.explain"));
+        let mut lines = said.lines();
+        let (first, reason) = (lines.next().unwrap(), lines.next().unwrap());
+        let sheet = indented(&file(&format!("examples/{example}.txt")));
+        manual.contains(&format!("{sheet}\n`{first}`: {reason}\n"))
+    };
+    let names: Vec<String> = files("examples", "txt").iter().map(|p| name(p)).collect();
+    for number in 2..=16 {
+        let start = format!("refusal_{number:02}_");
+        let examples = names.iter().filter(|n| n.starts_with(&start));
+        let shown = examples.filter(|n| is_shown(n));
+        assert_eq!(shown.count(), 1, "refusal {number}");
     }
 }

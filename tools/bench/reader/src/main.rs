@@ -5,10 +5,6 @@ use sheetgen::{Aboard, Car, Demand, Line, Sheet, Stop, Waiting};
 use std::hint::black_box;
 use std::time::Instant;
 
-unsafe extern "C" {
-    fn dispatch_bench_read(sheet: *const u8, length: usize, offset: *mut u64) -> u32;
-}
-
 /// 64 stops, 8 lines, 32 cars, 512 aboard, 512 waiting, 64 demands: 26,083 bytes.
 fn full() -> Vec<u8> {
     let mut s = Sheet::new(sheetgen::sheet::SCAN);
@@ -71,19 +67,15 @@ fn median(mut times: Vec<f64>) -> f64 {
 
 fn main() {
     let sheet = full();
-    let mut offset = 0;
-    let number = unsafe { dispatch_bench_read(sheet.as_ptr(), sheet.len(), &mut offset) };
     assert_eq!(
-        (number, sheetgen::read(&sheet)),
-        (0, None),
+        (dispatch_bench::read(&sheet), sheetgen::read(&sheet)),
+        (Ok(()), None),
         "both readers accept the sheet"
     );
     let (mut proved, mut plain) = (Vec::new(), Vec::new());
     for _ in 0..31 {
         proved.push(micros(20, || {
-            black_box(unsafe {
-                dispatch_bench_read(black_box(sheet.as_ptr()), sheet.len(), &mut offset)
-            });
+            let _ = black_box(dispatch_bench::read(black_box(&sheet)));
         }));
         plain.push(micros(20, || {
             black_box(sheetgen::read(black_box(&sheet)));

@@ -1,22 +1,24 @@
 //! The shafts by line, with stops, cars, riders and decisions.
 
+use dispatch_bench::Decision;
 use sheetgen::sheet::mask_bit;
-use sheetgen::{Car, Line, Sheet};
+use sheetgen::{Car, Line, Sheet, Stop};
 
 use super::heights::{self, Heights};
-use super::svg::{Anchor, Svg, short};
-use super::{car_name, cost};
-use crate::bench::Pass;
+use super::svg::{self, Anchor, Svg, short};
+use super::{Chosen, LONG_ID, car_name, cost};
 use crate::fields::PHASES;
 
-const LABELS: f64 = 306.0;
-const SHAFT: f64 = 80.0;
+const SHAFT: f64 = 100.0;
 const GAP: f64 = 16.0;
 /// The lines of text above a shaft.
 const HEADER: f64 = 96.0;
 const CAR: (f64, f64) = (24.0, 18.0);
-/// The most waiting riders that are drawn one by one.
+/// The most waiting riders that are drawn one by one, and their distance.
 const DOTS: usize = 8;
+const DOT: f64 = 6.5;
+const AXIS: &str = "stop at position";
+const AXIS_WIDTH: f64 = 90.0;
 
 /// By phase; every drawn car also has its phase in words.
 const COLOURS: [&str; 7] = [
@@ -25,30 +27,118 @@ const COLOURS: [&str; 7] = [
 
 struct Building<'a> {
     sheet: &'a Sheet,
-    pass: Option<&'a Pass>,
+    chosen: &'a Chosen,
     heights: Heights,
     left: f64,
+    columns: Columns,
     /// Where height 0 stands.
     top: f64,
 }
 
+/// What stands left of the shafts, from the left: where it begins, or for names ends.
+struct Columns {
+    names: f64,
+    call: f64,
+    waiting: f64,
+    riding: f64,
+    end: f64,
+}
+
+impl Columns {
+    fn new(labels: &[Label], left: f64) -> Self {
+        let widest = |width: &dyn Fn(&Label) -> f64| labels.iter().map(width).fold(0.0, f64::max);
+        let names = left + widest(&|l| svg::width("name", &l.name)).max(AXIS_WIDTH);
+        let (call, waiting) = (names + 10.0, names + 22.0);
+        let room = widest(&|l| match l.waiting {
+            0..=DOTS => DOT * l.waiting as f64,
+            many => svg::width("small", &waiting_text(many)),
+        });
+        let riding = waiting + room + 8.0;
+        let end = riding + widest(&|l| svg::width("small", &l.more)) + 14.0;
+        Self {
+            names,
+            call,
+            waiting,
+            riding,
+            end,
+        }
+    }
+}
+
+/// A stop and who waits there.
+struct Label {
+    name: String,
+    has_call: bool,
+    waiting: usize,
+    /// The riders bound for the stop, and whether it is no pending one.
+    more: String,
+    height: f64,
+    position: f64,
+}
+
+/// The stops from the highest to the lowest, so far apart that each can be read.
+fn labels(sheet: &Sheet, chosen: &Chosen, heights: &Heights) -> Vec<Label> {
+    let mut stops: Vec<&Stop> = sheet.stops.iter().collect();
+    stops.sort_by(|a, b| b.position.total_cmp(&a.position).then(b.id.cmp(&a.id)));
+    let wanted: Vec<f64> = stops.iter().map(|s| heights.of(s.position)).collect();
+    let placed = heights::spread(&wanted, 14.0, heights.height + 10.0);
+    let label = |(stop, height): (&Stop, f64)| {
+        let waiting = sheet.waiting.iter().filter(|w| w.stop == stop.id).count();
+        let demand = sheet.demands.iter().find(|d| d.stop == stop.id);
+        let riding = demand.map_or(0, |d| d.riding);
+        let has_call = demand.is_some_and(|d| d.call);
+        let has_demand = waiting > 0 || riding > 0 || has_call;
+        let mut more = Vec::new();
+        if riding > 0 {
+            more.push(format!("{riding} riding"));
+        }
+        if has_demand && !chosen.pending.contains(&stop.id) {
+            more.push("not pending".into());
+        }
+        Label {
+            name: format!("{} at {}", stop.id, short(stop.position)),
+            has_call,
+            waiting,
+            more: more.join(", "),
+            height,
+            position: stop.position,
+        }
+    };
+    stops.into_iter().zip(placed).map(label).collect()
+}
+
+fn waiting_text(many: usize) -> String {
+    format!("{many} waiting")
+}
+
 /// Draws at a corner; answers the right and lower edge.
-pub fn draw(svg: &mut Svg, sheet: &Sheet, pass: Option<&Pass>, at: (f64, f64)) -> (f64, f64) {
+pub fn draw(svg: &mut Svg, sheet: &Sheet, chosen: &Chosen, at: (f64, f64)) -> (f64, f64) {
     let stops: Vec<f64> = sheet.stops.iter().map(|s| s.position).collect();
     let cars: Vec<f64> = sheet.cars.iter().map(|c| c.position).collect();
-    let height = (17.0 * stops.len() as f64).max(260.0);
+    let height = match stops.len() {
+        0 => 60.0,
+        many => (17.0 * many as f64).max(260.0),
+    };
+    let heights = Heights::new(&stops, &cars, height);
+    let labels = labels(sheet, chosen, &heights);
     let building = Building {
         sheet,
-        pass,
-        heights: Heights::new(&stops, &cars, height),
+        chosen,
+        heights,
         left: at.0,
+        columns: Columns::new(&labels, at.0),
         top: at.1 + HEADER + 30.0,
     };
     let right = building.right();
-    building.stops(svg, right);
+    let (x, y) = (building.columns.names, building.top - 30.0);
+    let axis = if labels.is_empty() { "no stop" } else { AXIS };
+    svg.text("small", x, y, Anchor::End, axis);
+    for label in &labels {
+        building.stop(svg, label, right);
+    }
     building.shafts(svg);
     let bottom = building.bottom() + 30.0;
-    (right.max(building.legend(svg, bottom)), bottom + 46.0)
+    (right.max(building.legend(svg, bottom)), bottom + 58.0)
 }
 
 impl Building<'_> {
@@ -69,68 +159,41 @@ impl Building<'_> {
     fn right(&self) -> f64 {
         let shafts: usize = self.sheet.lines.iter().map(|l| self.shafts_of(l)).sum();
         let gaps = 1 + self.sheet.lines.len();
-        self.left + LABELS + SHAFT * shafts as f64 + GAP * gaps as f64
+        self.columns.end + SHAFT * shafts as f64 + GAP * gaps as f64
     }
 
-    /// The labels of the stops and who waits there.
-    fn stops(&self, svg: &mut Svg, right: f64) {
-        let x = self.left + 116.0;
-        svg.text("small", x, self.top - 30.0, Anchor::End, "stop at position");
-        let mut order: Vec<usize> = (0..self.sheet.stops.len()).collect();
-        order.sort_by(|a, b| {
-            let (a, b) = (&self.sheet.stops[*a], &self.sheet.stops[*b]);
-            b.position.total_cmp(&a.position).then(b.id.cmp(&a.id))
-        });
-        let wanted: Vec<f64> = order
-            .iter()
-            .map(|k| self.heights.of(self.sheet.stops[*k].position))
-            .collect();
-        let placed = heights::spread(&wanted, 14.0, self.heights.height + 10.0);
-        for (k, label) in order.into_iter().zip(placed) {
-            self.stop(svg, k, self.top + label, right);
+    /// A stop's name, who waits there, and its height in the shafts.
+    fn stop(&self, svg: &mut Svg, stop: &Label, right: f64) {
+        let (at, label) = (&self.columns, self.top + stop.height);
+        let y = self.y(stop.position);
+        svg.text("name", at.names, label + 3.5, Anchor::End, &stop.name);
+        svg.line("guide", (at.call, label), (at.end - 12.0, label));
+        svg.line("guide", (at.end - 12.0, label), (at.end, y));
+        svg.line("guide", (at.end, y), (right, y));
+        if stop.has_call {
+            svg.circle("call", at.call, label, 4.0);
         }
-    }
-
-    fn stop(&self, svg: &mut Svg, k: usize, label: f64, right: f64) {
-        let stop = &self.sheet.stops[k];
-        let (end, y) = (self.left + LABELS, self.y(stop.position));
-        let name = format!("{} at {}", stop.id, short(stop.position));
-        svg.text("name", self.left + 116.0, label + 3.5, Anchor::End, &name);
-        svg.line("lead", (end - 14.0, label), (end, y));
-        svg.line("guide", (end, y), (right, y));
-        let demand = self.sheet.demands.iter().find(|d| d.stop == stop.id);
-        if demand.is_some_and(|d| d.call) {
-            svg.circle("call", self.left + 126.0, label, 4.0);
+        match stop.waiting {
+            many @ 0..=DOTS => {
+                for k in 0..many {
+                    svg.circle("waiting", at.waiting + DOT * k as f64, label, 2.6);
+                }
+            }
+            many => {
+                let text = waiting_text(many);
+                let x = at.waiting - 3.0;
+                svg.text("many halo", x, label + 3.0, Anchor::Start, &text);
+            }
         }
-        if let Some(demand) = demand.filter(|d| d.riding > 0) {
-            let text = format!("{} riding", demand.riding);
-            svg.text("small", end - 16.0, label + 3.0, Anchor::End, &text);
-        }
-        let waiting = self
-            .sheet
-            .waiting
-            .iter()
-            .filter(|w| w.stop == stop.id)
-            .count();
-        let mut x = self.left + 138.0;
-        for _ in 0..waiting.min(DOTS) {
-            svg.circle("waiting", x, label, 2.6);
-            x += 6.5;
-        }
-        if waiting > DOTS {
-            svg.text(
-                "small",
-                x,
-                label + 3.0,
-                Anchor::Start,
-                &format!("of {waiting}"),
-            );
+        if !stop.more.is_empty() {
+            let y = label + 3.0;
+            svg.text("small halo", at.riding, y, Anchor::Start, &stop.more);
         }
     }
 
     /// All shafts, line by line.
     fn shafts(&self, svg: &mut Svg) {
-        let mut x = self.left + LABELS + GAP;
+        let mut x = self.columns.end + GAP;
         for line in &self.sheet.lines {
             let end = x + SHAFT * self.shafts_of(line) as f64;
             let y = self.top - HEADER - 20.0;
@@ -159,11 +222,11 @@ impl Building<'_> {
             }
             let Some((_, car)) = car else { continue };
             if car.calls & bit != 0 {
-                svg.circle("served", middle - 12.0, y, 3.0);
+                svg.circle("served", middle - 30.0, y, 3.0);
             }
             if car.restricted & bit != 0 {
-                svg.line("barred", (middle - 16.0, y - 3.0), (middle - 9.0, y + 3.0));
-                svg.line("barred", (middle - 16.0, y + 3.0), (middle - 9.0, y - 3.0));
+                svg.line("barred", (middle - 25.0, y - 3.0), (middle - 19.0, y + 3.0));
+                svg.line("barred", (middle - 25.0, y + 3.0), (middle - 19.0, y - 3.0));
             }
         }
         if let Some((k, car)) = car {
@@ -177,21 +240,25 @@ impl Building<'_> {
     fn header(&self, svg: &mut Svg, k: usize, car: &Car, middle: f64) {
         let phase = PHASES.get(usize::from(car.phase)).unwrap_or(&"?");
         let bound = match car.stop {
+            0 if car.idle => "idle-listed".into(),
             0 => String::new(),
             stop => format!("for {stop}"),
         };
-        let load = format!("{} of {}", short(car.load), short(car.capacity));
+        let mut load = format!("{} of {}", short(car.load), short(car.capacity));
+        if svg::width("small", &load) > SHAFT {
+            load = format!("{:.0e} of {:.0e}", car.load, car.capacity);
+        }
         let mut lines = vec![
             ("name", car_name(car.id)),
             ("small", phase.replace('_', " ")),
             ("small", bound),
             ("small", load),
         ];
-        lines.push(("small", self.sweep(k, car)));
+        lines.push(("small", self.sweep(k)));
         let decision = match self.decided(k) {
-            Some(0) => ("small", "stays idle".into()),
-            Some(stop) => ("cost", format!("to {stop}")),
-            None if car.idle => ("small", "idle-listed".into()),
+            Some(None) => ("name", "stays idle".into()),
+            Some(Some(stop)) if stop.get() < LONG_ID => ("cost", format!("to {stop}")),
+            Some(Some(stop)) => ("cost", stop.to_string()),
             None => ("small", String::new()),
         };
         lines.push(decision);
@@ -202,15 +269,14 @@ impl Building<'_> {
         }
     }
 
-    /// A car's sweep and mode after the pass, or before it where there is none.
-    fn sweep(&self, k: usize, car: &Car) -> String {
-        let before = 2 * u8::from(car.sweep_down) + u8::from(car.lenient);
-        let code = self.pass.and_then(|pass| pass.sweeps.get(k)).copied();
-        match code.unwrap_or(before) {
-            0 => "up strict",
-            1 => "up lenient",
-            2 => "down strict",
-            _ => "down lenient",
+    /// A car's sweep and mode after the pass.
+    fn sweep(&self, k: usize) -> String {
+        match self.chosen.pass.sweeps.get(k).map(|sweep| sweep.code()) {
+            None => "",
+            Some(0) => "up strict",
+            Some(1) => "up lenient",
+            Some(2) => "down strict",
+            Some(_) => "down lenient",
         }
         .into()
     }
@@ -221,9 +287,9 @@ impl Building<'_> {
         self.sheet.cars[k].idle.then_some(idle)
     }
 
-    /// The stop that car record `k` is sent to, 0 for idle; `None` where nothing is decided for it.
-    fn decided(&self, k: usize) -> Option<u32> {
-        self.pass?.decisions.get(self.row(k)?).copied()
+    /// What is decided for car record `k`, where it is idle-listed.
+    fn decided(&self, k: usize) -> Option<Decision> {
+        self.chosen.pass.decisions.get(self.row(k)?).copied()
     }
 
     fn car(&self, svg: &mut Svg, car: &Car, middle: f64) {
@@ -255,10 +321,15 @@ impl Building<'_> {
 
     /// An arrow to the stop that the car is sent to, with the cell as a cost.
     fn decision(&self, svg: &mut Svg, k: usize, car: &Car, middle: f64) {
-        let stop = match self.decided(k) {
-            None | Some(0) => return,
-            Some(id) => self.sheet.stops.iter().find(|stop| stop.id == id),
+        let Some(decision) = self.decided(k) else {
+            return;
         };
+        let Some(id) = decision else {
+            let (x, y) = (middle + 21.0, self.y(car.position) + 3.5);
+            svg.text("small halo", x, y, Anchor::Start, "idle");
+            return;
+        };
+        let stop = self.sheet.stops.iter().find(|stop| stop.id == id.get());
         let Some(stop) = stop else { return };
         let (from, to, x) = (self.y(car.position), self.y(stop.position), middle + 22.0);
         let up = to < from;
@@ -269,9 +340,9 @@ impl Building<'_> {
             svg.line("arrow", (x, from), (x, to + back));
             svg.triangle("head", x, to + back, 7.0, up);
         }
-        let cell = self.row(k).and_then(|row| self.pass?.chosen_cell(row));
+        let cell = self.row(k).and_then(|row| self.chosen.cell(row));
         if let Some(cell) = cell {
-            svg.text("cost", x + 8.0, to + 3.5, Anchor::Start, &cost(cell));
+            svg.text("cost halo", x + 8.0, to + 3.5, Anchor::Start, &cost(cell));
         }
     }
 
@@ -304,8 +375,10 @@ impl Building<'_> {
         svg.line("barred", (x + 288.0, y + 10.0), (x + 295.0, y + 16.0));
         svg.line("barred", (x + 288.0, y + 16.0), (x + 295.0, y + 10.0));
         svg.text("small", x + 300.0, y + 16.0, Anchor::Start, "a barred stop");
-        let text = "Bold frame: idle-listed. Grey in a car: its load. Triangles: its lamps. Arrow: the decision, with its cost.";
+        let text = "Bold frame: idle-listed. Grey in a car: its load. Triangles: its lamps. Arrow (a ring at the car itself): the decision, with its cost.";
         svg.text("small", x, y + 31.0, Anchor::Start, text);
-        x + 560.0
+        let text = "Above a shaft: the car's phase, its load of its capacity, its sweep and mode after the pass, the decision.";
+        svg.text("small", x, y + 46.0, Anchor::Start, text);
+        x + svg::width("small", text)
     }
 }

@@ -1,14 +1,10 @@
 //! The cost matrix as a heat map, the chosen cells framed.
 
+use dispatch_bench::SENTINEL;
 use sheetgen::Sheet;
-use sheetgen::sheet::mask_bit;
 
-use super::svg::{Anchor, Svg};
-use super::{SENTINEL, car_name, cost};
-use crate::bench::Pass;
-
-const LABELS: f64 = 90.0;
-const HEADER: f64 = 70.0;
+use super::svg::{Anchor, Svg, widest};
+use super::{Chosen, car_name, cost};
 
 /// From the least cost to the most, in the order of the costs.
 const COLOURS: [&str; 7] = [
@@ -16,146 +12,114 @@ const COLOURS: [&str; 7] = [
 ];
 const NO_RANK: &str = "#e6e6e6";
 
+/// Where the cells stand, and what their rows and columns are called.
+struct Table {
+    corner: (f64, f64),
+    size: (f64, f64),
+    rows: Vec<String>,
+    columns: Vec<String>,
+}
+
 /// Draws at a corner; answers the right and lower edge.
-pub fn draw(svg: &mut Svg, sheet: &Sheet, pass: &Pass, at: (f64, f64)) -> (f64, f64) {
-    let columns = pass.columns();
+pub fn draw(svg: &mut Svg, sheet: &Sheet, chosen: &Chosen, at: (f64, f64)) -> (f64, f64) {
     let title = "Costs of idle cars and pending stops";
     svg.text("name", at.0, at.1, Anchor::Start, title);
-    if pass.cars == 0 || columns == 0 {
+    if chosen.pass.cars == 0 {
         let none = "There is no idle car.";
         svg.text("small", at.0, at.1 + 16.0, Anchor::Start, none);
         return (at.0 + 300.0, at.1 + 24.0);
     }
-    let size = match columns {
+    let idle = sheet.cars.iter().filter(|car| car.idle);
+    let rows: Vec<String> = idle.map(|car| car_name(car.id)).collect();
+    let columns = column_names(chosen);
+    let size = match columns.len() {
         0..=16 => (50.0, 24.0),
         _ => (20.0, 20.0),
     };
-    let corner = (at.0 + LABELS, at.1 + HEADER);
-    names(svg, sheet, pass, corner, size);
-    let shades = Shades::new(&pass.matrix);
-    for row in 0..pass.cars {
-        for column in 0..columns {
-            cell(svg, pass, &shades, (row, column), corner, size);
+    // The columns' names rise by 55 degrees.
+    let header = 28.0 + 0.82 * widest("small", &columns);
+    let corner = (at.0 + 16.0 + widest("name", &rows), at.1 + header);
+    let table = Table {
+        corner,
+        size,
+        rows,
+        columns,
+    };
+    table.names(svg);
+    let shades = Shades::new(&chosen.pass.matrix);
+    for (row, cells) in chosen.pass.rows().enumerate() {
+        for (column, cell) in cells.iter().enumerate() {
+            table.cell(svg, &shades, (row, column), *cell);
         }
     }
-    frames(svg, pass, corner, size);
-    let bottom = corner.1 + size.1 * pass.cars as f64;
+    table.frames(svg, chosen);
+    let bottom = corner.1 + size.1 * table.rows.len() as f64;
     shades.legend(svg, (at.0, bottom + 22.0));
-    let right = corner.0 + size.0 * columns as f64 + 40.0;
-    (right, bottom + 42.0)
+    let right = corner.0 + size.0 * table.columns.len() as f64;
+    (
+        right + 0.57 * widest("small", &table.columns),
+        bottom + 42.0,
+    )
 }
 
-/// The stops above the columns and the cars beside the rows.
-fn names(svg: &mut Svg, sheet: &Sheet, pass: &Pass, corner: (f64, f64), size: (f64, f64)) {
-    for (k, name) in column_names(sheet, pass).iter().enumerate() {
-        let x = corner.0 + size.0 * (k as f64 + 0.5);
-        svg.slanted("small", x, corner.1 - 5.0, name);
+impl Table {
+    fn at(&self, row: usize, column: usize) -> (f64, f64) {
+        let (x, y) = self.corner;
+        (
+            x + self.size.0 * column as f64,
+            y + self.size.1 * row as f64,
+        )
     }
-    let idle = sheet.cars.iter().filter(|car| car.idle);
-    for (row, car) in idle.enumerate().take(pass.cars) {
-        let y = corner.1 + size.1 * (row as f64 + 0.5) + 3.5;
-        svg.text("name", corner.0 - 6.0, y, Anchor::End, &car_name(car.id));
-    }
-}
 
-fn cell(
-    svg: &mut Svg,
-    pass: &Pass,
-    shades: &Shades,
-    (row, column): (usize, usize),
-    corner: (f64, f64),
-    size: (f64, f64),
-) {
-    let Some(value) = pass.cell(row, column) else {
-        return;
-    };
-    let x = corner.0 + size.0 * column as f64;
-    let y = corner.1 + size.1 * row as f64;
-    let tip = format!("row {}, column {}: {value}", row + 1, column + 1);
-    svg.tile((x, y), size, shades.of(value), "cell", &tip);
-    if size.0 > 40.0 && value < SENTINEL {
-        let class = if shades.is_dark(value) {
-            "small pale"
-        } else {
-            "small"
-        };
-        svg.text(
-            class,
-            x + size.0 / 2.0,
-            y + 15.5,
-            Anchor::Middle,
-            &cost(value),
-        );
-    }
-}
-
-/// The chosen cells; broken where the car stays idle.
-fn frames(svg: &mut Svg, pass: &Pass, corner: (f64, f64), size: (f64, f64)) {
-    for (row, column) in pass.chosen.iter().enumerate() {
-        let x = corner.0 + size.0 * *column as f64;
-        let y = corner.1 + size.1 * row as f64;
-        let sent = pass.decisions.get(row).is_some_and(|stop| *stop != 0);
-        let class = if sent { "chosen" } else { "unsent" };
-        svg.rect(class, x + 1.0, y + 1.0, size.0 - 2.0, size.1 - 2.0);
-    }
-}
-
-/// What each column stands for. The pass tells the stop of a column only where a car is sent there; the
-/// columns between are named where the demand stops between leave no other reading.
-fn column_names(sheet: &Sheet, pass: &Pass) -> Vec<String> {
-    let mut known: Vec<Option<u32>> = vec![None; pass.columns()];
-    for (column, stop) in pass.chosen.iter().zip(&pass.decisions) {
-        if let Some(name) = known.get_mut(*column as usize).filter(|_| *stop != 0) {
-            *name = Some(*stop);
+    /// The stops above the columns and the cars beside the rows.
+    fn names(&self, svg: &mut Svg) {
+        for (k, name) in self.columns.iter().enumerate() {
+            let (x, y) = self.at(0, k);
+            svg.slanted("small", x + self.size.0 / 2.0, y - 5.0, name);
+        }
+        for (row, name) in self.rows.iter().enumerate() {
+            let (x, y) = self.at(row, 0);
+            let y = y + self.size.1 / 2.0 + 3.5;
+            svg.text("name", x - 6.0, y, Anchor::End, name);
         }
     }
-    let pending = pass.stops.min(known.len());
-    name_between(&mut known[..pending], &demand_stops(sheet));
-    let name = |(k, stop): (usize, &Option<u32>)| match stop {
-        _ if k >= pending => "spare".into(),
+
+    fn cell(&self, svg: &mut Svg, shades: &Shades, place: (usize, usize), value: u64) {
+        let (x, y) = self.at(place.0, place.1);
+        let row = self.rows.get(place.0).map_or("", String::as_str);
+        let column = self.columns.get(place.1).map_or("", String::as_str);
+        let tip = format!("{row}, {column}: {} ({value})", cost(value));
+        svg.tile((x, y), self.size, shades.of(value), "cell", &tip);
+        if self.size.0 > 40.0 && value < SENTINEL {
+            let class = if shades.is_dark(value) {
+                "number pale"
+            } else {
+                "number"
+            };
+            let middle = x + self.size.0 / 2.0;
+            svg.text(class, middle, y + 15.5, Anchor::Middle, &cost(value));
+        }
+    }
+
+    /// The chosen cells; broken where the car stays idle.
+    fn frames(&self, svg: &mut Svg, chosen: &Chosen) {
+        for (row, column) in chosen.columns.iter().enumerate() {
+            let (x, y) = self.at(row, *column as usize);
+            let sent = chosen.pass.decisions.get(row).is_some_and(Option::is_some);
+            let class = if sent { "chosen" } else { "unsent" };
+            let (w, h) = self.size;
+            svg.rect(class, x + 1.0, y + 1.0, w - 2.0, h - 2.0);
+        }
+    }
+}
+
+/// What each column stands for.
+fn column_names(chosen: &Chosen) -> Vec<String> {
+    let name = |k: usize| match chosen.pending.get(k) {
         Some(stop) => format!("stop {stop}"),
-        None => format!("column {}", k + 1),
+        None => "spare".into(),
     };
-    known.iter().enumerate().map(name).collect()
-}
-
-/// Columns rise by stop id: a run of unknown ones is named where as many stops come between its neighbours.
-fn name_between(known: &mut [Option<u32>], stops: &[u32]) {
-    let mut start = 0;
-    while start < known.len() {
-        if known[start].is_some() {
-            start += 1;
-            continue;
-        }
-        let run = known[start..]
-            .iter()
-            .take_while(|name| name.is_none())
-            .count();
-        let low = start.checked_sub(1).and_then(|k| known[k]);
-        let high = known.get(start + run).copied().flatten();
-        let inside = |id: &&u32| low.is_none_or(|l| **id > l) && high.is_none_or(|h| **id < h);
-        let between: Vec<u32> = stops.iter().filter(inside).copied().collect();
-        if between.len() == run {
-            for (name, stop) in known[start..].iter_mut().zip(between) {
-                *name = Some(stop);
-            }
-        }
-        start += run;
-    }
-}
-
-/// The stops of the group that have demand, rising; the pending ones are among them.
-fn demand_stops(sheet: &Sheet) -> Vec<u32> {
-    let group = sheet.lines.iter().fold(0, |mask, line| mask | line.mask);
-    let has_demand = |id: u32| {
-        let stated = sheet.demands.iter().find(|d| d.stop == id);
-        sheet.waiting.iter().any(|w| w.stop == id) || stated.is_some_and(|d| d.call || d.riding > 0)
-    };
-    let stops = sheet.stops.iter().enumerate();
-    stops
-        .filter(|(k, stop)| group & mask_bit(*k) != 0 && has_demand(stop.id))
-        .map(|(_, stop)| stop.id)
-        .collect()
+    (0..chosen.pass.columns()).map(name).collect()
 }
 
 /// A colour for each cost.
@@ -205,20 +169,5 @@ impl Shades {
         }
         let text = "Framed: the choice with the least total; broken where the car stays idle.";
         svg.text("small", at.0, at.1 + 15.0, Anchor::Start, text);
-    }
-}
-
-#[cfg(test)]
-mod tests {
-    use super::*;
-
-    #[test]
-    fn columns_are_named_where_only_one_reading_is_left() {
-        let mut all = [None, Some(4), None];
-        name_between(&mut all, &[2, 4, 9]);
-        assert_eq!(all, [Some(2), Some(4), Some(9)]);
-        let mut some = [None, Some(4), None];
-        name_between(&mut some, &[2, 3, 4, 9]);
-        assert_eq!(some, [None, Some(4), Some(9)]);
     }
 }

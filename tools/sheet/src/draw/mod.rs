@@ -3,37 +3,69 @@
 mod building;
 mod heights;
 mod matrix;
+mod pending;
 mod refused;
 mod svg;
 
+use dispatch_bench::{Pass, SENTINEL};
 use sheetgen::Sheet;
 
-use crate::bench::Pass;
 use crate::fields::STRATEGIES;
+use crate::show::number_of;
 use svg::{Anchor, Svg};
 
-pub use refused::draw as draw_refusal;
-
-/// The cell of a pair without a rank.
-pub const SENTINEL: u64 = 281_474_976_710_656;
 /// The cost of a unit.
 const UNIT: f64 = 1_000_000.0;
 const EDGE: f64 = 24.0;
 
-/// A sheet that the bench accepted, and its pass where there is one.
-pub fn draw(sheet: &Sheet, pass: Option<&Pass>) -> String {
-    let mut svg = Svg::default();
-    svg.text("title", EDGE, 30.0, Anchor::Start, &title(sheet, pass));
-    let (mut width, mut height) = building::draw(&mut svg, sheet, pass, (EDGE, 56.0));
-    if let Some(pass) = pass {
-        let (right, bottom) = matrix::draw(&mut svg, sheet, pass, (EDGE, height + 40.0));
-        width = width.max(right);
-        height = bottom;
+/// A sheet and its pass, or where the sheet is refused.
+pub fn draw(bytes: &[u8]) -> String {
+    match dispatch_bench::pass(bytes) {
+        Ok(pass) => draw_pass(&Sheet::of_accepted(bytes), pass),
+        Err(refusal) => refused::draw(bytes, refusal),
     }
-    svg.finish(width.max(560.0) + EDGE, height + EDGE)
 }
 
-fn title(sheet: &Sheet, pass: Option<&Pass>) -> String {
+/// A pass and what it chose.
+struct Chosen {
+    pass: Pass,
+    /// The column of each idle car: the matrix has one choice that the rules allow.
+    columns: Vec<u32>,
+    /// The stop of each column that has one.
+    pending: Vec<u32>,
+}
+
+impl Chosen {
+    fn new(sheet: &Sheet, pass: Pass) -> Self {
+        let choice = dispatch_bench::choose(pass.cars, pass.columns(), &pass.matrix);
+        let columns = choice.map_or(Vec::new(), |choice| choice.columns);
+        let pending = pending::pending(sheet, &pass);
+        Self {
+            pass,
+            columns,
+            pending,
+        }
+    }
+
+    /// The chosen cell of an idle car.
+    fn cell(&self, row: usize) -> Option<u64> {
+        let column = *self.columns.get(row)? as usize;
+        self.pass.rows().nth(row)?.get(column).copied()
+    }
+}
+
+fn draw_pass(sheet: &Sheet, pass: Pass) -> String {
+    let chosen = Chosen::new(sheet, pass);
+    let mut svg = Svg::default();
+    let title = title(sheet, &chosen.pass);
+    svg.text("title", EDGE, 30.0, Anchor::Start, &title);
+    let (width, height) = building::draw(&mut svg, sheet, &chosen, (EDGE, 56.0));
+    let (right, bottom) = matrix::draw(&mut svg, sheet, &chosen, (EDGE, height + 40.0));
+    let width = width.max(right).max(svg::width("title", &title) + EDGE);
+    svg.finish(width + EDGE, bottom + EDGE)
+}
+
+fn title(sheet: &Sheet, pass: &Pass) -> String {
     let strategy = STRATEGIES
         .get(usize::from(sheet.policy.strategy))
         .unwrap_or(&"?");
@@ -41,14 +73,21 @@ fn title(sheet: &Sheet, pass: Option<&Pass>) -> String {
         sheetgen::sheet::NO_LIMIT => "none".into(),
         limit => limit.to_string(),
     };
-    let sizes = match pass {
-        Some(pass) => format!(
-            "{} idle cars, {} pending stops, total {}",
-            pass.cars, pass.stops, pass.total
-        ),
-        None => "the sheet without its pass".into(),
-    };
-    format!("{strategy}, limit {limit}: {sizes}")
+    let cars = number_of(pass.cars, "idle car");
+    let stops = number_of(pass.stops, "pending stop");
+    // In the total a car that stays idle counts as the sentinel.
+    let sent = pass.decisions.iter().flatten().count();
+    let idle = pass.cars - sent;
+    let costs = pass.total.saturating_sub(SENTINEL * idle as u64);
+    let mut parts = vec![format!("{cars}, {stops}")];
+    if sent > 0 {
+        parts.push(format!("{sent} sent at a cost of {}", cost(costs)));
+    }
+    if idle > 0 {
+        parts.push(format!("{idle} left idle"));
+    }
+    parts.push(format!("total {}", pass.total));
+    format!("{strategy}, limit {limit}: {}", parts.join("; "))
 }
 
 /// A cell as a cost.
@@ -59,10 +98,13 @@ fn cost(cell: u64) -> String {
     }
 }
 
+/// From here on an id fills the width of a shaft by itself.
+const LONG_ID: u32 = 10_000_000;
+
 /// A car's name, short enough for its shaft.
 fn car_name(id: u32) -> String {
     match id {
-        10_000_000.. => id.to_string(),
+        LONG_ID.. => id.to_string(),
         _ => format!("car {id}"),
     }
 }

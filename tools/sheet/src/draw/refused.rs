@@ -1,11 +1,11 @@
 //! A refused sheet: its records as a strip, the refused one marked, its fields one by one.
 
+use dispatch_bench::Refusal;
 use sheetgen::sheet::HEAD_BITS;
 
 use crate::cut::{Cut, Record};
 use crate::explain::{self, Reason};
 use crate::fields::KINDS;
-use crate::rules;
 use crate::value;
 
 use super::EDGE;
@@ -17,29 +17,18 @@ const COLOURS: [&str; 8] = [
     "#999999", "#6a3d9a", "#1f78b4", "#33a02c", "#ff7f00", "#b2df8a", "#a6cee3", "#fdbf6f",
 ];
 
-pub fn draw(bytes: &[u8], number: u32, offset: u64) -> String {
+pub fn draw(bytes: &[u8], refusal: Refusal) -> String {
     let cut = Cut::new(bytes);
-    let reason = explain::reason(&cut, number, offset);
+    let Refusal { number, offset } = refusal;
+    let reason = explain::reason(&cut, refusal);
     let mut svg = Svg::default();
     let title = format!("Refused {number} at {offset}");
     svg.text("title", EDGE, 30.0, Anchor::Start, &title);
     svg.text("fault", EDGE, 50.0, Anchor::Start, &reason.sentence);
-    if let Some(rule) = rules::rule(number) {
-        svg.text(
-            "",
-            EDGE,
-            66.0,
-            Anchor::Start,
-            &format!("Rule {number}: {}", rule.says),
-        );
-        svg.text(
-            "",
-            EDGE,
-            82.0,
-            Anchor::Start,
-            &format!("To do: {}", rule.remedy),
-        );
-    }
+    let rule = format!("Rule {number}: {}", refusal.rule());
+    svg.text("", EDGE, 66.0, Anchor::Start, &rule);
+    let to_do = format!("To do: {}", refusal.remedy());
+    svg.text("", EDGE, 82.0, Anchor::Start, &to_do);
     strip(&mut svg, &cut, 118.0);
     mark(&mut svg, &cut, &reason, offset, 118.0);
     legend(&mut svg, 190.0);
@@ -62,9 +51,9 @@ fn strip(svg: &mut Svg, cut: &Cut, y: f64) {
         let class = if to - from > 3.0 { "cell" } else { "" };
         svg.tile((from, y), (to - from, 26.0), colour, class, &tip);
     }
-    svg.text("small", EDGE, y - 5.0, Anchor::Start, "bit 0");
+    svg.text("small", EDGE, y - 9.0, Anchor::Start, "bit 0");
     let end = format!("bit {}", cut.bits());
-    svg.text("small", EDGE + WIDTH, y - 5.0, Anchor::End, &end);
+    svg.text("small", EDGE + WIDTH, y - 9.0, Anchor::End, &end);
 }
 
 /// The place of the refusal on the strip.
@@ -76,16 +65,14 @@ fn mark(svg: &mut Svg, cut: &Cut, reason: &Reason, offset: u64, y: f64) {
         None if at == 0 => x(cut, HEAD_BITS),
         None => x(cut, cut.bits()),
     };
-    let width = (to - from).max(4.0);
-    svg.rect("chosen", from, y - 2.0, width, 30.0);
-    let middle = from + width / 2.0;
-    svg.triangle("head", middle, y + 40.0, 6.0, true);
-    let anchor = match middle {
-        m if m < EDGE + 60.0 => Anchor::Start,
-        m if m > EDGE + WIDTH - 60.0 => Anchor::End,
-        _ => Anchor::Middle,
+    svg.rect("refused", from, y - 3.0, (to - from).max(4.0), 32.0);
+    svg.triangle("here", from, y + 40.0, 6.0, true);
+    let (x, anchor) = match from {
+        m if m < EDGE + 60.0 => (m - 6.0, Anchor::Start),
+        m if m > EDGE + WIDTH - 60.0 => (m + 6.0, Anchor::End),
+        m => (m, Anchor::Middle),
     };
-    svg.text("fault", middle, y + 53.0, anchor, &format!("bit {offset}"));
+    svg.text("fault", x, y + 53.0, anchor, &format!("bit {offset}"));
 }
 
 fn legend(svg: &mut Svg, y: f64) {
@@ -95,6 +82,9 @@ fn legend(svg: &mut Svg, y: f64) {
         let name = if kind == 0 { "other kind" } else { KINDS[kind] };
         svg.text("small", x + 16.0, y, Anchor::Start, name);
     }
+    let x = EDGE + 100.0 * COLOURS.len() as f64;
+    svg.rect("field", x, y - 9.0, 12.0, 11.0);
+    svg.text("small", x + 16.0, y, Anchor::Start, "head, or no record");
 }
 
 /// Each field of the refused record with its value; answers the lower edge.

@@ -44,12 +44,14 @@ text{font-family:DejaVu Sans,Verdana,sans-serif;font-size:10px;fill:#222}\
 .name{font-weight:bold}\
 .small{font-size:9px;fill:#555}\
 .cost{font-size:10px;font-weight:bold;fill:#a33c00}\
+.halo{paint-order:stroke;stroke:#fff;stroke-width:3px}\
+.number{font-size:9px}\
+.many{font-size:9px;fill:#00734f}\
 .pale{fill:#fff}\
 .fault{fill:#b00020;font-weight:bold}\
 .shaft{fill:#f6f6f6;stroke:#ccc}\
 .floor{stroke:#bbb;stroke-width:1}\
-.lead{stroke:#ccc;stroke-width:0.7}\
-.guide{stroke:#e4e4e4;stroke-width:0.8}\
+.guide{stroke:#dcdcdc;stroke-width:0.8}\
 .served{fill:#777}\
 .barred{stroke:#b00020;stroke-width:1.6}\
 .call{fill:none;stroke:#0072b2;stroke-width:1.6}\
@@ -61,6 +63,8 @@ text{font-family:DejaVu Sans,Verdana,sans-serif;font-size:10px;fill:#222}\
 .arrow{stroke:#d55e00;stroke-width:2.2;fill:none}\
 .head{fill:#d55e00}\
 .cell{stroke:#fff;stroke-width:1}\
+.refused{fill:none;stroke:#b00020;stroke-width:2.6}\
+.here{fill:#b00020}\
 .chosen{fill:none;stroke:#d55e00;stroke-width:2.6}\
 .unsent{fill:none;stroke:#222;stroke-width:1.6;stroke-dasharray:3 2}\
 .field{fill:#fff;stroke:#999}\
@@ -139,6 +143,22 @@ impl Svg {
     }
 }
 
+/// How wide a text is, at the most: the widest digit or letter of its class, but for m and w.
+pub fn width(class: &str, text: &str) -> f64 {
+    let each = match class {
+        "title" => 8.8,
+        "name" | "cost" | "fault" => 7.0,
+        _ => 5.8,
+    };
+    each * text.chars().count() as f64
+}
+
+/// The width of the widest.
+pub fn widest(class: &str, texts: &[String]) -> f64 {
+    let widths = texts.iter().map(|text| width(class, text));
+    widths.fold(0.0, f64::max)
+}
+
 /// A number for a label, in at most four digits.
 pub fn short(value: f64) -> String {
     let size = value.abs();
@@ -146,7 +166,8 @@ pub fn short(value: f64) -> String {
         return "0".into();
     }
     if !(0.001..1e6).contains(&size) {
-        return format!("{value:.2e}");
+        let text = format!("{value:.2e}");
+        return text.replace(".00e", "e");
     }
     let decimals = match size {
         _ if size >= 1_000.0 => 0,
