@@ -92,7 +92,8 @@ fn labels(sheet: &Sheet, chosen: &Chosen, heights: &Heights) -> Vec<Label> {
         if riding > 0 {
             more.push(format!("{riding} riding"));
         }
-        if has_demand && !chosen.pending.contains(&stop.id) {
+        let known = chosen.pending.len() == chosen.pass.stops;
+        if known && has_demand && !chosen.pending.contains(&stop.id) {
             more.push("not pending".into());
         }
         Label {

@@ -117,6 +117,7 @@ impl Table {
 fn column_names(chosen: &Chosen) -> Vec<String> {
     let name = |k: usize| match chosen.pending.get(k) {
         Some(stop) => format!("stop {stop}"),
+        None if k < chosen.pass.stops => format!("column {}", k + 1),
         None => "spare".into(),
     };
     (0..chosen.pass.columns()).map(name).collect()

@@ -5,7 +5,8 @@ use sheetgen::Sheet;
 
 /// The ids of the pending stops in the order of the columns, which rise by id. A pass answers only how many there are. Without
 /// its waiting riders and its demand a stop is not pending, and whether another one is rests on other records; so a pass of
-/// the sheet without them answers one less exactly where the stop was pending.
+/// the sheet without them answers one less exactly where the stop was pending. Were they ever not as many as the pass answers,
+/// none is named.
 pub fn pending(sheet: &Sheet, pass: &Pass) -> Vec<u32> {
     let is_pending = |id: &u32| {
         let mut without = sheet.clone();
@@ -15,7 +16,12 @@ pub fn pending(sheet: &Sheet, pass: &Pass) -> Vec<u32> {
             && dispatch_bench::pass(&without.write()).is_ok_and(|other| other.stops < pass.stops)
     };
     let ids = sheet.stops.iter().map(|stop| stop.id);
-    ids.filter(is_pending).collect()
+    let found: Vec<u32> = ids.filter(is_pending).collect();
+    if found.len() == pass.stops {
+        found
+    } else {
+        Vec::new()
+    }
 }
 
 #[cfg(test)]
