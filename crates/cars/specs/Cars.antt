@@ -37,7 +37,7 @@ noCar =
       calls = 0;
     }
 
--- the cars of a sheet, in record order
+-- the cars of a sheet, in record order; what stands past the last record is free
 pub record HoldsCars (s : Sheet) (cars : List Car) : Type 0 where
   pub size : length cars ≡ 32
   pub each : (i : ℕ) → i < s .cars → getD cars i noCar ≡ s .car i

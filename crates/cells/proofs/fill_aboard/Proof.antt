@@ -19,9 +19,11 @@ returns c =
     let n = a .c .aboards in
     let at = c .before .before .before .before .before .before .before .before .aboards-from in
     let first = c .before .before .before .before .before .before .fill32 in
-    let second = c .before .before .fill322 in (
-      (first .ensures .0, first .ensures .1 ∙ ap (λ (x : ℕ). tab (λ i. fieldAt b (x + 87 * i + 22) 32) n ++ drop n (a .acar .now)) (at .ensures)),
-      (second .ensures .0, second .ensures .1 ∙ ap (λ (x : ℕ). tab (λ i. fieldAt b (x + 87 * i + 55) 32) n ++ drop n (a .adest .now)) (at .ensures)),
+    let second = c .before .before .fill322 in
+    let cars : first .last .1 .1 .1 .1 .1 .0 ≡ tab (λ i. fieldAt b (at .result + 87 * i + 22) 32) n ++ drop n (a .acar .now) = first .ensures .1 in
+    let destinations : second .last .1 .1 .1 .1 .1 .0 ≡ tab (λ i. fieldAt b (at .result + 87 * i + 55) 32) n ++ drop n (a .adest .now) = second .ensures .1 in (
+      (first .ensures .0, cars ∙ ap (λ (x : ℕ). tab (λ i. fieldAt b (x + 87 * i + 22) 32) n ++ drop n (a .acar .now)) (at .ensures)),
+      (second .ensures .0, destinations ∙ ap (λ (x : ℕ). tab (λ i. fieldAt b (x + 87 * i + 55) 32) n ++ drop n (a .adest .now)) (at .ensures)),
     )
 
 pub fill-aboard-spec : {M : Type 1} → statement M
