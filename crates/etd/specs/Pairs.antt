@@ -1,24 +1,42 @@
 -- ETD's cost and rank from what is held: the demand stops as a mask over n positions, the riders' destinations as a list. Assumes nothing.
 use Prim.Native.Nat.{ℕ, _+_}
-use mathlib.Core.Path.{_≡_, refl, ap, _∙_}
-use mathlib.Core.Bool.{false, _&&_, cond}
+use mathlib.Core.Path.{_≡_, refl, sym, ap, _∙_}
+use mathlib.Core.Bool.{Bool, true, false, _&&_, cond}
 use mathlib.Core.List.{List}
 use lib.ListN.{getD}
-use lib.Ieee.{Float, nan, lt}
+use lib.Ieee.{Float, nan, lt, neg}
 use Rattle.laws.specs.Bools.{bit}
 use Rattle.laws.specs.Folds.{fold, count, count-step}
-use Rattle.fp.specs.Num.{zero, plus, over, distance}
+use Rattle.fp.specs.Num.{zero, half, plus, times, over, distance, maxZero, fma}
 use Rattle.mask.specs.Mask.{has}
 use Rattle.components.specs.declared.Car.{Car}
 use Rattle.components.specs.declared.Policy.{Policy}
 use Rattle.components.specs.declared.Place.{Place}
+use Rattle.components.specs.declared.Place.the-variants.{At}
 use Rattle.components.specs.declared.Rank.{Rank}
 use Rattle.components.specs.declared.Rank.the-variants.{Never}
 use Rattle.manifest.specs.declared.Waiters.{Waiters}
 use Rattle.riders.specs.declared.Riders.{Riders}
 use Rattle.dispatch.specs.Waits.{withBonus}
 use Rattle.dispatch.specs.Pairs.{usefulBy}
-use Rattle.etd.specs.Etd.{intervenes, doorCost, extraDelay, directionBonus, weighted, finiteRank}
+use Rattle.etd.specs.Etd.{intervenes, doorCost, extraDelay, isAhead, movingBonus, directionBonus, weighted, finiteRank}
+
+-- the bonus of a moving car, by whether its goal lies ahead
+module _ (x p travel : Float) (goal : Place) {g : Float} (at : goal ≡ At g) {ahead : Bool} (e : ahead ≡ isAhead x p g) where
+  as-ahead : (b : Bool) → ahead ≡ b → cond b (times (neg travel) half) zero ≡ movingBonus x p travel goal
+  as-ahead b t = ap (λ (c : Bool). cond c (times (neg travel) half) zero) (sym t ∙ e) ∙ sym (ap (movingBonus x p travel) at)
+
+  pub bonus-ahead : ahead ≡ true → times (neg travel) half ≡ movingBonus x p travel goal
+  bonus-ahead t = as-ahead true t
+
+  pub bonus-behind : ahead ≡ false → zero ≡ movingBonus x p travel goal
+  bonus-behind t = as-ahead false t
+
+-- the weighted sum, term by term
+pub weighted-by : (wait delay door travel riders doors bonus : Float) {a b d r : Float} → a ≡ fma door doors bonus → b ≡ fma delay riders a → d ≡ fma wait travel b
+    → r ≡ maxZero d → r ≡ weighted wait delay door travel riders doors bonus
+unfolding weighted
+weighted-by wait delay door travel riders doors bonus ea eb ed er = er ∙ ap maxZero (ed ∙ ap (fma wait travel) (eb ∙ ap (fma delay riders) ea))
 
 -- the demand stops between a car at x and a stop at p
 unfoldable pub interveningIn : Float → Float → ℕ → List Float → ℕ → ℕ
