@@ -1,7 +1,7 @@
 -- The stages of a pass put together. Assumes nothing.
 use Prim.Native.Nat.{ℕ, _+_, _*_, _≤_, _<_, max}
 use mathlib.Core.Path.{_≡_, refl, sym, ap, _∙_, subst}
-use mathlib.Core.Bool.{Bool, true, false, _||_}
+use mathlib.Core.Bool.{true, false, _||_}
 use mathlib.Core.List.{List, _++_}
 use native.Mathlib.Omega.{arith}
 use lib.Dec.{ltb}
@@ -33,15 +33,14 @@ use Rattle.assignment.specs.CellLaws.{Small, columns-le, cells-fit}
 use Rattle.pending.specs.Masks.{stopMask}
 use Rattle.rows.specs.KeptLaws.{keptNumber}
 use Rattle.rows.specs.RowLaws.{Listed}
-use Rattle.rows.specs.MatrixLaws.{Rows, FilledRows, listed-count, listed-stop}
+use Rattle.rows.specs.MatrixLaws.{FilledRows, listed-count, listed-stop}
 use Rattle.cells.specs.Survey.{Survey, idleMask, rows-listed}
 use Rattle.decisions.specs.Decisions.{Filled, decisionBy}
 use Rattle.decisions.specs.DecisionLaws.{total-same, filled, decisions-same}
-use Rattle.outcome.specs.Outcome.{decisionsOf, cellsOf, rankedMost, refusal1, outcome, decisionsLeft, cellsLeft, sweepsLeft}
+use Rattle.outcome.specs.Outcome.{decisionsOf, cellsOf, refusal1, outcome, decisionsLeft, cellsLeft, sweepsLeft}
 use Rattle.bench.specs.declared.Answer.{Answer}
 use Rattle.bench.specs.declared.Answer.the-variants.{Passed}
 use Rattle.bench.specs.Answers.{answerOf, rankedOf, rankedBound}
-use Rattle.outcome.specs.Bound.{ranked-bound}
 
 -- the stops with their ids and positions, and the masks of those with a call without a rider, with demand, and pending
 pub record Masks (s : Sheet) (ids : List ℕ) (xs : List Float) (calls demand mask : ℕ) : Type 0 where

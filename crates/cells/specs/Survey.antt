@@ -1,27 +1,25 @@
 -- What a pass has read of an accepted sheet before it fills rows. Assumes nothing.
-use Prim.Native.Nat.{ℕ, _+_, _*_, _≤_, _<_}
+use Prim.Native.Nat.{ℕ, _+_, _≤_, _<_}
 use mathlib.Core.Path.{_≡_, refl, sym, ap, _∙_}
-use mathlib.Core.Bool.{Bool, _&&_}
+use mathlib.Core.Bool.{_&&_}
 use mathlib.Core.List.{List, _++_}
 use mathlib.Core.Logic.{⊎-elim}
 use native.Mathlib.Omega.{arith}
 use lib.Dec.{ltb}
 use lib.ListN.{length, getD}
-use lib.Ieee.{Float, nan, ofBits, binary64}
+use lib.Ieee.{Float, nan}
 use borrow.Author.Tests.{le-ltb}
 use Rattle.laws.specs.Bools.{less?}
 use Rattle.laws.specs.Folds.{count-le}
 use Rattle.laws.specs.Tables.{tab, filtered, length-filtered, front-length}
 use Rattle.mask.specs.Mask.{has, built}
 use Rattle.mask.specs.MaskLaws.{built-cong}
-use Rattle.bits.specs.Field.{fieldAt}
 use Rattle.columns.specs.Held.{held}
 use Rattle.components.specs.declared.Car.{Car}
 use Rattle.components.specs.Sheet.{Sheet}
 use Rattle.layout.specs.declared.Counts.{Counts}
 use Rattle.layout.specs.declared.Reading.the-variants.{Accepted}
-use Rattle.layout.specs.Offsets.{waitsFrom}
-use Rattle.layout.specs.Records.{sheetOf, waitingOf}
+use Rattle.layout.specs.Records.{sheetOf}
 use Rattle.layout.specs.Verdict.{verdict}
 use Rattle.cars.specs.Cars.{noCar, HoldsCars}
 use Rattle.accepted.specs.Sound.{SoundSheet}
@@ -36,11 +34,9 @@ use Rattle.manifest.specs.Holds.{HoldsAboard, HoldsWaiting}
 use Rattle.manifest.specs.Stops.{HoldsStops}
 use Rattle.dispatch.specs.WaitersLaws.{Weighed, HoldsWaiters}
 use Rattle.assignment.specs.Pending.{pending, idle, idleCars, rowCar}
-use Rattle.assignment.specs.Demand3.{Rising}
 use Rattle.outcome.specs.TwoSheets.{rising-of}
 use Rattle.pending.specs.Masks.{stopMask}
 use Rattle.rows.specs.RowLaws.{nobody, Listed}
-use Rattle.rows.specs.HeldLaws.{Held}
 use Rattle.rows.specs.MatrixLaws.{Ready, Rows, listed-number, listed-at, listed-below}
 
 -- what waits at every stop
@@ -79,22 +75,17 @@ holds-aboard s acar adest r q e f =
       bound-for = λ j l. held (λ a. s .aboard a .destination) (s .aboards) q adest f 0 j l;
     }
 
--- read from a bit on
-pub holds-waiting : (b : List ℕ) (c : Counts) (at : ℕ) → at ≡ waitsFrom c → (wstop wdest : List ℕ) (wweight : List Float) (wwait : List ℕ)
-    (r q : List ℕ) (u : List Float) (t : List ℕ)
-    → wstop ≡ tab (λ i. fieldAt b (at + 248 * i + 22) 32) (c .waits) ++ r → wdest ≡ tab (λ i. fieldAt b (at + 248 * i + 88) 32) (c .waits) ++ q
-    → wweight ≡ tab (λ i. ofBits binary64 (fieldAt b (at + 248 * i + 120) 64)) (c .waits) ++ u
-    → wwait ≡ tab (λ i. fieldAt b (at + 248 * i + 184) 64) (c .waits) ++ t → HoldsWaiting (sheetOf b c) wstop wdest wweight wwait (c .waits)
-unfolding sheetOf waitingOf
-holds-waiting b c at base wstop wdest wweight wwait r q u t e f g h =
+pub holds-waiting : (s : Sheet) (wstop wdest : List ℕ) (wweight : List Float) (wwait : List ℕ) (r q : List ℕ) (u : List Float) (t : List ℕ)
+    → wstop ≡ tab (λ w. s .waiting w .stop) (s .waits) ++ r → wdest ≡ tab (λ w. s .waiting w .destination) (s .waits) ++ q
+    → wweight ≡ tab (λ w. s .waiting w .weight) (s .waits) ++ u → wwait ≡ tab (λ w. s .waiting w .wait) (s .waits) ++ t
+    → HoldsWaiting s wstop wdest wweight wwait (s .waits)
+holds-waiting s wstop wdest wweight wwait r q u t e f g h =
     record {
       counted = refl;
-      stop-of = λ j l. held (λ i. fieldAt b (at + 248 * i + 22) 32) (c .waits) r wstop e 0 j l ∙ ap (λ (x : ℕ). fieldAt b (x + 248 * j + 22) 32) base;
-      bound-for = λ j l. held (λ i. fieldAt b (at + 248 * i + 88) 32) (c .waits) q wdest f 0 j l ∙ ap (λ (x : ℕ). fieldAt b (x + 248 * j + 88) 32) base;
-      weight-of = λ j l.
-          held (λ i. ofBits binary64 (fieldAt b (at + 248 * i + 120) 64)) (c .waits) u wweight g nan j l
-          ∙ ap (λ (x : ℕ). ofBits binary64 (fieldAt b (x + 248 * j + 120) 64)) base;
-      ticks-of = λ j l. held (λ i. fieldAt b (at + 248 * i + 184) 64) (c .waits) t wwait h 0 j l ∙ ap (λ (x : ℕ). fieldAt b (x + 248 * j + 184) 64) base;
+      stop-of = λ j l. held (λ w. s .waiting w .stop) (s .waits) r wstop e 0 j l;
+      bound-for = λ j l. held (λ w. s .waiting w .destination) (s .waits) q wdest f 0 j l;
+      weight-of = λ j l. held (λ w. s .waiting w .weight) (s .waits) u wweight g nan j l;
+      ticks-of = λ j l. held (λ w. s .waiting w .wait) (s .waits) t wwait h 0 j l;
     }
 
 -- ---- the idle cars

@@ -43,6 +43,29 @@ pub fn fill_aboard(s: &[u8], c: Counts, acar: &mut [u32], adest: &mut [u32])
     columns::fill32(s, at, 87, 55, n, adest);
 }
 
+// The stops, destinations, weights and wait ticks of those who wait.
+fn fill_waits(
+    s: &[u8],
+    c: Counts,
+    wstop: &mut [u32],
+    wdest: &mut [u32],
+    wweight: &mut [f64],
+    wwait: &mut [u64],
+)
+    requires { ⌜ Small c × (length (now wstop) ≡ 512) × (length (now wdest) ≡ 512) × (length (now wweight) ≡ 512) × (length (now wwait) ≡ 512) ⌝ }
+    ensures stops { λ _. ⌜ (length (now (wstop .exit)) ≡ length (now (wstop .entry))) × (now (wstop .exit) ≡ tab (λ w. sheetOf (now (s .entry)) c .waiting w .stop) (c .waits) ++ drop (c .waits) (now (wstop .entry))) ⌝ }
+    ensures destinations { λ _. ⌜ (length (now (wdest .exit)) ≡ length (now (wdest .entry))) × (now (wdest .exit) ≡ tab (λ w. sheetOf (now (s .entry)) c .waiting w .destination) (c .waits) ++ drop (c .waits) (now (wdest .entry))) ⌝ }
+    ensures weights { λ _. ⌜ (length (now (wweight .exit)) ≡ length (now (wweight .entry))) × (now (wweight .exit) ≡ tab (λ w. sheetOf (now (s .entry)) c .waiting w .weight) (c .waits) ++ drop (c .waits) (now (wweight .entry))) ⌝ }
+    ensures waits { λ _. ⌜ (length (now (wwait .exit)) ≡ length (now (wwait .entry))) × (now (wwait .exit) ≡ tab (λ w. sheetOf (now (s .entry)) c .waiting w .wait) (c .waits) ++ drop (c .waits) (now (wwait .entry))) ⌝ }
+{
+    let n = c.waits as usize;
+    let at = c.waits_from();
+    columns::fill32(s, at, 248, 22, n, wstop);
+    columns::fill32(s, at, 248, 88, n, wdest);
+    columns::fill_doubles(s, at, 248, 120, n, wweight);
+    columns::fill64(s, at, 248, 184, n, wwait);
+}
+
 // What waits at each stop.
 pub fn waiting<'a>(
     s: &'a [u8],
@@ -58,12 +81,7 @@ pub fn waiting<'a>(
     let mut wdest = [0u32; 512];
     let mut wweight = [0.0f64; 512];
     let mut wwait = [0u64; 512];
-    let n = c.waits as usize;
-    let at = c.waits_from();
-    columns::fill32(s, at, 248, 22, n, &mut wstop);
-    columns::fill32(s, at, 248, 88, n, &mut wdest);
-    columns::fill_doubles(s, at, 248, 120, n, &mut wweight);
-    columns::fill64(s, at, 248, 184, n, &mut wwait);
+    fill_waits(s, c, &mut wstop, &mut wdest, &mut wweight, &mut wwait);
     rows::waiters_of(
         ids,
         xs,
@@ -73,7 +91,7 @@ pub fn waiting<'a>(
         &wdest,
         &wweight,
         &wwait,
-        n,
+        c.waits as usize,
     )
 }
 

@@ -1,7 +1,7 @@
 -- A row of cells is that of the sheet's matrix. Assumes nothing.
 use Prim.Native.Nat.{ℕ, _+_, _*_, _-_, _≤_, _<_}
 use mathlib.Core.Path.{_≡_, refl, sym, ap, ap₂, _∙_}
-use mathlib.Core.Bool.{Bool, true, false, _&&_, cond}
+use mathlib.Core.Bool.{Bool, false, _&&_}
 use mathlib.Core.List.{List, _++_}
 use mathlib.Core.Logic.{⊎-elim}
 use native.Mathlib.Omega.{arith}
@@ -11,7 +11,7 @@ use lib.Ieee.{Float}
 use borrow.Author.Tests.{lt-ltb, le-ltb}
 use Rattle.laws.specs.Bools.{less?}
 use Rattle.laws.specs.Folds.{count, count-le, count-cong, count-below, nth, nth-cong, nth-is, nth-below}
-use Rattle.laws.specs.Tables.{tab, tabs, tab-cong, tabs-next, tabs-length, mul-next, filtered, getD-filtered}
+use Rattle.laws.specs.Tables.{tab, tabs, tab-cong, tabs-next, tabs-length, mul-next, getD-filtered}
 use Rattle.laws.specs.Sums.{sum, sum-next}
 use Rattle.mask.specs.Mask.{has, built}
 use Rattle.mask.specs.MaskLaws.{has-built}

@@ -4,9 +4,8 @@ use Rattle.bits.specs.Field.{fieldAt}
 use Rattle.laws.specs.Tables.{tab}
 use Rattle.layout.specs.Records.{sheetOf, aboardOf}
 use borrow.Author.Needs.{needs}
-use lib.Ieee.{ofBits, binary64}
 use lib.ListN.{drop}
-use mathlib.Core.List.{List, _++_}
+use mathlib.Core.List.{_++_}
 use mathlib.Core.Path.{_≡_, ap, _∙_}
 use Rattle.cells.proofs.fill_aboard.Statement.{statement}
 use Rattle.cells.proofs.fill_aboard.Tie as tie
