@@ -17,6 +17,7 @@ use Rattle.layout.specs.declared.Reading.the-variants.{Refused, Accepted}
 use Rattle.layout.specs.Records.{sheetOf}
 use Rattle.layout.specs.Verdict.{verdict}
 use Rattle.assignment.specs.Cells.{rank}
+use Rattle.lists.specs.Turns.{Reached}
 use Rattle.replay_ranks.specs.declared.Answer.{Answer}
 use Rattle.replay_ranks.specs.declared.Pair.{Pair}
 use Rattle.replay_ranks.specs.declared.Case.{Case}
@@ -99,19 +100,15 @@ turnOf s at t =
     let b = take (case .end - (at + 2)) (drop (at + 2) s) in
     cond (ltb (length s) (case .next)) (cutAt s t) (comparedBy (verdict b) s b case t)
 
--- after k cases, or all of them where there are fewer
-unfoldable pub stepsOf : List ℕ → ℕ → Step
-stepsOf s zero = record { next = 0; totals = record { sheets = 0; ranks = 0; differ = 0 } }
-stepsOf s (suc k) = let p = stepsOf s k in cond (ltb (p .next) (length s)) (turnOf s (p .next) (p .totals)) p
-
 -- byte at is reached with these totals
-pub record Reached (s : List ℕ) (at : ℕ) (t : Totals) : Type 0 where
-  pub cases : ℕ
-  pub all : stepsOf s cases ≡ record { next = at; totals = t }
+abbrev pub Met : List ℕ → ℕ → Totals → Type 0
+Met s at t =
+    Reached (λ (p : Step). p .next) (λ p. turnOf s (p .next) (p .totals)) (record { next = 0; totals = record { sheets = 0; ranks = 0; differ = 0 } }) (length s)
+    (record { next = at; totals = t })
 
 -- the totals after the whole list
 abbrev pub Replayed : List ℕ → Totals → Type 0
-Replayed s t = Reached s (length s) t
+Replayed s t = Met s (length s) t
 
 -- ---- bounds
 

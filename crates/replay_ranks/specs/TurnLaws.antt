@@ -11,10 +11,11 @@ use Rattle.layout.specs.declared.Reading.{Reading}
 use Rattle.layout.specs.declared.Reading.the-variants.{Refused, Accepted}
 use Rattle.layout.specs.Records.{sheetOf}
 use Rattle.layout.specs.Verdict.{verdict}
+use Rattle.lists.specs.Turns.{reached-start, reached-next}
 use Rattle.replay_ranks.specs.declared.Case.{Case}
 use Rattle.replay_ranks.specs.declared.Totals.{Totals}
 use Rattle.replay_ranks.specs.declared.Step.{Step}
-use Rattle.replay_ranks.specs.Ranks.{differs, caseAt, pairAt, refusedAt, comparedBy, cutAt, turnOf, stepsOf, Reached, Counted, Inside}
+use Rattle.replay_ranks.specs.Ranks.{differs, caseAt, pairAt, refusedAt, comparedBy, cutAt, turnOf, Met, Replayed, Counted, Inside}
 
 -- ---- a case
 
@@ -93,13 +94,15 @@ turn-whole s at t {case} {r} e l h er =
 
 -- ---- all turns
 
-pub reached-start : (s : List ℕ) → Reached s 0 (record { sheets = 0; ranks = 0; differ = 0 })
-unfolding stepsOf
-reached-start s = record { cases = 0; all = refl }
+pub met-start : (s : List ℕ) → Met s 0 (record { sheets = 0; ranks = 0; differ = 0 })
+met-start s =
+    reached-start (λ (p : Step). p .next) (λ p. turnOf s (p .next) (p .totals)) (record { next = 0; totals = record { sheets = 0; ranks = 0; differ = 0 } })
+    (length s)
 
-pub reached-next : (s : List ℕ) (at : ℕ) (t : Totals) {r : Step} → Reached s at t → at < length s → r ≡ turnOf s at t → Reached s (r .next) (r .totals)
-unfolding stepsOf
-reached-next s at t {r} h l e = record { cases = suc (h .cases); all = rw (h .all, lt-ltb at (length s) l) (sym e) }
+pub met-next : (s : List ℕ) (at : ℕ) (t : Totals) {r : Step} → Met s at t → at < length s → r ≡ turnOf s at t → Met s (r .next) (r .totals)
+met-next s at t {r} h l e =
+    reached-next (λ (p : Step). p .next) (λ p. turnOf s (p .next) (p .totals)) (record { next = 0; totals = record { sheets = 0; ranks = 0; differ = 0 } })
+    (length s) (record { next = at; totals = t }) {r = r} h l e
 
-pub reached-end : (s : List ℕ) (at : ℕ) (t : Totals) → Reached s at t → at ≤ length s → length s ≤ at → Reached s (length s) t
-reached-end s at t h a b = let e : at ≡ length s = omega arith in subst (λ (z : ℕ). Reached s z t) e h
+pub met-end : (s : List ℕ) (at : ℕ) (t : Totals) → Met s at t → at ≤ length s → length s ≤ at → Replayed s t
+met-end s at t h a b = let e : at ≡ length s = omega arith in subst (λ (z : ℕ). Met s z t) e h

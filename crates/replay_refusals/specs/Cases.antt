@@ -1,14 +1,22 @@
 -- What a stored case asks, and what the reader answers. Assumes nothing.
-use Prim.Native.Nat.{ℕ, _+_, _≤_}
+use Prim.Native.Nat.{ℕ, _+_, _-_, _≤_, _<_}
+use mathlib.Core.Path.{_≡_, ap, ap₂, _∙_, subst}
+use mathlib.Core.Bool.{Bool, not, _&&_, cond}
 use mathlib.Core.List.{List}
-use lib.ListN.{take, drop}
+use native.Mathlib.Omega.{arith}
+use lib.Dec.{eqb, ltb}
+use lib.ListN.{length, take, drop}
+use borrow.Author.Tests.{lt-ltb, le-ltb}
+use Rattle.laws.specs.Bools.{bit, bit-lt}
 use Rattle.layout.specs.declared.Reading.{Reading}
 use Rattle.layout.specs.declared.Reading.the-variants.{Refused, Accepted}
 use Rattle.layout.specs.Verdict.{verdict}
 use Rattle.lists.specs.Lists.{number}
+use Rattle.lists.specs.Turns.{Reached, reached-start, reached-next}
 use Rattle.replay_refusals.specs.declared.Answer.{Answer}
 use Rattle.replay_refusals.specs.declared.Case.{Case}
 use Rattle.replay_refusals.specs.declared.Totals.{Totals}
+use Rattle.replay_refusals.specs.declared.Step.{Step}
 
 abbrev pub answerOf : Reading → Answer
 answerOf (Refused n o) = record { number = n; offset = o }
@@ -22,8 +30,116 @@ caseAt s at n =
       expected = record { number = number s (at + 2 + n) 1; offset = number s (at + 2 + n + 1) 4 };
     }
 
+abbrev pub agree : Case → Bool
+agree c = eqb (c .got .number) (c .expected .number) && eqb (c .got .offset) (c .expected .offset)
+
+-- after the case at byte at, with a sheet of n bytes
+unfoldable pub comparedAt : List ℕ → ℕ → ℕ → Totals → Step
+comparedAt s at n t =
+    record {
+      next = at + 7 + n;
+      totals = record {
+        compared = t .compared + 1;
+        accepted = t .accepted + bit (eqb (caseAt s at n .got .number) 0);
+        differ = t .differ + bit (not (agree (caseAt s at n)));
+      };
+    }
+
+-- after a case that is cut short
+abbrev pub cutAt : List ℕ → Totals → Step
+cutAt s t = record { next = length s; totals = record { compared = t .compared; accepted = t .accepted; differ = t .differ + 1 } }
+
+-- after the case at byte at
+unfoldable pub turnOf : List ℕ → ℕ → Totals → Step
+turnOf s at t =
+    cond (ltb (length s - at) 7) (cutAt s t) (cond (ltb (length s - at - 7) (number s at 2)) (cutAt s t) (comparedAt s at (number s at 2) t))
+
+-- byte at is reached with these totals
+abbrev pub Met : List ℕ → ℕ → Totals → Type 0
+Met s at t =
+    Reached (λ (p : Step). p .next) (λ p. turnOf s (p .next) (p .totals)) (record { next = 0; totals = record { compared = 0; accepted = 0; differ = 0 } }) (length s)
+    (record { next = at; totals = t })
+
+-- the totals after the whole list
+abbrev pub Replayed : List ℕ → Totals → Type 0
+Replayed s t = Met s (length s) t
+
 -- no count is above the number of bytes that were read
 pub record Counted (at : ℕ) (t : Totals) : Type 0 where
   pub compared : t .compared ≤ at
   pub accepted : t .accepted ≤ at
   pub differ : t .differ ≤ at
+
+-- ---- laws
+
+pub compared-by : (s : List ℕ) (at n : ℕ) (t : Totals) {c : Case} {took apart : ℕ} {same : Bool} → c ≡ caseAt s at n → took ≡ bit (eqb (c .got .number) 0)
+    → same ≡ agree c → apart ≡ bit (not same)
+    → record { next = at + 7 + n; totals = record { compared = t .compared + 1; accepted = t .accepted + took; differ = t .differ + apart } } ≡ comparedAt s at n t
+unfolding comparedAt
+compared-by s at n t ec et es ea =
+    ap₂
+    (λ (x y : ℕ). record { next = at + 7 + n; totals = record { compared = t .compared + 1; accepted = t .accepted + x; differ = t .differ + y } })
+    (et ∙ ap (λ (k : Case). bit (eqb (k .got .number) 0)) ec) (ea ∙ ap (λ (b : Bool). bit (not b)) (es ∙ ap agree ec))
+
+pub compared-counted : (s : List ℕ) (at n : ℕ) (t : Totals) {r : Step} → r ≡ comparedAt s at n t → Counted at t → Counted (r .next) (r .totals)
+unfolding comparedAt
+compared-counted s at n t {r} e h =
+    rw e (record {
+      compared = omega (arith, h .compared);
+      accepted = omega (arith, h .accepted, bit-lt (eqb (caseAt s at n .got .number) 0));
+      differ = omega (arith, h .differ, bit-lt (not (agree (caseAt s at n))));
+    })
+
+pub compared-next : (s : List ℕ) (at n : ℕ) (t : Totals) {r : Step} → r ≡ comparedAt s at n t → r .next ≡ at + 7 + n
+unfolding comparedAt
+compared-next s at n t e = ap (λ (p : Step). p .next) e
+
+-- what a turn leaves
+pub record Turned (s : List ℕ) (at : ℕ) (t : Totals) (r : Step) : Type 0 where
+  pub is : r ≡ turnOf s at t
+  pub on : at < r .next
+  pub within : r .next ≤ length s
+  pub counted : Counted (r .next) (r .totals)
+
+cut-short : (s : List ℕ) (at : ℕ) (t : Totals) {r : Step} → at < length s → Counted at t → r ≡ cutAt s t → r ≡ turnOf s at t → Turned s at t r
+cut-short s at t {r} l h e is =
+    record {
+      is = is;
+      on = rw e l;
+      within = rw e (omega arith);
+      counted = rw e (record { compared = omega (arith, h .compared); accepted = omega (arith, h .accepted); differ = omega (arith, h .differ) });
+    }
+
+pub turn-headless : (s : List ℕ) (at : ℕ) (t : Totals) {r : Step} → at < length s → Counted at t → length s - at < 7 → r ≡ cutAt s t → Turned s at t r
+unfolding turnOf
+turn-headless s at t l h short e = cut-short s at t l h e (rw (lt-ltb (length s - at) 7 short) e)
+
+pub turn-cut : (s : List ℕ) (at n : ℕ) (t : Totals) {r : Step} → at < length s → Counted at t → 7 ≤ length s - at → n ≡ number s at 2
+    → length s - at - 7 < n → r ≡ cutAt s t → Turned s at t r
+unfolding turnOf
+turn-cut s at n t l h long en short e = cut-short s at t l h e (rw (le-ltb (length s - at) 7 long, lt-ltb (length s - at - 7) (number s at 2) (rw en at short)) e)
+
+pub turn-whole : (s : List ℕ) (at n : ℕ) (t : Totals) {r : Step} → at < length s → Counted at t → 7 ≤ length s - at → n ≡ number s at 2
+    → n ≤ length s - at - 7 → r ≡ comparedAt s at n t → Turned s at t r
+unfolding turnOf
+turn-whole s at n t {r} l h long en whole e =
+    let next = compared-next s at n t e in
+    record {
+      is = rw (le-ltb (length s - at) 7 long, le-ltb (length s - at - 7) (number s at 2) (rw en at whole)) (rw en at e);
+      on = omega (arith, next);
+      within = omega (arith, next);
+      counted = compared-counted s at n t e h;
+    }
+
+pub met-start : (s : List ℕ) → Met s 0 (record { compared = 0; accepted = 0; differ = 0 })
+met-start s =
+    reached-start (λ (p : Step). p .next) (λ p. turnOf s (p .next) (p .totals)) (record { next = 0; totals = record { compared = 0; accepted = 0; differ = 0 } })
+    (length s)
+
+pub met-next : (s : List ℕ) (at : ℕ) (t : Totals) {r : Step} → Met s at t → at < length s → r ≡ turnOf s at t → Met s (r .next) (r .totals)
+met-next s at t {r} h l e =
+    reached-next (λ (p : Step). p .next) (λ p. turnOf s (p .next) (p .totals)) (record { next = 0; totals = record { compared = 0; accepted = 0; differ = 0 } })
+    (length s) (record { next = at; totals = t }) {r = r} h l e
+
+pub met-end : (s : List ℕ) (at : ℕ) (t : Totals) → Met s at t → at ≤ length s → length s ≤ at → Replayed s t
+met-end s at t h a b = let e : at ≡ length s = omega arith in subst (λ (z : ℕ). Met s z t) e h

@@ -12,7 +12,8 @@ use libc::STDOUT_FILENO;
 ghost use mathlib.Core.Path.{_≡_};
 ghost use Prim.Native.Nat.{_+_, _≤_, _<_, _^_, _*_};
 ghost use lib.ListN.{length};
-ghost use Rattle.replay_refusals.specs.Cases.{answerOf, caseAt, Counted};
+ghost use Rattle.laws.specs.Bools.{bit};
+ghost use Rattle.replay_refusals.specs.Cases.{answerOf, caseAt, agree, comparedAt, cutAt, Counted, Turned, Replayed};
 
 // A refusal's number and offset; both 0 where the sheet is accepted.
 struct Answer {
@@ -83,7 +84,9 @@ fn print_answer(before: &[u8], a: Answer) {
 }
 
 // Whether the two answers are equal; where not, both are printed.
-fn agrees(c: Case, at: usize) -> bool {
+fn agrees(c: Case, at: usize) -> bool
+    ensures { λ r. ⌜ r ≡ agree c ⌝ }
+{
     let got = c.got;
     let expected = c.expected;
     if (got.number == expected.number) & (got.offset == expected.offset) {
@@ -98,7 +101,7 @@ fn agrees(c: Case, at: usize) -> bool {
 }
 
 fn one_if(b: bool) -> u64
-    ensures { λ r. ⌜ r ≤ 1 ⌝ }
+    ensures { λ r. ⌜ r ≡ bit b ⌝ }
 {
     if b { 1 } else { 0 }
 }
@@ -106,7 +109,7 @@ fn one_if(b: bool) -> u64
 // The case at byte at, with a sheet of n bytes, compared.
 fn compare(s: &[u8], at: usize, n: usize, t: Totals) -> Step
     requires { ⌜ (at + 7 + n ≤ length (now s)) × Counted at t ⌝ }
-    ensures { λ r. ⌜ (r .next ≡ at + 7 + n) × Counted (r .next) (r .totals) ⌝ }
+    ensures { λ r. ⌜ r ≡ comparedAt (now (s .entry)) at n t ⌝ }
 {
     let compared = t.compared;
     let accepted = t.accepted;
@@ -127,7 +130,7 @@ fn compare(s: &[u8], at: usize, n: usize, t: Totals) -> Step
 // A case that is cut short ends the run, and counts as one that differs.
 fn cut(s: &[u8], at: usize, t: Totals) -> Step
     requires { ⌜ (at < length (now s)) × Counted at t ⌝ }
-    ensures { λ r. ⌜ (r .next ≡ length (now (s .entry))) × Counted (r .next) (r .totals) ⌝ }
+    ensures { λ r. ⌜ r ≡ cutAt (now (s .entry)) t ⌝ }
 {
     io::write_all(STDOUT_FILENO, b"no whole case at byte ");
     io::print_decimal(STDOUT_FILENO, at as u64);
@@ -144,7 +147,7 @@ fn cut(s: &[u8], at: usize, t: Totals) -> Step
 
 fn turn(s: &[u8], at: usize, t: Totals) -> Step
     requires { ⌜ (at < length (now s)) × Counted at t ⌝ }
-    ensures { λ r. ⌜ (at < r .next) × (r .next ≤ length (now (s .entry))) × Counted (r .next) (r .totals) ⌝ }
+    ensures { λ r. ⌜ Turned (now (s .entry)) at t r ⌝ }
 {
     let left = s.len() - at;
     if left < 7 {
@@ -157,7 +160,9 @@ fn turn(s: &[u8], at: usize, t: Totals) -> Step
     compare(s, at, n, t)
 }
 
-fn run(s: &[u8]) -> Totals {
+fn run(s: &[u8]) -> Totals
+    ensures { λ r. ⌜ Replayed (now (s .entry)) r ⌝ }
+{
     let mut t = Totals {
         compared: 0,
         accepted: 0,

@@ -4,7 +4,9 @@ use libc::STDOUT_FILENO;
 ghost use mathlib.Core.Path.{_≡_};
 ghost use Prim.Native.Nat.{_+_, _≤_, _<_, _^_, _*_};
 ghost use lib.ListN.{length};
-ghost use Rattle.vectors.specs.Vectors.{Whole, Counted, scaleCase, fieldCase};
+ghost use Rattle.laws.specs.Bools.{bit};
+ghost use Rattle.vectors.specs.declared.Vector.the-variants.{Scale, Field};
+ghost use Rattle.vectors.specs.Vectors.{Whole, Counted, fieldVector, vectorAt, scaleCase, fieldCase, agree, stepBy, Turned, Replayed};
 
 // What the proved function answers, and what Rust gave.
 struct Case {
@@ -39,34 +41,43 @@ fn size(x: u8) -> usize
     x as usize
 }
 
-// The vector that starts at byte at.
-fn read(s: &[u8], at: usize) -> Vector
+// The field at byte at, where all of it is there.
+fn field_vector(s: &[u8], at: usize) -> Vector
     requires { ⌜ at < length (now s) ⌝ }
-    ensures { λ r. ⌜ Whole (now (s .entry)) at r ⌝ }
+    ensures { λ r. ⌜ (r ≡ fieldVector (now (s .entry)) at) × Whole (now (s .entry)) at r ⌝ }
 {
     let left = s.len() - at;
-    let tag = s[at];
-    if tag == 1 {
-        if left < 17 {
-            return Vector::Unknown;
-        }
-        return Vector::Scale;
-    }
-    if tag != 2 {
-        return Vector::Unknown;
-    }
     if left < 19 {
         return Vector::Unknown;
     }
     let width = size(s[at + 9]);
     let count = size(s[at + 10]);
-    if width > 64 {
+    if 64 < width {
         return Vector::Unknown;
     }
     if left - 19 < count {
         return Vector::Unknown;
     }
     Vector::Field { width, count }
+}
+
+// The vector that starts at byte at.
+fn read(s: &[u8], at: usize) -> Vector
+    requires { ⌜ at < length (now s) ⌝ }
+    ensures { λ r. ⌜ (r ≡ vectorAt (now (s .entry)) at) × Whole (now (s .entry)) at r ⌝ }
+{
+    let left = s.len() - at;
+    let tag = s[at];
+    if tag == 2 {
+        return field_vector(s, at);
+    }
+    if tag != 1 {
+        return Vector::Unknown;
+    }
+    if left < 17 {
+        return Vector::Unknown;
+    }
+    Vector::Scale
 }
 
 fn scale_case(s: &[u8], at: usize) -> Case
@@ -96,7 +107,9 @@ fn field_case(s: &[u8], at: usize, w: usize, n: usize) -> Case
 }
 
 // Whether the two are equal; where not, both are printed.
-fn agrees(c: Case, at: usize) -> bool {
+fn agrees(c: Case, at: usize) -> bool
+    ensures { λ r. ⌜ r ≡ agree c ⌝ }
+{
     let got = c.got;
     let expected = c.expected;
     if got == expected {
@@ -113,46 +126,53 @@ fn agrees(c: Case, at: usize) -> bool {
 }
 
 fn one_if(b: bool) -> u64
-    ensures { λ r. ⌜ r ≤ 1 ⌝ }
+    ensures { λ r. ⌜ r ≡ bit b ⌝ }
 {
     if b { 1 } else { 0 }
+}
+
+// The cost at byte at, compared.
+fn compare_scale(s: &[u8], at: usize, t: Totals) -> Step
+    requires { ⌜ (at + 17 ≤ length (now s)) × Counted at t ⌝ }
+    ensures { λ r. ⌜ r ≡ stepBy Scale (now (s .entry)) at t ⌝ }
+{
+    let agree = agrees(scale_case(s, at), at);
+    Step {
+        next: at + 17,
+        totals: Totals {
+            scales: t.scales + 1,
+            scales_differ: t.scales_differ + one_if(!agree),
+            fields: t.fields,
+            fields_differ: t.fields_differ,
+        },
+    }
+}
+
+// The field at byte at, of w bits in n bytes, compared.
+fn compare_field(s: &[u8], at: usize, w: usize, n: usize, t: Totals) -> Step
+    requires { ⌜ (w ≤ 64) × (at + 19 + n ≤ length (now s)) × Counted at t ⌝ }
+    ensures { λ r. ⌜ r ≡ stepBy (Field w n) (now (s .entry)) at t ⌝ }
+{
+    let agree = agrees(field_case(s, at, w, n), at);
+    Step {
+        next: at + 19 + n,
+        totals: Totals {
+            scales: t.scales,
+            scales_differ: t.scales_differ,
+            fields: t.fields + 1,
+            fields_differ: t.fields_differ + one_if(!agree),
+        },
+    }
 }
 
 // The vector at byte at, compared. One that is cut short or has another tag ends the run.
 fn turn(s: &[u8], at: usize, t: Totals) -> Step
     requires { ⌜ (at < length (now s)) × Counted at t ⌝ }
-    ensures { λ r. ⌜ (at < r .next) × (r .next ≤ length (now (s .entry))) × Counted (r .next) (r .totals) ⌝ }
+    ensures { λ r. ⌜ Turned (now (s .entry)) at t r ⌝ }
 {
-    let scales = t.scales;
-    let scales_differ = t.scales_differ;
-    let fields = t.fields;
-    let fields_differ = t.fields_differ;
-    let v = read(s, at);
-    match v {
-        Vector::Scale => {
-            let agree = agrees(scale_case(s, at), at);
-            Step {
-                next: at + 17,
-                totals: Totals {
-                    scales: scales + 1,
-                    scales_differ: scales_differ + one_if(!agree),
-                    fields,
-                    fields_differ,
-                },
-            }
-        }
-        Vector::Field { width, count } => {
-            let agree = agrees(field_case(s, at, width, count), at);
-            Step {
-                next: at + 19 + count,
-                totals: Totals {
-                    scales,
-                    scales_differ,
-                    fields: fields + 1,
-                    fields_differ: fields_differ + one_if(!agree),
-                },
-            }
-        }
+    match read(s, at) {
+        Vector::Scale => compare_scale(s, at, t),
+        Vector::Field { width, count } => compare_field(s, at, width, count, t),
         Vector::Unknown => {
             io::write_all(STDOUT_FILENO, b"no vector at byte ");
             io::print_decimal(STDOUT_FILENO, at as u64);
@@ -165,7 +185,9 @@ fn turn(s: &[u8], at: usize, t: Totals) -> Step
     }
 }
 
-fn run(s: &[u8]) -> Totals {
+fn run(s: &[u8]) -> Totals
+    ensures { λ r. ⌜ Replayed (now (s .entry)) r ⌝ }
+{
     let mut t = Totals {
         scales: 0,
         scales_differ: 0,

@@ -1,103 +1,43 @@
 -- vectors::turn meets its contract.
-use Prim.Native.Nat.{_+_, _≤_}
-use native.Mathlib.Omega.{arith}
+use Rattle.vectors.specs.Vectors.{Whole, stepBy, Turned, turned-by}
+use Rattle.vectors.specs.declared.Vector.the-variants.{Scale, Field, Unknown}
 use borrow.Author.Needs.{needs}
-use lib.ListN.{length}
+use mathlib.Core.Path.{_≡_, refl, sym, _∙_}
 use Rattle.vectors.proofs.turn.Statement.{statement}
 use Rattle.vectors.proofs.turn.Tie as tie
 
--- the vector that was read lies inside the bytes
-scale-inside : (c : tie.After-enum-told) → c .before .before .before .before .args .at + 17 ≤ length (c .before .before .before .before .args .s .now)
-scale-inside c = rw (c .enum-told .given .1) at (c .before .before .read .ensures)
+compare-scale-requires : tie.Need-compare-scale-requires
+compare-scale-requires c κs = (rw (c .enum-told .given .1) at (c .before .before .read .ensures .1), c .before .before .before .before .pre .1)
 
-scale-case-requires : tie.Need-scale-case-requires
-scale-case-requires c κs = scale-inside c
-
-add-t17 : tie.Need-add-t17
-add-t17 c = omega (arith, scale-inside (c .before .before))
+compare-field-requires : tie.Need-compare-field-requires
+compare-field-requires c κs = let w = rw (c .before .width .given .1) at (c .before .before .before .read .ensures .1) in (w .0, w .1, c .before .before .before .before .before .pre .1)
 
 returns : tie.Need-returns
 returns c =
-    let k = c .before .before .before .before .before .before .before .pre .1 in
-    let o = c .one-if .ensures in
-    let w = scale-inside (c .before .before .before) in (
-      omega arith,
-      w,
-      record {
-        scales = omega (arith, k .scales);
-        scales-differ = omega (arith, k .scales-differ);
-        fields = omega (arith, k .fields);
-        fields-differ = omega (arith, k .fields-differ);
-      },
-    )
-
-field-inside : (c : tie.After-known-told)
-    → (c .before .v .given .0 .0 ≤ 64)
-    × (c .before .before .before .before .before .args .at + 19 + c .before .v .given .0 .1 .0
-    ≤ length (c .before .before .before .before .before .args .s .now))
-field-inside c = rw (c .before .v .given .1) at (c .before .before .before .read .ensures)
-
-field-case-requires : tie.Need-field-case-requires
-field-case-requires c κs = field-inside c
-
-add-t25 : tie.Need-add-t25
-add-t25 c = omega (arith, field-inside (c .before .before) .1)
+    let a = c .before .before .before .before .before .args in
+    let p = c .before .before .before .before .before .pre in
+    let r = c .before .before .before .read in
+    turned-by (a .s .now) (a .at) (a .t) Scale (p .0) (p .1) (sym (c .before .enum-told .given .1) ∙ r .ensures .0) (rw (c .before .enum-told .given .1) at (r .ensures .1)) (c .compare-scale .ensures)
 
 returns-2 : tie.Need-returns-2
 returns-2 c =
-    let k = c .before .before .before .before .before .before .before .before .pre .1 in
-    let o = c .one-if2 .ensures in
-    let w = field-inside (c .before .before .before) .1 in (
-      omega arith,
-      w,
-      record {
-        scales = omega (arith, k .scales);
-        scales-differ = omega (arith, k .scales-differ);
-        fields = omega (arith, k .fields);
-        fields-differ = omega (arith, k .fields-differ);
-      },
-    )
+    let a = c .before .before .before .before .before .before .args in
+    let p = c .before .before .before .before .before .before .pre in
+    let r = c .before .before .before .before .read in
+    let e = c .before .before .width .given .1 in
+    turned-by (a .s .now) (a .at) (a .t) _ (p .0) (p .1) (sym e ∙ r .ensures .0) (rw e at (r .ensures .1)) (c .compare-field .ensures)
 
 returns-3 : tie.Need-returns-3
+unfolding stepBy
 returns-3 c =
+    let a = c .before .before .before .before .before .before .before .before .before .args in
     let p = c .before .before .before .before .before .before .before .before .before .pre in
-    let k = p .1 in (
-      p .0,
-      omega arith,
-      record {
-        scales = omega (arith, p .0, k .scales);
-        scales-differ = omega (arith, p .0, k .scales-differ);
-        fields = omega (arith, p .0, k .fields);
-        fields-differ = omega (arith, p .0, k .fields-differ);
-      },
-    )
+    let r = c .before .before .before .before .before .before .before .read in
+    let e = c .before .before .before .before .before .enum-told2 .given .1 in
+    turned-by (a .s .now) (a .at) (a .t) Unknown (p .0) (p .1) (sym e ∙ r .ensures .0) (rw e at (r .ensures .1)) refl
 
 pub turn-spec : {M : Type 1} → statement M
 turn-spec =
     tie.close
-    (tie.spec
-    (λ c κs. c .before .pre .0)
-    (λ c. search needs)
-    scale-case-requires
-    (λ c κs. tt)
-    add-t17
-    (λ c. search needs)
-    (λ c κs. tt)
-    (λ c. search needs)
-    (λ c. search needs)
-    field-case-requires
-    (λ c κs. tt)
-    (λ c. omega (arith, field-inside (c .before .before) .1))
-    add-t25
-    (λ c. search needs)
-    (λ c κs. tt)
-    (λ c. search needs)
-    (λ c. search needs)
-    (λ c. search needs)
-    (λ c κs. tt)
-    (λ c κs. tt)
-    (λ c. search needs)
-    (λ c κs. tt)
-    returns
-    returns-2
-    returns-3)
+    (tie.spec (λ c κs. search needs) (λ c. search needs) compare-scale-requires (λ c. search needs) compare-field-requires (λ c. search needs)
+    (λ c. search needs) (λ c κs. search needs) (λ c κs. search needs) (λ c. search needs) (λ c κs. search needs) returns returns-2 returns-3)
