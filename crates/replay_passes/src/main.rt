@@ -15,7 +15,8 @@ use libc::STDOUT_FILENO;
 ghost use mathlib.Core.Path.{_≡_};
 ghost use Prim.Native.Nat.{_+_, _≤_, _<_, _*_, max};
 ghost use lib.ListN.{length};
-ghost use Rattle.replay_passes.specs.Cases.{apart, differing, Inside, Placed, caseDiffers, Counted};
+ghost use Rattle.laws.specs.Bools.{bit};
+ghost use Rattle.replay_passes.specs.Cases.{apart, differing, Inside, Placed, partsOf, caseOf, caseDiffers, differsAt, comparedAt, cutAt, Counted, Turned, Replayed};
 
 // Where the parts of a case lie: the sheet's end, the decisions, the cells, the sweeps and the next case, by byte; and how many idle cars, cells and car
 // records are stored.
@@ -73,7 +74,7 @@ fn columns(n: usize, m: usize) -> usize
 // The parts after a sheet that ends at byte end, with n idle cars and w columns.
 fn parts(s: &[u8], end: usize, n: usize, w: usize) -> Place
     requires { ⌜ (end + 10 ≤ length (now s)) × (n ≤ 32) × (w ≤ 64) ⌝ }
-    ensures { λ r. ⌜ Placed (now (s .entry)) end r ⌝ }
+    ensures { λ r. ⌜ (r ≡ partsOf (now (s .entry)) end n w) × Placed (now (s .entry)) end r ⌝ }
 {
     let size = n * w;
     let left = s.len() - end;
@@ -103,7 +104,7 @@ fn parts(s: &[u8], end: usize, n: usize, w: usize) -> Place
 // The parts of the case at byte at.
 fn case_at(s: &[u8], at: usize) -> Place
     requires { ⌜ at < length (now s) ⌝ }
-    ensures { λ r. ⌜ Placed (now (s .entry)) (at + 2) r ⌝ }
+    ensures { λ r. ⌜ (r ≡ caseOf (now (s .entry)) at) × Placed (now (s .entry)) (at + 2) r ⌝ }
 {
     let left = s.len() - at;
     if left < 2 {
@@ -235,7 +236,7 @@ fn compared<'a>(
 // The pass on the sheet of the case at byte at.
 fn run_case(s: &[u8], at: usize, p: Stored) -> Tally
     requires { ⌜ Inside (now s) (at + 2) p ⌝ }
-    ensures { λ r. ⌜ at + r .differ ≤ p .next ⌝ }
+    ensures { λ r. ⌜ (r .differ ≡ differsAt (now (s .entry)) at p) × (at + r .differ ≤ p .next) ⌝ }
 {
     let start = at + 2;
     let end = p.end;
@@ -293,7 +294,7 @@ fn report(sheet: u64, at: usize, t: Tally) {
 }
 
 fn one_if(b: bool) -> u64
-    ensures { λ r. ⌜ r ≤ 1 ⌝ }
+    ensures { λ r. ⌜ r ≡ bit b ⌝ }
 {
     if b { 1 } else { 0 }
 }
@@ -301,7 +302,7 @@ fn one_if(b: bool) -> u64
 // The case at byte at, compared.
 fn compare(s: &[u8], at: usize, p: Stored, t: Totals) -> Step
     requires { ⌜ Inside (now s) (at + 2) p × Counted at t ⌝ }
-    ensures { λ r. ⌜ (r .next ≡ p .next) × Counted (r .next) (r .totals) ⌝ }
+    ensures { λ r. ⌜ (r ≡ comparedAt (now (s .entry)) at p t) × Counted (r .next) (r .totals) ⌝ }
 {
     let d = run_case(s, at, p);
     report(t.sheets, at, d);
@@ -321,7 +322,7 @@ fn compare(s: &[u8], at: usize, p: Stored, t: Totals) -> Step
 // A case that is cut short ends the run, and counts as a difference.
 fn cut(s: &[u8], at: usize, t: Totals) -> Step
     requires { ⌜ (at < length (now s)) × Counted at t ⌝ }
-    ensures { λ r. ⌜ (r .next ≡ length (now (s .entry))) × Counted (r .next) (r .totals) ⌝ }
+    ensures { λ r. ⌜ (r ≡ cutAt (now (s .entry)) t) × Counted (r .next) (r .totals) ⌝ }
 {
     print_number(b"no whole case at byte ", at as u64);
     io::write_all(STDOUT_FILENO, b"\n");
@@ -338,7 +339,7 @@ fn cut(s: &[u8], at: usize, t: Totals) -> Step
 
 fn turn(s: &[u8], at: usize, t: Totals) -> Step
     requires { ⌜ (at < length (now s)) × Counted at t ⌝ }
-    ensures { λ r. ⌜ (at < r .next) × (r .next ≤ length (now (s .entry))) × Counted (r .next) (r .totals) ⌝ }
+    ensures { λ r. ⌜ Turned (now (s .entry)) at t r ⌝ }
 {
     match case_at(s, at) {
         Place::Whole(p) => compare(s, at, p, t),
@@ -346,7 +347,9 @@ fn turn(s: &[u8], at: usize, t: Totals) -> Step
     }
 }
 
-fn run(s: &[u8]) -> Totals {
+fn run(s: &[u8]) -> Totals
+    ensures { λ r. ⌜ Replayed (now (s .entry)) r ⌝ }
+{
     let mut t = Totals {
         sheets: 0,
         built: 0,

@@ -1,5 +1,5 @@
 -- replay_passes::parts meets its contract.
-use Rattle.replay_passes.specs.Cases.{small-size}
+use Rattle.replay_passes.specs.Cases.{small-size, parts-short, parts-many, parts-cut, parts-whole}
 use borrow.Author.Needs.{needs}
 use mathlib.Core.Path.{_≡_, refl}
 use native.Mathlib.Omega.{arith}
@@ -15,22 +15,36 @@ mul-front-2 c = omega (arith, small-size (c .before .args .n) (c .before .args .
 add-front-2 : tie.Need-add-front-2
 add-front-2 c = omega (arith, small-size (c .before .args .n) (c .before .args .w) (c .before .pre .1) (c .before .pre .2))
 
+returns : tie.Need-returns
+returns c = let a = c .before .before .args in (parts-short (a .s .now) (a .end) (a .n) (a .w) (c .if1 .taken), tt)
+
+returns-2 : tie.Need-returns-2
+returns-2 c = let a = c .before .before .before .before .args in (parts-many (a .s .now) (a .end) (a .n) (a .w) (c .before .before .if1 .left) (c .before .number .ensures .0) (c .if2 .taken), tt)
+
+returns-3 : tie.Need-returns-3
+returns-3 c =
+    let a = c .before .before .before .before .before .args in
+    (parts-cut (a .s .now) (a .end) (a .n) (a .w) (c .before .before .before .if1 .left) (c .before .before .number .ensures .0) (c .before .if2 .left) (c .if3 .taken), tt)
+
 returns-4 : tie.Need-returns-4
 returns-4 c =
-    let p = c .before .before .before .before .before .pre in
-    record {
-      starts = omega arith;
-      few-cars = p .1;
-      few-cells = small-size (c .before .before .before .before .before .args .n) (c .before .before .before .before .before .args .w) (c .before .before .before .before .before .pre .1) (c .before .before .before .before .before .pre .2);
-      few-records = c .before .if2 .left;
-      decisions-from = omega arith;
-      cells-from = omega arith;
-      sweeps-from = omega arith;
-      ends = omega arith;
-      inside = omega (arith, p .0, c .if3 .left);
-    }
+    let a = c .before .before .before .before .before .args in
+    let p = c .before .before .before .before .before .pre in (
+      parts-whole (a .s .now) (a .end) (a .n) (a .w) (c .before .before .before .if1 .left) (c .before .before .number .ensures .0) (c .before .if2 .left) (c .if3 .left),
+      record {
+        starts = omega arith;
+        few-cars = p .1;
+        few-cells = small-size (a .n) (a .w) (p .1) (p .2);
+        few-records = c .before .if2 .left;
+        decisions-from = omega arith;
+        cells-from = omega arith;
+        sweeps-from = omega arith;
+        ends = omega arith;
+        inside = omega (arith, p .0, c .if3 .left);
+      },
+    )
 
 pub parts-spec : {M : Type 1} → statement M
 parts-spec =
     tie.close
-    (tie.spec mul-size (λ c. search needs) (λ c. search needs) (λ c. search needs) mul-front-2 add-front-2 (λ c. search needs) (λ c. search needs) (λ c κs. search needs) (λ c. search needs) (λ c. search needs) (λ c. search needs) (λ c. search needs) (λ c. search needs) (λ c. search needs) (λ c. search needs) (λ c. search needs) (λ c. search needs) (λ c. search needs) (λ c. search needs) (λ c. search needs) (λ c. search needs) returns-4)
+    (tie.spec mul-size (λ c. search needs) (λ c. search needs) (λ c. search needs) mul-front-2 add-front-2 returns (λ c. search needs) (λ c κs. search needs) returns-2 (λ c. search needs) (λ c. search needs) returns-3 (λ c. search needs) (λ c. search needs) (λ c. search needs) (λ c. search needs) (λ c. search needs) (λ c. search needs) (λ c. search needs) (λ c. search needs) (λ c. search needs) returns-4)
