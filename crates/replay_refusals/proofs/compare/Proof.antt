@@ -12,7 +12,7 @@ add-t15 : tie.Need-add-t15
 add-t15 c = let p = c .before .before .before .before .before .pre in omega (arith, c .before .one-if .ensures, bit-lt (eqb (c .before .before .before .case-at .result .got .number) 0), p .1 .accepted, p .0)
 
 add-t17 : tie.Need-add-t17
-add-t17 c = let p = c .before .before .before .before .before .before .pre in omega (arith, c .one-if2 .ensures, bit-lt (not (c .before .agrees .result)), p .1 .differ, p .0)
+add-t17 c = let p = c .before .before .before .before .before .before .pre in omega (arith, c .one-if2 .ensures, bit-lt (not (c .before .agrees .result)), bit-lt (c .before .agrees .result), p .1 .differ, p .0)
 
 returns : tie.Need-returns
 returns c =
