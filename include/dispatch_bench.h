@@ -1,4 +1,4 @@
-/* The dispatch bench, for hosts in C. Build the library with `rt staticlib dispatch_bench`. */
+/* The dispatch bench, for hosts in C. `tools/library` puts the library into target/staticlib. */
 #ifndef DISPATCH_BENCH_H
 #define DISPATCH_BENCH_H
 

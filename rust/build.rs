@@ -1,5 +1,5 @@
-//! Links the static library that `rt staticlib dispatch_bench` writes. The environment variable
-//! DISPATCH_BENCH_LIB names the folder that holds it; the default is ../target/staticlib.
+//! Links the static library that `tools/library` puts into target/staticlib. The environment variable
+//! DISPATCH_BENCH_LIB names another folder that holds it.
 
 use std::path::{Path, PathBuf};
 
@@ -22,7 +22,7 @@ fn main() {
             library.display()
         );
         println!(
-            "cargo::error=make it with `rt staticlib dispatch_bench` in the repository's root, or name its folder in DISPATCH_BENCH_LIB"
+            "cargo::error=run `tools/library` in the repository's root, or name its folder in DISPATCH_BENCH_LIB"
         );
         return;
     }

@@ -4,7 +4,7 @@
 set -eu
 cd "$(dirname "$0")/../../.."
 export ELEVATOR_CORE_SRC="$(realpath "${ELEVATOR_CORE_SRC:-../shared/docs/src}")"
-rt staticlib dispatch_bench >/dev/null
+tools/library >/dev/null
 mkdir -p target/compare
 cc -shared -o target/compare/bench.so -Wl,--whole-archive target/staticlib/libdispatch_bench.a -Wl,--no-whole-archive
 (cd tools/oracle && cargo build --release -j1 --quiet)

@@ -1,4 +1,4 @@
-//! `rt staticlib dispatch_bench`, then `cargo run --release` here. Both readers read the same full sheet (every table full, each id looked up),
+//! `tools/library`, then `cargo run --release` here. Both readers read the same full sheet (every table full, each id looked up),
 //! in turns; the median of each side's times and their ratio are printed.
 
 use sheetgen::{Aboard, Car, Demand, Line, Sheet, Stop, Waiting};
