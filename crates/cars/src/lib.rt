@@ -3,7 +3,7 @@ ghost use mathlib.Core.Path.{_≡_};
 ghost use Prim.Native.Nat.{_<_, _≤_};
 ghost use Rattle.layout.specs.Offsets.{Small};
 ghost use Rattle.layout.specs.Records.{sheetOf};
-ghost use Rattle.cars.specs.Cars.{HoldsCars};
+ghost use Rattle.cars.specs.Cars.{blank, carsIn};
 use components::Car;
 use components::Direction;
 use components::Mode;
@@ -12,7 +12,9 @@ use components::Threshold;
 use layout::Counts;
 
 // What stands where there is no record.
-fn blank() -> Car {
+fn blank() -> Car
+    ensures { λ r. ⌜ r ≡ blank ⌝ }
+{
     Car {
         id: 0,
         line: 0,
@@ -36,10 +38,10 @@ fn blank() -> Car {
     }
 }
 
-// The cars of a sheet, in record order.
+// The cars of a sheet, in record order, then blank ones.
 pub fn cars_of(s: &[u8], c: Counts) -> [Car; 32]
     requires { ⌜ Small c ⌝ }
-    ensures { λ r. ⌜ HoldsCars (sheetOf (now (s .entry)) c) r ⌝ }
+    ensures { λ r. ⌜ r ≡ carsIn (sheetOf (now (s .entry)) c) ⌝ }
 {
     let mut cars = [blank(); 32];
     let n = c.cars;

@@ -21,7 +21,7 @@ use Rattle.layout.specs.declared.Counts.{Counts}
 use Rattle.layout.specs.declared.Reading.the-variants.{Accepted}
 use Rattle.layout.specs.Records.{sheetOf}
 use Rattle.layout.specs.Verdict.{verdict}
-use Rattle.cars.specs.Cars.{noCar, HoldsCars}
+use Rattle.cars.specs.Cars.{noCar, carsIn, HoldsCars, cars-held}
 use Rattle.accepted.specs.Sound.{SoundSheet}
 use Rattle.accepted.specs.Accepted.{accepted}
 use Rattle.fp.specs.Order.{finite-real}
@@ -32,16 +32,13 @@ use Rattle.manifest.specs.World.{stopId, stopAt}
 use Rattle.manifest.specs.Manifest.{riderlessCall, demandStop}
 use Rattle.manifest.specs.Holds.{HoldsAboard, HoldsWaiting}
 use Rattle.manifest.specs.Stops.{HoldsStops}
-use Rattle.dispatch.specs.WaitersLaws.{Weighed, HoldsWaiters}
+use Rattle.dispatch.specs.WaitersLaws.{Weighed}
 use Rattle.assignment.specs.Pending.{pending, idle, idleCars, rowCar}
 use Rattle.outcome.specs.TwoSheets.{rising-of}
 use Rattle.pending.specs.Masks.{stopMask}
-use Rattle.rows.specs.RowLaws.{nobody, Listed}
+use Rattle.rows.specs.RowLaws.{Listed}
+use Rattle.rows.specs.Gathered.{gatheredOf, gathered-held}
 use Rattle.rows.specs.MatrixLaws.{Ready, Rows, listed-number, listed-at, listed-below}
-
--- what waits at every stop
-pub record Waiting (s : Sheet) (waiters : List Waiters) : Type 0 where
-  pub at : (j : ℕ) → j < s .stops → HoldsWaiters s j (getD waiters j nobody)
 
 -- the stops with their ids and positions, the masks of those with a call without a rider, with demand, and pending; the cars; the pending stops and the idle
 -- cars, listed
@@ -116,6 +113,9 @@ rows-listed s cars held few entry list n h =
       below = listed-below (idle s) (s .cars) fit (idleMask cars (s .cars)) e entry n list h;
     }
 
+pub rows-in : (s : Sheet) → s .cars ≤ 32 → (entry list : List ℕ) (n : ℕ) → Listed (idleMask (carsIn s) (s .cars)) entry n list → Rows s list n
+rows-in s few = rows-listed s (carsIn s) (cars-held s (carsIn s) few refl) few
+
 -- a listing keeps the length of its buffer
 pub listed-length : (mask : ℕ) (entry : List ℕ) (m : ℕ) (list : List ℕ) → Listed mask entry m list → length entry ≡ 64 → length list ≡ length entry
 listed-length mask entry m list h e =
@@ -133,7 +133,7 @@ weighed-of s h i l =
 
 pub ready : (bytes : List ℕ) (c : Counts) → verdict bytes ≡ Accepted c → (ids : List ℕ) (xs : List Float) (calls demand mask : ℕ) (stops : List ℕ) (m : ℕ) (cars : List Car) (idle : List ℕ) (n : ℕ)
     → Survey (sheetOf bytes c) ids xs calls demand mask stops m cars idle n → (acar adest : List ℕ) → HoldsAboard (sheetOf bytes c) acar adest (sheetOf bytes c .aboards)
-    → (waiters : List Waiters) → Waiting (sheetOf bytes c) waiters → Ready (sheetOf bytes c) ids xs acar adest mask demand waiters stops m
+    → (waiters : List Waiters) → waiters ≡ gatheredOf (sheetOf bytes c) → Ready (sheetOf bytes c) ids xs acar adest mask demand waiters stops m
 ready bytes c e ids xs calls demand mask stops m cars idle n h acar adest ha waiters hw =
     let sound = accepted bytes c e .sheet in
     record {
@@ -145,7 +145,7 @@ ready bytes c e ids xs calls demand mask stops m cars idle n h acar adest ha wai
         stops-are = h .stops-are;
         demand-is = h .demand-is;
       };
-      waiting = hw .at;
+      waiting = gathered-held (sheetOf bytes c) waiters hw;
       weighed = weighed-of (sheetOf bytes c) sound;
       entry = h .entry;
       listed = h .listed;

@@ -12,9 +12,11 @@ ghost use Rattle.manifest.specs.World.{stopId, stopAt};
 ghost use Rattle.manifest.specs.Stops.{HoldsStops};
 ghost use Rattle.manifest.specs.Manifest.{riderlessCall};
 ghost use Rattle.pending.specs.Masks.{stopMask};
+ghost use Rattle.cars.specs.Cars.{carsIn};
 ghost use Rattle.rows.specs.RowLaws.{Listed};
-ghost use Rattle.rows.specs.MatrixLaws.{Rows, FilledRows};
-ghost use Rattle.cells.specs.Survey.{Survey, Waiting, idleMask};
+ghost use Rattle.rows.specs.MatrixLaws.{FilledRows};
+ghost use Rattle.rows.specs.Gathered.{gatheredOf};
+ghost use Rattle.cells.specs.Survey.{Survey, idleMask};
 use components::Car;
 use layout::Counts;
 use manifest::Waiters;
@@ -75,7 +77,7 @@ pub fn waiting<'a>(
     calls: u64,
 ) -> [Waiters; 64]
     requires { ⌜ Small c × (length (now ids) ≡ 64) × (length (now xs) ≡ 64) × HoldsStops (sheetOf (now s) c) (now ids) (now xs) (c .stops) × (calls ≡ stopMask (sheetOf (now s) c) (riderlessCall (sheetOf (now s) c))) ⌝ }
-    ensures { λ r. ⌜ Waiting (sheetOf (now (s .entry)) c) r ⌝ }
+    ensures { λ r. ⌜ r ≡ gatheredOf (sheetOf (now (s .entry)) c) ⌝ }
 {
     let mut wstop = [0u32; 512];
     let mut wdest = [0u32; 512];
@@ -125,7 +127,7 @@ pub fn list_idle(cars: [Car; 32], n: usize, idle: &mut [usize]) -> usize
 // The records of a sheet's idle cars in order, and how many they are.
 pub fn list_cars(s: &[u8], c: Counts, idle: &mut [usize]) -> usize
     requires { ⌜ Small c × (length (now idle) ≡ 64) ⌝ }
-    ensures { λ r. ⌜ Rows (sheetOf (now (s .entry)) c) (now (idle .exit)) r × (length (now (idle .exit)) ≡ length (now (idle .entry))) ⌝ }
+    ensures { λ r. ⌜ Listed (idleMask (carsIn (sheetOf (now (s .entry)) c)) (c .cars)) (now (idle .entry)) r (now (idle .exit)) × (length (now (idle .exit)) ≡ length (now (idle .entry))) ⌝ }
 {
     list_idle(cars::cars_of(s, c), c.cars as usize, idle)
 }

@@ -31,7 +31,8 @@ use Rattle.ranking.specs.Ranking.{rankBy}
 use Rattle.ranking.specs.RankingLaws.{HoldsRow, rank-is}
 use Rattle.rows.specs.RowLaws.{nobody}
 use Rattle.rows.specs.HeldLaws.{Held}
-use Rattle.cells.specs.Survey.{Waiting, weighed-of}
+use Rattle.rows.specs.Gathered.{gatheredOf, gathered-held}
+use Rattle.cells.specs.Survey.{weighed-of}
 use Rattle.replay_ranks.specs.declared.Answer.{Answer}
 use Rattle.replay_ranks.specs.declared.Pair.{Pair}
 use Rattle.replay_ranks.specs.Ranks.{bitsOf, answerFor, same, differs}
@@ -90,7 +91,7 @@ module _ (bytes : List ℕ) (c : Counts) (e : verdict bytes ≡ Accepted c) (ids
       }
 
   pub ranked : (i j limit : ℕ) → i < sheetOf bytes c .cars → j < sheetOf bytes c .stops → (row : Row) {dests : List Float} → HoldsRow (sheetOf bytes c) i limit row dests
-      → (waiters : List Waiters) → Waiting (sheetOf bytes c) waiters
+      → (waiters : List Waiters) → waiters ≡ gatheredOf (sheetOf bytes c)
       → rankBy row dests (getD waiters j nobody) xs (sheetOf bytes c .stops) j ≡ rank (sheetOf bytes c) i j
   ranked i j limit li lj row {dests} hr waiters hw =
-      rank-is (sheetOf bytes c) ids xs hs i limit (weighed-of (sheetOf bytes c) (accepted bytes c e .sheet) i li) row dests hr j (getD waiters j nobody) (hw .at j lj) lj
+      rank-is (sheetOf bytes c) ids xs hs i limit (weighed-of (sheetOf bytes c) (accepted bytes c e .sheet) i li) row dests hr j (getD waiters j nobody) (gathered-held (sheetOf bytes c) waiters hw j lj) lj

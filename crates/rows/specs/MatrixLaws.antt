@@ -27,7 +27,7 @@ use Rattle.manifest.specs.World.{goalOf}
 use Rattle.manifest.specs.declared.Waiters.{Waiters}
 use Rattle.manifest.specs.Stops.{HoldsStops, positionIn}
 use Rattle.riders.specs.declared.Riders.{Riders}
-use Rattle.riders.specs.Riders.{Seats}
+use Rattle.riders.specs.Riders.{Seats, ridersIn, destsIn}
 use Rattle.dispatch.specs.WaitersLaws.{Weighed, HoldsWaiters}
 use Rattle.assignment.specs.Pending.{pending, pendingStops, columnStop, idleCars, rowCar}
 use Rattle.assignment.specs.Candidates.{kept}
@@ -122,21 +122,46 @@ kept-size s i limit m car few ec e =
     masked-count (keptOf s car limit) (s .stops) few m e
     ∙ count-cong (keptOf s car limit) (kept s i limit) (s .stops) (λ j l. ap (λ (k : Car). keptOf s k limit j) ec ∙ kept-of s i limit j)
 
--- the row of a car by value, whichever record it is
+-- the row of a car by value, from what is held of the sheet
+unfoldable pub rowFor : Sheet → List ℕ → List Float → List ℕ → List ℕ → ℕ → ℕ → ℕ → Car → Row
+rowFor s ids xs acar adest stops demand limit car =
+    record {
+      policy = s .policy;
+      car = car;
+      sweep = sweepBy (s .policy .strategy) car stops demand xs (s .stops);
+      goal = goalOf (positionIn ids xs (s .stops)) (car .phase);
+      riders = ridersIn ids (s .stops) acar adest (car .id) (s .aboards);
+      demand = demand;
+      kept = stopMask s (keptOf s car limit);
+    }
+
+pub row-for-is : (s : Sheet) (ids : List ℕ) (xs : List Float) (acar adest : List ℕ) (stops demand limit : ℕ) (policy : Policy) (car : Car) (sweep : Sweep) (goal : Place) (riders : Riders) (kept : ℕ)
+    → policy ≡ s .policy → riders ≡ ridersIn ids (s .stops) acar adest (car .id) (s .aboards)
+    → goal ≡ goalOf (positionIn ids xs (s .stops)) (car .phase) → sweep ≡ sweepBy (policy .strategy) car stops demand xs (s .stops)
+    → kept ≡ stopMask s (keptOf s car limit)
+    → record { policy = policy; car = car; sweep = sweep; goal = goal; riders = riders; demand = demand; kept = kept } ≡ rowFor s ids xs acar adest stops demand limit car
+unfolding rowFor
+row-for-is s ids xs acar adest stops demand limit policy car sweep goal riders kept ep er eg es ek = rw (es, ep, er, eg, ek) refl
+
+-- it is the row of the record that the car is
 pub record RowOf (s : Sheet) (limit : ℕ) (car : Car) (row : Row) (dests : List Float) : Type 0 where
   pub held : (i : ℕ) → car ≡ s .car i → HoldsRow s i limit row dests
   pub number : (i : ℕ) → car ≡ s .car i → count (has (row .kept)) 64 ≡ keptNumber s limit i
 
 pub row-of : (s : Sheet) (ids : List ℕ) (xs : List Float) (acar adest : List ℕ) (stops demand : ℕ) → Held s ids xs acar adest stops demand
-    → (limit : ℕ) (policy : Policy) (car : Car) (sweep : Sweep) (goal : Place) (riders : Riders) (kept : ℕ) {entry dests : List Float}
-    → policy ≡ s .policy → Seats ids xs (s .stops) acar adest (s .aboards) (car .id) entry riders dests
-    → goal ≡ goalOf (positionIn ids xs (s .stops)) (car .phase) → sweep ≡ sweepBy (policy .strategy) car stops demand xs (s .stops)
-    → kept ≡ stopMask s (keptOf s car limit)
-    → RowOf s limit car (record { policy = policy; car = car; sweep = sweep; goal = goal; riders = riders; demand = demand; kept = kept }) dests
-row-of s ids xs acar adest stops demand h limit policy car sweep goal riders kept ep seats eg es ek =
+    → (limit : ℕ) (car : Car) (row : Row) (entry : List Float) {dests : List Float} → row ≡ rowFor s ids xs acar adest stops demand limit car
+    → dests ≡ destsIn ids (s .stops) acar adest (car .id) xs (s .aboards) ++ drop (row .riders .count) entry → RowOf s limit car row dests
+unfolding rowFor
+row-of s ids xs acar adest stops demand h limit car row entry er ed =
+    let riders : row .riders ≡ ridersIn ids (s .stops) acar adest (car .id) (s .aboards) = ap (λ (r : Row). r .riders) er in
+    let kept : row .kept ≡ stopMask s (keptOf s car limit) = ap (λ (r : Row). r .kept) er in
     record {
-      held = λ i e. row-held s ids xs acar adest stops demand h i limit policy car sweep goal riders kept ep e seats eg es ek;
-      number = λ i e. kept-size s i limit kept car (h .few) e ek;
+      held = λ i e.
+          rw er
+          (row-held s ids xs acar adest stops demand h i limit (s .policy) car (sweepBy (s .policy .strategy) car stops demand xs (s .stops))
+          (goalOf (positionIn ids xs (s .stops)) (car .phase)) (ridersIn ids (s .stops) acar adest (car .id) (s .aboards)) (stopMask s (keptOf s car limit))
+          refl e (record { answered = refl; held = rw riders at ed }) refl refl refl);
+      number = λ i e. kept-size s i limit (row .kept) car (h .few) e kept;
     }
 
 -- a buffer of n cells that holds the row of car i, whichever row that is

@@ -18,9 +18,10 @@ ghost use Rattle.mask.specs.Mask.{has};
 ghost use Rattle.ranking.specs.RankingLaws.{HoldsRow};
 ghost use Rattle.rows.specs.HeldLaws.{Held};
 ghost use Rattle.rows.specs.RowLaws.{Listed, rowCell, Spared, padded};
-ghost use Rattle.rows.specs.Gathered.{Gathered};
+ghost use Rattle.riders.specs.Riders.{destsIn};
+ghost use Rattle.rows.specs.Gathered.{gatheredIn};
 ghost use Rattle.cars.specs.Cars.{noCar, HoldsCars};
-ghost use Rattle.rows.specs.MatrixLaws.{Ready, RowOf, CarNeeds, FilledCar, Rows, FilledRows};
+ghost use Rattle.rows.specs.MatrixLaws.{Ready, rowFor, CarNeeds, FilledCar, Rows, FilledRows};
 use components::Car;
 use layout::Counts;
 use manifest::Waiters;
@@ -133,7 +134,8 @@ pub fn row_for<'a>(
 ) -> Row
     requires { ⌜ Small c × (length (now ids) ≡ 64) × (length (now xs) ≡ 64) × (length (now acar) ≡ 512) × (length (now adest) ≡ 512) × (length (now dests) ≡ 512) ⌝ }
     requires { ⌜ Held (sheetOf (now s) c) (now ids) (now xs) (now acar) (now adest) stops demand ⌝ }
-    ensures { λ r. ⌜ RowOf (sheetOf (now (s .entry)) c) limit car r (now (dests .exit)) × (length (now (dests .exit)) ≡ length (now (dests .entry))) × (r .riders .count ≤ length (now (dests .exit))) ⌝ }
+    ensures row { λ r. ⌜ r ≡ rowFor (sheetOf (now (s .entry)) c) (now (ids .entry)) (now (xs .entry)) (now (acar .entry)) (now (adest .entry)) stops demand limit car ⌝ }
+    ensures dests { λ r. ⌜ (length (now (dests .exit)) ≡ length (now (dests .entry))) × (r .riders .count ≤ length (now (dests .exit))) × (now (dests .exit) ≡ destsIn (now (ids .entry)) (c .stops) (now (acar .entry)) (now (adest .entry)) (car .id) (now (xs .entry)) (c .aboards) ++ drop (r .riders .count) (now (dests .entry))) ⌝ }
 {
     let policy = sheet::policy_at(s, c);
     let n = c.stops as usize;
@@ -167,7 +169,7 @@ pub fn waiters_of<'a>(
     nw: usize,
 ) -> [Waiters; 64]
     requires { ⌜ (n ≤ 64) × (n ≤ length (now ids)) × (n ≤ length (now xs)) × (nw ≤ length (now wstop)) × (nw ≤ length (now wdest)) × (nw ≤ length (now wweight)) × (nw ≤ length (now wwait)) ⌝ }
-    ensures { λ r. ⌜ Gathered (now (ids .entry)) (now (xs .entry)) n calls (now (wstop .entry)) (now (wdest .entry)) (now (wweight .entry)) (now (wwait .entry)) nw n r ⌝ }
+    ensures { λ r. ⌜ r ≡ gatheredIn (now (ids .entry)) (now (xs .entry)) n calls (now (wstop .entry)) (now (wdest .entry)) (now (wweight .entry)) (now (wwait .entry)) nw ⌝ }
 {
     let mut all = [Waiters::none(false); 64];
     let mut j: usize = 0;

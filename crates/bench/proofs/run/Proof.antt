@@ -1,6 +1,6 @@
 -- bench::run meets its contract.
 use Rattle.accepted.specs.Accepted.{accepted}
-use Rattle.cars.specs.Cars.{HoldsCars}
+use Rattle.cars.specs.Cars.{HoldsCars, cars-held}
 use Rattle.cells.specs.Begun.{Begun, begun}
 use Rattle.layout.specs.Records.{sheetOf}
 use Rattle.outcome.specs.Outcome.{sweepsOf}
@@ -54,7 +54,7 @@ fill-sweeps-requires c κs =
     let small = accepted b (a .c) (p .0) .small in
     let filled = c .before .before .before .before .before .before .before .before .before .before .before .fill-stops .ensures in
     let known = begun b (a .c) (p .0) _ _ _ _ (filled .0 .1) (filled .1 .1) in (
-      (small, filled .1 .0, p .3, c .before .before .cars-of .ensures),
+      (small, filled .1 .0, p .3, cars-held (sheetOf b (a .c)) _ (small .cars) (c .before .before .cars-of .ensures)),
       record { few = small .stops; at = known .stops-held .at; pending-is = c .before .before .before .pending-stops .ensures; demand-is = c .before .before .before .before .before .demand-stops .ensures },
     )
 
@@ -78,7 +78,7 @@ send-requires c κs =
         demand-is = c .before .before .before .before .before .before .before .before .before .before .before .before .demand-stops .ensures;
         stops-are = c .before .before .before .before .before .before .before .before .before .before .pending-stops .ensures;
       },
-      c .before .before .before .before .before .before .before .before .before .cars-of .ensures,
+      cars-held (sheetOf b (a .c)) _ (small .cars) (c .before .before .before .before .before .before .before .before .before .cars-of .ensures),
     )
 
 same-length : tie.Need-same-length

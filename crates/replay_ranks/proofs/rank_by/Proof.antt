@@ -2,6 +2,7 @@
 use Rattle.accepted.specs.Accepted.{accepted}
 use Rattle.cells.specs.Survey.{holds-aboard}
 use Rattle.layout.specs.Records.{sheetOf}
+use Rattle.rows.specs.MatrixLaws.{row-of}
 use Rattle.replay_ranks.specs.RankLaws.{held, ranked}
 use borrow.Author.Needs.{needs}
 use mathlib.Core.Path.{_≡_, refl, _∙_}
@@ -56,7 +57,7 @@ rank-requires c κs =
     let a = c .before .before .before .before .before .before .before .before .before .before .before .before .before .before .before .before .before .before .args in
     let p = c .before .before .before .before .before .before .before .before .before .before .before .before .before .before .before .before .before .before .pre in
     let few = accepted (a .s .now) (a .c) (p .0 .0) .small .stops in
-    (c .before .before .before .before .row-for .ensures .2, few, omega (arith, p .0 .4), p .0 .2)
+    (c .before .before .before .before .row-for .ensures .1 .1, few, omega (arith, p .0 .4), p .0 .2)
 
 returns : tie.Need-returns
 unfolding sheetOf
@@ -64,9 +65,14 @@ returns c =
     let a = c .before .before .before .before .before .before .before .before .before .before .before .before .before .before .before .before .before .before .before .args in
     let p = c .before .before .before .before .before .before .before .before .before .before .before .before .before .before .before .before .before .before .before .pre in
     let row = c .before .before .before .before .before .row-for in
+    let aboard = c .before .before .before .before .before .before .before .before .before .before .before .before .before .fill-aboard .ensures in
+    let b = a .s .now in
+    let seated = holds-aboard (sheetOf b (a .c)) _ _ _ _ (aboard .0 .1) (aboard .1 .1) in
+    let known = held b (a .c) (p .0 .0) (a .ids .now) (a .xs .now) (p .1 .0) _ _ seated (a .stops) (a .demand) (p .1 .3) (p .1 .2) in
+    let of = row-of (sheetOf b (a .c)) (a .ids .now) (a .xs .now) _ _ (a .stops) (a .demand) known 65535 _ (row .result) _ (row .ensures .0) (row .ensures .1 .2) in
     let waiters = c .before .before .before .before .before .before .before .before .before .before .waiting in
     c .rank .ensures
-    ∙ ranked (a .s .now) (a .c) (p .0 .0) (a .ids .now) (a .xs .now) (p .1 .0) (a .i) (a .j) 65535 (p .0 .1) (p .0 .2) (row .result) (row .ensures .0 .held (a .i) (c .before .before .before .before .before .before .before .before .before .car-at .ensures))
+    ∙ ranked (a .s .now) (a .c) (p .0 .0) (a .ids .now) (a .xs .now) (p .1 .0) (a .i) (a .j) 65535 (p .0 .1) (p .0 .2) (row .result) (of .held (a .i) (c .before .before .before .before .before .before .before .before .before .car-at .ensures))
     (waiters .result) (waiters .ensures)
 
 pub rank-by-spec : {M : Type 1} → statement M

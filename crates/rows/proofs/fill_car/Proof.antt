@@ -1,6 +1,6 @@
 -- rows::fill_car meets its contract.
 use Rattle.layout.specs.Records.{sheetOf}
-use Rattle.rows.specs.MatrixLaws.{CarNeeds, FilledCar, FilledRow, ready-few, ready-below, ready-row}
+use Rattle.rows.specs.MatrixLaws.{CarNeeds, FilledCar, FilledRow, row-of, ready-few, ready-below, ready-row}
 use borrow.Author.Needs.{needs}
 use lib.ListN.{length}
 use mathlib.Core.Path.{_≡_, refl, _∙_}
@@ -18,7 +18,7 @@ car-row-requires c κs =
     let a = c .before .before .before .before .before .before .before .before .before .before .before .before .before .args in
     let p = c .before .before .before .before .before .before .before .before .before .before .before .before .before .pre in
     let few = ready-few (sheetOf (a .s .now) (a .c)) (a .ids .now) (a .xs .now) (a .acar .now) (a .adest .now) (a .pending) (a .demand) (a .waiters) (a .stops .now) (a .m) (p .ready) in (
-      c .before .before .before .before .row-for .ensures .2,
+      c .before .before .before .before .row-for .ensures .1 .1,
       p .small .stops,
       omega (arith, p .small .stops, p .xs-size),
       omega (arith, few, p .stops-size),
@@ -36,12 +36,13 @@ returns c =
     let p = c .before .before .before .before .before .before .before .before .before .before .before .before .before .before .before .before .before .pre in
     let held = c .before .before .before .before .before .before .before .before .row-for in
     let filled = c .before .before .before .car-row .ensures in
+    let row = row-of (sheetOf (a .s .now) (a .c)) (a .ids .now) (a .xs .now) (a .acar .now) (a .adest .now) (a .pending) (a .demand) (p .ready .held) (a .limit) (a .car) (held .result) _ (held .ensures .0) (held .ensures .1 .2) in
     record {
       size = filled .0;
       row = λ i l e. record {
-        row = λ r f. filled .1 ∙ ready-row (sheetOf (a .s .now) (a .c)) (a .ids .now) (a .xs .now) (a .acar .now) (a .adest .now) (a .pending) (a .demand) (a .waiters) (a .stops .now) (a .m) (p .ready) i (a .limit) (held .result) l (held .ensures .0 .held i e) r (length (a .row .now)) f;
+        row = λ r f. filled .1 ∙ ready-row (sheetOf (a .s .now) (a .c)) (a .ids .now) (a .xs .now) (a .acar .now) (a .adest .now) (a .pending) (a .demand) (a .waiters) (a .stops .now) (a .m) (p .ready) i (a .limit) (held .result) l (row .held i e) r (length (a .row .now)) f;
       };
-      number = λ i e. c .size .ensures ∙ held .ensures .0 .number i e;
+      number = λ i e. c .size .ensures ∙ row .number i e;
     }
 
 pub fill-car-spec : {M : Type 1} → statement M

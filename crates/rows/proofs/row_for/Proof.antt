@@ -1,7 +1,7 @@
 -- rows::row_for meets its contract.
 use Rattle.layout.specs.Records.{sheetOf}
 use Rattle.rows.specs.HeldLaws.{Held, seats-length}
-use Rattle.rows.specs.MatrixLaws.{row-of}
+use Rattle.rows.specs.MatrixLaws.{row-for-is}
 use borrow.Author.Needs.{needs}
 use native.Mathlib.Omega.{arith}
 use Rattle.rows.proofs.row_for.Statement.{statement}
@@ -44,11 +44,10 @@ returns c =
     let goal = c .before .before .goal in
     let sweep = c .before .sweep-after in
     let len = seats-length (a .ids .now) (a .xs .now) (a .c .stops) (a .acar .now) (a .adest .now) (a .c .aboards) (a .car .id) (riders .result) (riders .ensures) (omega (arith, p .0 .0 .aboards, p .0 .5)) in (
-      row-of (sheetOf (a .s .now) (a .c)) (a .ids .now) (a .xs .now) (a .acar .now) (a .adest .now) (a .stops) (a .demand) (p .1) (a .limit)
+      row-for-is (sheetOf (a .s .now) (a .c)) (a .ids .now) (a .xs .now) (a .acar .now) (a .adest .now) (a .stops) (a .demand) (a .limit)
           (policy .result) (a .car) (sweep .result) (goal .result) (riders .result) (c .kept-by .result)
-          (policy .ensures) (riders .ensures) (goal .ensures) (sweep .ensures) (c .kept-by .ensures),
-      len .0,
-      len .1,
+          (policy .ensures) (riders .ensures .answered) (goal .ensures) (sweep .ensures) (c .kept-by .ensures),
+      (len .0, len .1, riders .ensures .held),
     )
 
 pub row-for-spec : {M : Type 1} → statement M

@@ -1,22 +1,28 @@
 -- rows::waiters_of meets its contract.
-use Prim.Native.Nat.{_≤_, _-_}
+use Prim.Native.Nat.{ℕ, _≤_, _-_}
+use Rattle.manifest.specs.Waiters as waiters
 use Rattle.manifest.specs.Waiters.{waitersIn}
-use Rattle.rows.specs.Gathered.{Gathered, gathered-next}
+use lib.ListN.{length, replicate, length-set}
+use Rattle.laws.specs.Tables.{tab, tab-next}
+use Rattle.mask.specs.Mask.{has}
+use Rattle.rows.specs.Gathered.{gathered, gatheredIn}
+use Rattle.manifest.specs.declared.Waiters.{Waiters}
 use borrow.Author.Needs.{needs}
-use mathlib.Core.Bool.{Bool}
+use mathlib.Core.Bool.{Bool, false}
 use mathlib.Core.Path.{_≡_, refl, ap, _∙_}
 use native.Mathlib.Omega.{arith}
 use Rattle.rows.proofs.waiters_of.Statement.{statement}
 use Rattle.rows.proofs.waiters_of.Tie as tie
 
 abbrev Inv-loop : tie.InvT-loop
-Inv-loop ids xs n calls wstop wdest wweight wwait nw all₀ j₀ all j = (j ≤ n) × Gathered ids xs n calls wstop wdest wweight wwait nw j all
+Inv-loop ids xs n calls wstop wdest wweight wwait nw all₀ j₀ all j = (j ≤ n) × (length all ≡ 64) × (all ≡ gathered (λ k. waitersIn ids xs n k (has calls k) wstop wdest wweight wwait nw) j)
 
 abbrev μ-loop : tie.MeasureT-loop
 μ-loop ids xs n calls wstop wdest wweight wwait nw all₀ j₀ all j = n - j
 
 loop-holds : tie.Need-loop-holds Inv-loop μ-loop
-loop-holds c = (omega arith, record { size = refl; each = λ j l. absurd (omega arith) })
+unfolding tab
+loop-holds c = (omega arith, refl, ap (replicate 64) (c .none .ensures))
 
 has-requires : tie.Need-has-requires Inv-loop μ-loop
 has-requires c κs = let p = c .before .before .before .before .before .before .before .before .before .pre in omega (arith, p .0, c .loop-test .taken)
@@ -34,17 +40,22 @@ loop-again : tie.Need-loop-again Inv-loop μ-loop
 loop-again c =
     let a = c .before .before .before .before .before .before .before .before .before .before .before .args in
     let p = c .before .before .before .before .before .before .before .before .before .before .before .pre in
-    let l = c .before .before .before .loop in (
+    let l = c .before .before .before .loop in
+    let at : ℕ → Waiters = λ k. waitersIn (a .ids .now) (a .xs .now) (a .n) k (has (a .calls) k) (a .wstop .now) (a .wdest .now) (a .wweight .now) (a .wwait .now) (a .nw) in (
       omega arith,
-      gathered-next (a .ids .now) (a .xs .now) (a .n) (a .calls) (a .wstop .now) (a .wdest .now) (a .wweight .now) (a .wwait .now) (a .nw) (l .j) (l .all) (c .waiters-at .result) (l .inv .1) (omega (arith, p .0, c .before .before .loop-test .taken))
+      simp length-set (l .inv .1),
+      tab-next at (replicate 64 (waiters.nobody false)) (l .all) (l .j) (c .waiters-at .result) (omega (arith, p .0, c .before .before .loop-test .taken)) (l .inv .2)
           (c .waiters-at .ensures ∙ ap (λ (b : Bool). waitersIn (a .ids .now) (a .xs .now) (a .n) (l .j) b (a .wstop .now) (a .wdest .now) (a .wweight .now) (a .wwait .now) (a .nw)) (c .before .has .ensures)),
     )
 
 returns : tie.Need-returns Inv-loop μ-loop
+unfolding gatheredIn
 returns c =
     let l = c .before .loop in
-    let h = l .inv .1 in
-    record { size = h .size; each = λ j k. h .each j (omega arith) }
+    let a = c .before .before .before .before .before .before .before .before .before .args in
+    let at : ℕ → Waiters = λ k. waitersIn (a .ids .now) (a .xs .now) (a .n) k (has (a .calls) k) (a .wstop .now) (a .wdest .now) (a .wweight .now) (a .wwait .now) (a .nw) in
+    let e : l .j ≡ a .n = omega (arith, l .inv .0, c .loop-test .left) in
+    l .inv .2 ∙ ap (gathered at) e
 
 pub waiters-of-spec : {M : Type 1} → statement M
 waiters-of-spec =
