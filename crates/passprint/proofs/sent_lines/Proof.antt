@@ -1,5 +1,7 @@
 -- passprint::sent_lines meets its contract.
 use Rattle.accepted.specs.Accepted.{accepted}
+use Rattle.cells.specs.Survey.{rows-in}
+use Rattle.layout.specs.Records.{sheetOf}
 use Rattle.passprint.specs.LineLaws.{text-is, put-as}
 use Rattle.text.specs.Text.{then}
 use borrow.Author.Needs.{needs}
@@ -14,23 +16,28 @@ list-cars-requires c κs =
     (accepted (a .s .now) (a .c) (c .before .before .before .before .before .pre .0) .small, refl)
 
 decision-lines-requires : tie.Need-decision-lines-requires
+unfolding sheetOf
 decision-lines-requires c κs =
     let a = c .before .before .before .before .before .before .before .before .before .before .before .before .before .args in
     let p = c .before .before .before .before .before .before .before .before .before .before .before .before .before .pre in
-    let rows = c .before .before .before .before .before .before .before .list-cars .ensures in
+    let listed = c .before .before .before .before .before .before .before .list-cars in
+    let small = accepted (a .s .now) (a .c) (p .0) .small in
     let h = c .before .before .before .before .head-line .ensures in
-    (accepted (a .s .now) (a .c) (p .0) .small, rows .0, rows .1, p .2, omega (arith, h .1, h .0 .size, p .4))
+    (small, rows-in (sheetOf (a .s .now) (a .c)) (small .cars) _ _ (listed .result) (listed .ensures .0), listed .ensures .1, p .2, omega (arith, h .1, h .0 .size, p .4))
 
 sweep-lines-requires : tie.Need-sweep-lines-requires
+unfolding sheetOf
 sweep-lines-requires c κs =
     let a = c .before .before .before .before .before .before .before .before .before .before .before .before .before .before .before .before .before .before .args in
     let p = c .before .before .before .before .before .before .before .before .before .before .before .before .before .before .before .before .before .before .pre in
-    let rows = c .before .before .before .before .before .before .before .before .before .before .before .before .list-cars .ensures in
+    let listed = c .before .before .before .before .before .before .before .before .before .before .before .before .list-cars in
+    let small = accepted (a .s .now) (a .c) (p .0) .small in
     let h = c .before .before .before .before .before .before .before .before .before .head-line .ensures in
     let d = c .before .before .before .before .decision-lines .ensures in
-    (accepted (a .s .now) (a .c) (p .0) .small, rows .0, rows .1, p .3, omega (arith, h .1, h .0 .size, d .1, d .0 .size, p .4))
+    (small, rows-in (sheetOf (a .s .now) (a .c)) (small .cars) _ _ (listed .result) (listed .ensures .0), listed .ensures .1, p .3, omega (arith, h .1, h .0 .size, d .1, d .0 .size, p .4))
 
 returns : tie.Need-returns
+unfolding sheetOf
 returns c =
     let a = c .before .before .before .before .before .before .before .before .before .before .before .before .before .before .before .before .before .before .before .before .before .args in
     let p = c .before .before .before .before .before .before .before .before .before .before .before .before .before .before .before .before .before .before .before .before .before .pre in
@@ -38,7 +45,7 @@ returns c =
     let h = c .before .before .before .before .before .before .before .before .before .before .before .before .head-line .ensures in
     let d = c .before .before .before .before .before .before .before .decision-lines .ensures in
     let w = c .before .before .sweep-lines .ensures in
-    (put-as (text-is (a .s .now) (a .c) (p .0) (p .1) (n .result) (n .ensures .0 .number)) (then (h .0) (then (d .0) (w .0))), omega (arith, h .1, d .1, w .1))
+    (put-as (text-is (a .s .now) (a .c) (p .0) (p .1) (n .result) (rows-in (sheetOf (a .s .now) (a .c)) (accepted (a .s .now) (a .c) (p .0) .small .cars) _ _ (n .result) (n .ensures .0) .number)) (then (h .0) (then (d .0) (w .0))), omega (arith, h .1, d .1, w .1))
 
 pub sent-lines-spec : {M : Type 1} → statement M
 sent-lines-spec =
