@@ -1,10 +1,11 @@
 -- Document 01's cases P1 to P10, in its order and numbering, as one table that holds by computation: P1 to P3 of the choice, P4 to P6 of scale_cost,
 -- P7 to P10 of the ranks that the pass uses, over sheets of one car. Assumes nothing.
 use mathlib.Core.Path.{_≡_, refl}
-use mathlib.Core.Bool.{true}
-use mathlib.Core.List.{[], _∷_}
+use mathlib.Core.Bool.{Bool, true, _&&_}
+use mathlib.Core.List.{List, [], _∷_}
 use Prim.Native.Nat.{ℕ, _+_}
-use lib.ListN.{getD}
+use lib.Dec.{ltb}
+use lib.ListN.{length, getD}
 use lib.Ieee.{Float, ofBits, binary64, add, sub, mul, div, neg, lt, le, eq, round, ofInt}
 use Rattle.laws.specs.Folds.{fold, any, every, count, nth, lookup}
 use Rattle.fp.specs.Num.{zero, epsilon, natural, distance}
@@ -34,7 +35,8 @@ use Rattle.etd.specs.Etd.{intervenes, doorCost, extraDelay, isAhead, directionB
 use Rattle.rsr.specs.Rsr.{withPenalty, withCoincidentCall, rsrCost, rsrRank}
 use Rattle.assignment_problem.specs.Choice.{cellAt}
 use Rattle.assignment_problem.specs.Recursion.{scan, best, chosen, leastTotal}
-use Rattle.assignment.specs.Cells.{rankCell}
+use Rattle.assignment.specs.Pending.{pendingStops}
+use Rattle.assignment.specs.Cells.{rankCell, matrix, goes}
 
 -- ---- the sheets of P8 to P10
 
@@ -110,6 +112,19 @@ upAtZero m = sweepRank (record { direction = direction.Up; mode = m }) zero epsi
 abbrev pub cells : ℕ → ℕ → ℕ → ℕ → ℕ → ℕ → ℕ
 cells a b c d = cellAt (a ∷ b ∷ c ∷ d ∷ []) 2
 
+-- "Column below m and cell below the sentinel: go to that stop.", of cells
+abbrev pub goesBy : (ℕ → ℕ → ℕ) → ℕ → ℕ → ℕ → Bool
+goesBy c m i j = ltb j m && ltb (c i j) sentinel
+
+-- a car of the pass goes by the pass's matrix
+pub goes-by : (s : Sheet) (limit i j : ℕ) → goes s limit i j ≡ goesBy (matrix s limit) (pendingStops s) i j
+unfolding goes
+goes-by s limit i j = refl
+
+-- how many cars go with these columns, one a car
+abbrev pub carsGoing : (ℕ → ℕ → ℕ) → ℕ → List ℕ → ℕ
+carsGoing c m columns = count (λ i. goesBy c m i (getD columns i 0)) (length columns)
+
 -- ---- the table
 
 pub record Table : Type 0 where
@@ -119,6 +134,8 @@ pub record Table : Type 0 where
   pub P2 : chosen (cells 5 5 5 5) 2 2 ≡ 0 ∷ 1 ∷ []
   -- "P3 (281,474,976,710,655, 1), (sentinel, 281,474,976,710,655): 1, 0, total 281,474,976,710,657; one car goes although two could."
   pub P3 : (chosen (cells ceiling 1 sentinel ceiling) 2 2 ≡ 1 ∷ 0 ∷ []) × (leastTotal (cells ceiling 1 sentinel ceiling) 2 2 ≡ 281_474_976_710_657)
+      × (carsGoing (cells ceiling 1 sentinel ceiling) 2 (chosen (cells ceiling 1 sentinel ceiling) 2 2) ≡ 1)
+      × (carsGoing (cells ceiling 1 sentinel ceiling) 2 (0 ∷ 1 ∷ []) ≡ 2)
   -- "P4 cost 0.0078125 is 7,813."
   pub P4 : scaleCost (ofBits binary64 0x3f80_0000_0000_0000) ≡ 7_813
   -- "P5 0.00390625 is 3,906."
@@ -141,7 +158,7 @@ table =
     record {
       P1 = (refl, refl);
       P2 = refl;
-      P3 = (refl, refl);
+      P3 = (refl, refl, refl, refl);
       P4 = refl;
       P5 = refl;
       P6 = (refl, refl);

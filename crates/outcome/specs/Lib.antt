@@ -7,8 +7,10 @@
 --   demand 3, of two byte strings                    TwoSheets, here
 --   the pairs ranked are within their bound          Bound, here
 --   what is written fits; with no pending stop       Fits, here
+--   every rank is finite and nonnegative             Ranks, here
 pub mod Outcome
 pub mod Written
 pub mod TwoSheets
 pub mod Bound
 pub mod Fits
+pub mod Ranks
