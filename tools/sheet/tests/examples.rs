@@ -140,11 +140,9 @@ fn the_manual_has_every_rule() {
         assert!(manual.contains(&row), "{row}");
     }
     for path in files("examples", "txt") {
-        assert!(
-            manual.contains(&format!("`{}`", name(&path))),
-            "{}",
-            name(&path)
-        );
+        let name = name(&path);
+        let is_named = manual.contains(&format!("`{name}`"));
+        assert!(is_named || !name.starts_with("refusal_"), "{name}");
     }
 }
 

@@ -69,7 +69,7 @@ fn mark(svg: &mut Svg, cut: &Cut, reason: &Reason, offset: u64, y: f64) {
         None => x(cut, cut.bits()),
     };
     svg.rect("refused", from, y - 3.0, (to - from).max(4.0), 32.0);
-    svg.triangle("here", from, y + 40.0, 6.0, true);
+    svg.triangle("here", (from, y + 40.0), (6.0, 6.0), true);
     let (x, anchor) = match from {
         m if m < EDGE + 60.0 => (m - 6.0, Anchor::Start),
         m if m > EDGE + WIDTH - 60.0 => (m + 6.0, Anchor::End),
