@@ -115,6 +115,7 @@ fn explained(svg: &str, sheet: &Sheet, answered: &Pass) -> [usize; 5] {
         let (_, column) = place.split_once(", ").unwrap();
         if value < SENTINEL {
             assert!(said.parse::<f64>().is_ok(), "{words}");
+            assert_eq!(lifted[k], value);
             continue;
         }
         let car = idle[k / answered.columns()];
@@ -135,7 +136,7 @@ fn has_total(svg: &str, pass: &Pass) {
     let costs = pass.total - SENTINEL * idle as u64;
     assert!(svg.contains(&format!(">Answered total {}: ", pass.total)));
     if sent > 0 {
-        assert!(svg.contains(&format!(": {costs} for the cost (1000000 for 1)")));
+        assert!(svg.contains(&format!(": {costs} for the cost (1,000,000 for 1)")));
     }
     match idle {
         0 => assert!(!svg.contains(&SENTINEL.to_string()) || pass.matrix.contains(&SENTINEL)),

@@ -390,7 +390,7 @@ impl Building<'_> {
         legend.sentence(svg, riders);
         legend.sentence(
             svg,
-            "N riding: so many riders are on their way to the stop in cars. Not pending: the stop has demand but takes no part in the pass; cars on their way cover it, or no line serves it.",
+            "N riding: so many riders are on their way to the stop in cars. Not pending: the stop has demand but no column below; cars on their way cover it, or no line serves it.",
         );
     }
 }
@@ -445,6 +445,6 @@ fn car_entries(svg: &mut Svg, legend: &mut Legend) {
     });
     legend.sentence(
         svg,
-        "Above a shaft: the car's phase, whether it is idle-listed, its load of its capacity, its sweep and mode after the pass, the decision.",
+        "Above a shaft: the car's phase, the stop that it moves to or else whether it is idle-listed, its load of its capacity, its sweep and mode after the pass, the decision.",
     );
 }

@@ -20,7 +20,7 @@ const COSTS: [&str; 3] = [
     "A cost is the car's rank for the stop. RSR's is a weighted sum and has no unit: travel and the penalty for the wrong direction, less the bonuses for a car call and for waits; never below 0.",
     "A cost is the car's rank for the stop. SCAN's is the distance from the car to the stop, as positions count it.",
 ];
-const DIGITS: &str = "Here and at the arrows it is rounded to four digits; under the pointer stands the cell itself, which counts 1000000 for a cost of 1, as the total does.";
+const DIGITS: &str = "Here and at the arrows it is rounded; under the pointer stands the cell itself, which counts 1,000,000 for a cost of 1, as the total does.";
 const TIES: &str = "Where several choices have the least total, the bench takes the lowest columns in car order: the lowest for the first car, then for the second, and so on.";
 
 /// Where the cells stand, and what their rows and columns are called.

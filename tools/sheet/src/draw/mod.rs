@@ -111,7 +111,7 @@ fn title(sheet: &Sheet, chosen: &Chosen) -> String {
 fn total(chosen: &Chosen) -> String {
     let (sent, costs) = chosen.sent();
     let pass = &chosen.pass;
-    let of_costs = format!("{costs} for the cost (1000000 for 1)");
+    let of_costs = format!("{costs} for the cost (1,000,000 for 1)");
     let of_idle = match pass.cars - sent {
         1 => format!("{SENTINEL} for the car that stays idle"),
         idle => format!("{idle} × {SENTINEL} for the cars that stay idle"),
@@ -131,7 +131,7 @@ fn exact(cells: u64) -> String {
     text.trim_end_matches('0').trim_end_matches('.').into()
 }
 
-/// A cell as a cost, in at most four digits.
+/// A cell as a cost, rounded.
 fn cost(cell: u64) -> String {
     match cell {
         SENTINEL.. => "no rank".into(),
