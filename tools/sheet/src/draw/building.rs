@@ -390,7 +390,7 @@ impl Building<'_> {
         legend.sentence(svg, riders);
         legend.sentence(
             svg,
-            "N riding: so many riders are on their way to the stop in cars. Not pending: the stop has demand but no column below; cars on their way cover it, or no line serves it.",
+            "N riding: so many riders are on their way to the stop in cars. Not pending: the stop has demand, but this pass sends no car to it; cars on their way cover it, or no line serves it.",
         );
     }
 }
