@@ -139,7 +139,7 @@ fn has_total(svg: &str, pass: &Pass) {
         assert!(svg.contains(&format!(": {costs} for the cost (1,000,000 for 1)")));
     }
     match idle {
-        0 => assert!(!svg.contains(&SENTINEL.to_string()) || pass.matrix.contains(&SENTINEL)),
+        0 => assert!(svg.contains("for the cost (1,000,000 for 1)<") || pass.cars == 0),
         1 => assert!(svg.contains(&format!(" {SENTINEL} for the car that stays idle<"))),
         _ => {
             let words = format!(" {idle} × {SENTINEL} for the cars that stay idle<");
