@@ -6,7 +6,7 @@ use dispatch_bench::Refusal;
 use crate::cut::{Cut, Record};
 use crate::faults;
 use crate::fields::KINDS;
-use crate::show;
+use crate::{remedies, show, text};
 
 /// A refusal in words.
 pub struct Reason {
@@ -16,6 +16,8 @@ pub struct Reason {
     pub record: Option<Record>,
     /// The field's name, where one is at fault.
     pub field: Option<&'static str>,
+    /// What to do: the rule's words, or others that fit the field.
+    pub remedy: String,
 }
 
 /// The lines of `sheet explain`.
@@ -28,9 +30,12 @@ pub fn explain(bytes: &[u8]) -> String {
     let reason = reason(&cut, refusal);
     let mut lines = format!("refused {number} at {offset}\n{}\n", reason.sentence);
     lines += &format!("rule {number}: {}\n", refusal.rule());
-    lines += &format!("to do: {}\n", refusal.remedy());
+    lines += &format!("to do: {}\n", reason.remedy);
     if let Some(record) = reason.record {
         lines += &format!("text: {}\n", show::record_line(&cut, &record, &cut.stops()));
+    }
+    if text::is_text(bytes) {
+        lines += &format!("hint: {}\n", text::HINT);
     }
     lines
 }
@@ -43,15 +48,13 @@ pub fn reason(cut: &Cut, refusal: Refusal) -> Reason {
         sentence,
         record: None,
         field,
+        remedy: refusal.remedy().into(),
     };
     match number {
         2 => return whole(passes_the_end(cut, at), None),
         3 => return whole(edition(cut), Some("edition")),
-        16 => return whole(tail(cut, at), None),
-        6 if cut.head.is_some_and(|head| head.count == 0) => {
-            let sentence = "Head (bit 0): records is 0, but the policy must be there.";
-            return whole(sentence.into(), Some("records"));
-        }
+        16 => return tail(cut, at, refusal),
+        6 if cut.head.is_some_and(|head| head.count == 0) => return no_record(),
         _ => {}
     }
     let Some(record) = cut.records.iter().find(|record| record.at == at) else {
@@ -60,10 +63,23 @@ pub fn reason(cut: &Cut, refusal: Refusal) -> Reason {
     let place = place(cut, record);
     let fault = faults::find(cut, record, number);
     let says = fault.as_ref().map_or("see the rule", |fault| &fault.says);
+    let field = fault.as_ref().map(|fault| fault.field);
+    let remedy = field.and_then(|name| remedies::find(cut, record, number, name));
     Reason {
         sentence: format!("{place}: {says}."),
         record: Some(*record),
-        field: fault.as_ref().map(|fault| fault.field),
+        field,
+        remedy: remedy.unwrap_or_else(|| refusal.remedy().into()),
+    }
+}
+
+/// 6, of a sheet that has no record.
+fn no_record() -> Reason {
+    Reason {
+        sentence: "Head (bit 0): records is 0, but the policy must be there.".into(),
+        record: None,
+        field: Some("records"),
+        remedy: "Add a policy; if there are records, have the head count them.".into(),
     }
 }
 
@@ -115,13 +131,21 @@ fn edition(cut: &Cut) -> String {
     format!("Head (bit 0): edition is {edition}, but this bench reads edition 1.")
 }
 
-fn tail(cut: &Cut, at: usize) -> String {
-    match cut.bits().saturating_sub(at) {
-        left @ 8.. => {
-            format!("Tail (bit {at}): {left} bits follow the last record, but at most 7 may.")
-        }
-        _ => {
-            format!("Tail (bit {at}): a bit after the last record is one, but they must be zeros.")
-        }
+fn tail(cut: &Cut, at: usize, refusal: Refusal) -> Reason {
+    let left = cut.bits().saturating_sub(at);
+    let (sentence, remedy) = if left >= 8 {
+        let sentence = format!("{left} bits follow the last record, but at most 7 may");
+        (sentence, refusal.remedy())
+    } else {
+        let sentence = "a bit after the last record is one, but they must be zeros".into();
+        let remedy =
+            "Make the bits that fill the last byte zeros; if the file was damaged, fetch it again.";
+        (sentence, remedy)
+    };
+    Reason {
+        sentence: format!("Tail (bit {at}): {sentence}."),
+        record: None,
+        field: None,
+        remedy: remedy.into(),
     }
 }

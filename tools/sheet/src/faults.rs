@@ -100,15 +100,17 @@ fn unused(cut: &Cut, record: &Record, field: &Field, held: Value) -> Option<Stri
         (_, Absence::Unused) if held.bits != 0 => Some(format!(
             "{name} is {shown}, but the strategy has no such weight, so it must be zeros"
         )),
-        (_, Absence::Zeros) if held.bits != 0 && !is_bound(cut, record) => {
-            let phase = cut.named(record, "phase").unwrap_or(0) as usize;
-            let phase = PHASES.get(phase).unwrap_or(&"7");
-            Some(format!(
-                "{name} is {shown}, but in phase {phase} it must be zeros"
-            ))
-        }
+        (_, Absence::Zeros) if held.bits != 0 && !is_bound(cut, record) => Some(format!(
+            "{name} is {shown}, but in phase {} it must be zeros",
+            phase(cut, record)
+        )),
         _ => None,
     }
+}
+
+fn phase(cut: &Cut, record: &Record) -> &'static str {
+    let phase = cut.named(record, "phase").unwrap_or(0) as usize;
+    PHASES.get(phase).unwrap_or(&"7")
 }
 
 /// The phase is moving or repositioning, so that the stop is used.
@@ -118,9 +120,16 @@ fn is_bound(cut: &Cut, record: &Record) -> bool {
 
 /// 9: an id that is present, used and 0.
 fn zero(cut: &Cut, record: &Record, field: &Field, held: Value) -> Option<String> {
-    let is_id = matches!(field.form, Form::Id(_)) && held.present && held.bits == 0;
-    let is_used = field.absence != Absence::Zeros || is_bound(cut, record);
-    (is_id && is_used).then(|| format!("{} is 0, but ids are 1 or more", field.name))
+    let name = field.name;
+    let is_zero_id = matches!(field.form, Form::Id(_)) && held.present && held.bits == 0;
+    match field.absence {
+        _ if !is_zero_id => None,
+        Absence::Zeros => is_bound(cut, record).then(|| {
+            let phase = phase(cut, record);
+            format!("{name} is none, but in phase {phase} it is the stop that the car moves to")
+        }),
+        _ => Some(format!("{name} is 0, but ids are 1 or more")),
+    }
 }
 
 /// 9: an id that an earlier record has, or a stop's that does not rise.

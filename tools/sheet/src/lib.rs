@@ -11,6 +11,9 @@ pub mod explain;
 #[cfg(feature = "pass")]
 mod faults;
 pub mod fields;
+mod near;
+#[cfg(feature = "pass")]
+mod remedies;
 // The table of refusals is that of the crate dispatch-bench; `rule` needs it without the library too.
 #[path = "../../../rust/src/rules.rs"]
 pub mod rules;

@@ -42,14 +42,13 @@ fn main() -> ExitCode {
         ["help" | "--help" | "-h"] => print(USAGE.as_bytes()),
         ["write", _] | ["write", _, "-"] => write(&path(1), None),
         ["write", _, _] => write(&path(1), Some(&path(2))),
-        ["show", _] => input(&path(1)).and_then(|bytes| print(show::show(&bytes).as_bytes())),
+        ["show", _] => input(&path(1)).and_then(|bytes| {
+            hint(&path(1), &bytes);
+            print(show::show(&bytes).as_bytes())
+        }),
         ["explain", _] => input(&path(1)).and_then(|bytes| print(explain(&bytes)?.as_bytes())),
-        ["draw", _] | ["draw", _, "-"] => {
-            input(&path(1)).and_then(|bytes| print(draw(&bytes)?.as_bytes()))
-        }
-        ["draw", _, _] => {
-            input(&path(1)).and_then(|bytes| replace(&path(2), draw(&bytes)?.as_bytes()))
-        }
+        ["draw", _] | ["draw", _, "-"] => drawn(&path(1)).and_then(|svg| print(svg.as_bytes())),
+        ["draw", _, _] => drawn(&path(1)).and_then(|svg| replace(&path(2), svg.as_bytes())),
         ["rule"] => rules_from(1, rules::RULES.len() as u32),
         ["rule", number] => rule(number),
         _ => Err(Stop::Usage),
@@ -90,6 +89,20 @@ fn input(path: &Path) -> Result<Vec<u8>, Stop> {
         std::fs::read(path)
     };
     bytes.map_err(|error| failed(format!("{}: {error}", path.display())))
+}
+
+/// Says on standard error that a text was handed over, where one was.
+fn hint(path: &Path, bytes: &[u8]) {
+    if text::is_text(bytes) {
+        complain(&format!("{}: hint: {}\n", path.display(), text::HINT));
+    }
+}
+
+fn drawn(path: &Path) -> Result<String, Stop> {
+    let bytes = input(path)?;
+    let svg = draw(&bytes)?;
+    hint(path, &bytes);
+    Ok(svg)
 }
 
 fn write(from: &Path, to: Option<&Path>) -> Result<(), Stop> {

@@ -4,6 +4,7 @@ use sheetgen::bits::Writer;
 use sheetgen::sheet::{BODY_BITS, EDITION};
 
 use crate::fields::{self, Field, KINDS};
+use crate::near::{did_you_mean, nearest};
 use crate::value::{self, Stops};
 
 /// A line that says no record: its number, from 1, and what is wrong with it.
@@ -60,10 +61,7 @@ impl<'t> Line<'t> {
 
     fn lacks(&self, field: &Field) -> Fault {
         let expected = value::expected(field);
-        self.fault(format!(
-            "{}: expected {expected}, but the line has none",
-            field.name
-        ))
+        self.fault(format!("{}: is missing; expected {expected}", field.name))
     }
 
     /// No field but these.
@@ -71,11 +69,12 @@ impl<'t> Line<'t> {
         match self.pairs.iter().find(|p| !names.contains(&p.0)) {
             None => Ok(()),
             Some((name, _)) => {
-                let list = names.join(", ");
-                Err(self.fault(format!(
-                    "{name}: {} has no such field; expected {list}",
-                    self.word
-                )))
+                let (word, list) = (self.word, names.join(", "));
+                let expected = match nearest(name, names) {
+                    Some(near) => format!("did you mean {near}? Its fields are {list}"),
+                    None => format!("expected {list}"),
+                };
+                Err(self.fault(format!("{name}: {word} has no such field; {expected}")))
             }
         }
     }
@@ -85,19 +84,14 @@ impl<'t> Line<'t> {
         let Some(text) = self.get(name) else {
             return Ok(None);
         };
-        match value::whole(text, width) {
-            Some(number) => Ok(Some(number)),
-            None => {
-                let most = (1u64 << width) - 1;
-                let what =
-                    format!("{name}: expected a whole number from 0 to {most}, found \"{text}\"");
-                Err(self.fault(what))
-            }
-        }
+        let expected = number_below(width);
+        let wrong = || self.fault(format!("{name}: expected {expected}, found \"{text}\""));
+        value::whole(text, width).map(Some).ok_or_else(wrong)
     }
 
     fn needed(&self, name: &str, width: usize) -> Result<u64, Fault> {
-        let missing = || self.fault(format!("{name}: expected, but the line has none"));
+        let expected = number_below(width);
+        let missing = || self.fault(format!("{name}: is missing; expected {expected}"));
         self.number(name, width)?.ok_or_else(missing)
     }
 
@@ -109,6 +103,20 @@ impl<'t> Line<'t> {
     fn kind(&self) -> Option<usize> {
         (1..KINDS.len()).find(|k| KINDS[*k] == self.word)
     }
+}
+
+fn number_below(width: usize) -> String {
+    format!("a whole number from 0 to {}", (1u64 << width) - 1)
+}
+
+/// For who hands a text over where a sheet is expected.
+pub const HINT: &str = "This looks like a text; `sheet write` turns a text into a sheet.";
+
+/// Bytes that are printed characters and line ends alone. No accepted sheet is: its first byte is 1.
+pub fn is_text(bytes: &[u8]) -> bool {
+    let is_printed = |c: char| !c.is_control() || "\t\r\n".contains(c);
+    let text = std::str::from_utf8(bytes).unwrap_or("");
+    !text.is_empty() && text.chars().all(is_printed)
 }
 
 /// The bytes that a text says, or every line that says none.
@@ -203,9 +211,10 @@ fn encode(writer: &mut Writer, line: &Line, records: usize, stops: &Stops) -> Re
         }
         _ => {
             let names = KINDS[1..].join(", ");
+            let words = [&["sheet", "record", "rest"], &KINDS[1..]].concat();
+            let (word, meant) = (line.word, did_you_mean(line.word, &words));
             Err(line.fault(format!(
-                "\"{}\": expected sheet, {names}, record or rest",
-                line.word
+                "\"{word}\": expected sheet, {names}, record or rest{meant}"
             )))
         }
     }

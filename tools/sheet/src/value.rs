@@ -4,6 +4,7 @@ use sheetgen::bits::{self, Writer};
 use sheetgen::sheet::NO_LIMIT;
 
 use crate::fields::{Absence, Field, Form};
+use crate::near::did_you_mean;
 
 /// What a field holds.
 #[derive(Clone, Copy, Debug, PartialEq, Eq)]
@@ -168,7 +169,7 @@ fn parse_bits(form: Form, text: &str, stops: &Stops) -> Result<u64, String> {
         Form::Limit => whole(text, 16),
         Form::Code(names, width) => match names.iter().position(|name| *name == text) {
             Some(code) => Some(code as u64),
-            None => whole(text, width),
+            None => return whole(text, width).ok_or_else(|| did_you_mean(text, names)),
         },
         Form::Double(_) => return double(text),
         Form::Mask => return mask(text, stops).map_err(|why| format!(": {why}")),

@@ -104,6 +104,28 @@ fn written_file_is_the_sheet() {
     std::fs::remove_dir_all(&folder).unwrap();
 }
 
+/// `show` takes a text for the bytes that it is, and says so on standard error.
+#[test]
+fn a_text_is_shown_with_a_hint() {
+    let lobby = std::fs::read(here("examples/lobby.txt")).unwrap();
+    let hint = "-: hint: This looks like a text; `sheet write` turns a text into a sheet.\n";
+    for (bytes, said) in [
+        (&lobby[..], hint),
+        ("caf\u{e9}\r\n\tbar".as_bytes(), hint),
+        (b"a", hint),
+        (b"", ""),
+        (b"a\0b", ""),
+        (b"a\x1b", ""),
+        (b"a\xff", ""),
+        (&sheetgen::Sheet::example().write(), ""),
+    ] {
+        let shown = run(&["show", "-"], bytes);
+        assert_eq!(shown.status.code(), Some(0));
+        assert_eq!(text(&shown.stderr), said);
+        assert_eq!(run(&["write", "-"], &shown.stdout).stdout, bytes);
+    }
+}
+
 /// A link and a pipe stay what they are; a folder is an error.
 #[cfg(unix)]
 #[test]

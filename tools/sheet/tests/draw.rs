@@ -4,11 +4,12 @@
 mod common;
 
 use common::{files, here, name, run, text};
-use dispatch_bench::{Pass, choose, pass};
+use dispatch_bench::{Pass, SENTINEL, choose, pass};
 use sheet::draw::draw;
-use sheetgen::Sheet;
 use sheetgen::generate::{self, Profile};
 use sheetgen::rng::Rng;
+use sheetgen::sheet::{NO_LIMIT, mask_bit};
+use sheetgen::{Car, Sheet};
 
 /// Numbers of a stored answer, most significant byte first.
 struct Answer<'a>(&'a [u8]);
@@ -54,25 +55,124 @@ fn is_well_formed(svg: &str) {
     }
     assert!(open.is_empty());
     assert!(!svg.contains("NaN") && !svg.contains("\"inf"));
+    assert!(!svg.contains("<title></title>"));
+}
+
+/// What is drawn beside the legends' marks.
+fn without_legends(svg: &str) -> String {
+    let mut parts = svg.split("<g class=\"legend\">");
+    let mut kept = parts.next().unwrap().to_string();
+    for part in parts {
+        kept += part.split_once("</g>").unwrap().1;
+    }
+    kept
+}
+
+/// The words of each cell, row by row.
+fn cells(svg: &str) -> Vec<(&str, &str)> {
+    let tips = svg.split("<title>").skip(1);
+    let tips = tips.filter_map(|tip| tip.split_once("</title></rect>"));
+    tips.filter_map(|(tip, _)| tip.split_once(" (cell "))
+        .collect()
+}
+
+/// Why a cell has no rank, by the records and by the pass without a limit.
+fn reason(sheet: &Sheet, car: &Car, column: &str, lifted: u64) -> usize {
+    let Some(id) = column.strip_prefix("stop ") else {
+        return 0;
+    };
+    let is_it = |stop: &sheetgen::Stop| stop.id.to_string() == id;
+    let bit = mask_bit(sheet.stops.iter().position(is_it).unwrap());
+    let line = sheet.lines.iter().find(|line| line.id == car.line).unwrap();
+    match (line.mask & bit, car.restricted & bit) {
+        (0, _) => 1,
+        (_, 0) if lifted < SENTINEL => 3,
+        (_, 0) => 4,
+        _ => 2,
+    }
+}
+
+/// How a cell's words begin, by that reason.
+const REASONS: [&str; 5] = [
+    "no rank, a spare column, no stop",
+    "no rank, the car's line does not serve the stop",
+    "no rank, the stop is barred to the car",
+    "no rank, cut by the candidate limit, a rank without it: ",
+    "no rank",
+];
+
+/// Each cell says its number, and why it has no rank where it has none; answers how often each reason does.
+fn explained(svg: &str, sheet: &Sheet, answered: &Pass) -> [usize; 5] {
+    let mut without = sheet.clone();
+    without.policy.limit = NO_LIMIT;
+    let lifted = pass(&without.write()).unwrap().matrix;
+    let idle: Vec<&Car> = sheet.cars.iter().filter(|car| car.idle).collect();
+    let mut seen = [0; 5];
+    for (k, (words, number)) in cells(svg).into_iter().enumerate() {
+        let value = answered.matrix[k];
+        assert_eq!(number, format!("{value})"));
+        let (place, said) = words.split_once(": ").unwrap();
+        let (_, column) = place.split_once(", ").unwrap();
+        if value < SENTINEL {
+            assert!(said.parse::<f64>().is_ok(), "{words}");
+            assert_eq!(lifted[k], value);
+            continue;
+        }
+        let car = idle[k / answered.columns()];
+        let reason = reason(sheet, car, column, lifted[k]);
+        match reason {
+            3 => assert!(said.starts_with(REASONS[3]), "{words}"),
+            _ => assert_eq!(said, REASONS[reason]),
+        }
+        seen[reason] += 1;
+    }
+    seen
+}
+
+/// The answered total is drawn whole, with what it holds.
+fn has_total(svg: &str, pass: &Pass) {
+    let sent = pass.decisions.iter().flatten().count();
+    let idle = pass.cars - sent;
+    let costs = pass.total - SENTINEL * idle as u64;
+    assert!(svg.contains(&format!(">Answered total {}: ", pass.total)));
+    if sent > 0 {
+        assert!(svg.contains(&format!(": {costs} for the cost (1,000,000 for 1)")));
+    }
+    match idle {
+        0 => assert!(svg.contains("for the cost (1,000,000 for 1)<") || pass.cars == 0),
+        1 => assert!(svg.contains(&format!(" {SENTINEL} for the car that stays idle<"))),
+        _ => {
+            let words = format!(" {idle} × {SENTINEL} for the cars that stay idle<");
+            assert!(svg.contains(&words));
+        }
+    }
 }
 
 /// The drawing of a pass: the chosen columns' total is the answered one, each sent car has its arrow, each idle
-/// car its row.
-fn drawn(bytes: &[u8], pass: &Pass, file: &str) {
+/// car its row, each rider a mark. Answers how often each reason for no rank is given.
+fn drawn(bytes: &[u8], pass: &Pass, file: &str) -> [usize; 5] {
     let choice = choose(pass.cars, pass.columns(), &pass.matrix).unwrap();
     assert_eq!(choice.total, pass.total, "{file}");
     let svg = draw(bytes);
     let folder = std::path::Path::new(env!("CARGO_TARGET_TMPDIR"));
     std::fs::write(folder.join(format!("{file}.svg")), &svg).unwrap();
     is_well_formed(&svg);
+    has_total(&svg, pass);
+    let svg = without_legends(&svg);
     let sent = pass.decisions.iter().flatten().count();
     let arrows = count(&svg, "<line class=\"arrow\"") + count(&svg, "<circle class=\"arrow\"");
     assert_eq!(arrows, sent, "{file}");
     assert_eq!(count(&svg, "<rect class=\"chosen\""), sent, "{file}");
     assert_eq!(count(&svg, "<rect class=\"unsent\""), pass.cars - sent);
     assert_eq!(count(&svg, ">stays idle<"), pass.cars - sent);
-    let tiles = count(&svg, ")</title></rect>");
-    assert_eq!(tiles, pass.cars * pass.columns(), "{file}");
+    assert_eq!(cells(&svg).len(), pass.cars * pass.columns(), "{file}");
+    let sheet = Sheet::of_accepted(bytes);
+    assert_eq!(count(&svg, "a waiting rider, "), sheet.waiting.len());
+    explained(&svg, &sheet, pass)
+}
+
+fn add(seen: &mut [usize; 5], more: [usize; 5]) {
+    seen.iter_mut().zip(more).for_each(|(all, one)| *all += one);
 }
 
 /// The linked pass answers what is stored, and is drawn so.
@@ -80,17 +180,39 @@ fn drawn(bytes: &[u8], pass: &Pass, file: &str) {
 fn stored_passes() {
     let list = std::fs::read(here("../../crates/replay_passes/stdin")).unwrap();
     let mut left = &list[..];
-    let mut passes = 0;
+    let (mut passes, mut seen) = (0, [0; 5]);
     while !left.is_empty() {
         let case = common::stored(left);
         let mut answer = Answer(case.after);
         let pass = pass(case.sheet).unwrap();
         assert!(answer.is(&pass), "pass {passes}");
-        drawn(case.sheet, &pass, &format!("pass_{passes:03}"));
+        add(
+            &mut seen,
+            drawn(case.sheet, &pass, &format!("pass_{passes:03}")),
+        );
         left = answer.0;
         passes += 1;
     }
     assert!(passes > 100, "{passes}");
+    assert!(seen.iter().all(|often| *often > 10), "{seen:?}");
+}
+
+/// Sheets with a limit, and of every other profile that is accepted.
+#[test]
+fn generated_passes() {
+    let profiles = [Profile::Limits, Profile::Valid, Profile::Extreme];
+    let mut seen = [0; 5];
+    for profile in profiles {
+        for index in 0..40 {
+            let bytes = generate::generate(profile, 17, index);
+            let pass = pass(&bytes).unwrap();
+            add(
+                &mut seen,
+                drawn(&bytes, &pass, &format!("{profile:?}_{index}")),
+            );
+        }
+    }
+    assert!(seen.iter().all(|often| *often > 20), "{seen:?}");
 }
 
 /// Every table full: the size and form of the largest drawing.
@@ -107,6 +229,41 @@ fn full_tables() {
     let pass = pass(&bytes).unwrap();
     assert_eq!(pass.cars, 32);
     drawn(&bytes, &pass, "full");
+}
+
+/// The stored drawing that has every mark.
+#[test]
+fn small_rsr_as_stored() {
+    let path = here("examples/small_rsr.txt");
+    let written = run(&["write", path.to_str().unwrap()], b"");
+    let drawn = text(&run(&["draw", "-"], &written.stdout).stdout);
+    let stored = text(&std::fs::read(here("examples/small_rsr.svg")).unwrap());
+    assert_eq!(drawn, stored);
+    let svg = without_legends(&drawn);
+    for part in [
+        "<rect class=\"hatched\"",
+        "<line class=\"barred\"",
+        "<circle class=\"served\"",
+        "<circle class=\"call\"",
+        "<circle class=\"arrow\"",
+        "<line class=\"arrow\"",
+        "<rect class=\"chosen\"",
+        "<rect class=\"unsent\"",
+        "a waiting rider, up: to 6, 120 ticks, line 2, weight 75<",
+        "a waiting rider, down: to 1, 180 ticks, weight 70<",
+        "a waiting rider, unknown: 240 ticks, weight 72<",
+        ">2 riding, not pending<",
+        "3 sent at a cost of 2.16; 1 stays idle<",
+    ] {
+        assert!(svg.contains(part), "{part}");
+    }
+    let pass = pass(&written.stdout).unwrap();
+    let sheet = Sheet::of_accepted(&written.stdout);
+    assert!(
+        explained(&svg, &sheet, &pass)
+            .iter()
+            .all(|often| *often > 0)
+    );
 }
 
 #[test]

@@ -22,13 +22,46 @@ fn document_01() {
 
 #[test]
 fn explained_as_stored() {
-    for path in files("examples", "txt") {
+    let more = files("tests/explained", "txt");
+    assert!(more.len() >= 16);
+    for path in files("examples", "txt").iter().chain(&more) {
         let written = run(&["write", path.to_str().unwrap()], b"");
-        assert_eq!(text(&written.stderr), "", "{}", name(&path));
+        assert_eq!(text(&written.stderr), "", "{}", name(path));
         let explained = run(&["explain", "-"], &written.stdout);
         assert!(explained.status.success());
         let stored = std::fs::read(path.with_extension("explain")).unwrap();
-        assert_eq!(text(&explained.stdout), text(&stored), "{}", name(&path));
+        assert_eq!(text(&explained.stdout), text(&stored), "{}", name(path));
+    }
+}
+
+/// A text in a sheet's place: the refusal is that of its bytes, and a hint follows.
+#[test]
+fn a_text_is_no_sheet() {
+    let lobby = here("examples/lobby.txt");
+    let explained = run(&["explain", lobby.to_str().unwrap()], b"");
+    let said = "\
+refused 3 at 0
+Head (bit 0): edition is 35, but this bench reads edition 1.
+rule 3: The edition in the first 8 bits is not 1.
+to do: Have the sheet written as edition 1, or take a bench that reads its edition.
+hint: This looks like a text; `sheet write` turns a text into a sheet.
+";
+    assert_eq!(text(&explained.stdout), said);
+    assert_eq!(text(&explained.stderr), "");
+    let drawn = run(&["draw", "-"], &std::fs::read(lobby).unwrap());
+    assert_eq!(drawn.status.code(), Some(0));
+    assert_eq!(
+        text(&drawn.stderr),
+        format!("-: hint: {}\n", sheet::text::HINT)
+    );
+    let svg = text(&drawn.stdout);
+    assert!(svg.contains(">Refused 3 at 0<") && svg.contains(sheet::text::HINT));
+    for (_, profile) in PROFILES {
+        for index in 0..300 {
+            let bytes = generate(profile, 11, index);
+            let hinted = explain::explain(&bytes).contains("\nhint: ");
+            assert!(!hinted || read(&bytes).is_err(), "{profile:?} {index}");
+        }
     }
 }
 
@@ -107,11 +140,9 @@ fn the_manual_has_every_rule() {
         assert!(manual.contains(&row), "{row}");
     }
     for path in files("examples", "txt") {
-        assert!(
-            manual.contains(&format!("`{}`", name(&path))),
-            "{}",
-            name(&path)
-        );
+        let name = name(&path);
+        let is_named = manual.contains(&format!("`{name}`"));
+        assert!(is_named || !name.starts_with("refusal_"), "{name}");
     }
 }
 

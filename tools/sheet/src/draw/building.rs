@@ -5,8 +5,10 @@ use sheetgen::sheet::mask_bit;
 use sheetgen::{Car, Line, Sheet, Stop};
 
 use super::heights::{self, Heights};
+use super::legend::Legend;
+use super::riders::{Riders, Way};
 use super::svg::{self, Anchor, Svg, short};
-use super::{Chosen, LONG_ID, car_name, cost};
+use super::{Chosen, LEGEND, LONG_ID, car_name, cost};
 use crate::fields::PHASES;
 
 const SHAFT: f64 = 100.0;
@@ -14,15 +16,22 @@ const GAP: f64 = 16.0;
 /// The lines of text above a shaft.
 const HEADER: f64 = 96.0;
 const CAR: (f64, f64) = (24.0, 18.0);
-/// The most waiting riders that are drawn one by one, and their distance.
-const DOTS: usize = 8;
-const DOT: f64 = 6.5;
 const AXIS: &str = "stop at position";
 const AXIS_WIDTH: f64 = 90.0;
 
-/// By phase; every drawn car also has its phase in words.
+/// A car's fill by phase; every drawn car also has its phase in words.
 const COLOURS: [&str; 7] = [
     "#ffffff", "#9ad0f5", "#cfe8fb", "#fbe7a1", "#f6cf57", "#fbe7a1", "#d9d9d9",
+];
+
+/// The phases whose fills differ.
+const FILLS: [(usize, &str); 6] = [
+    (0, "a car, idle"),
+    (1, "moving"),
+    (2, "repositioning"),
+    (3, "door opening or closing"),
+    (4, "loading"),
+    (6, "stopped"),
 ];
 
 struct Building<'a> {
@@ -33,6 +42,8 @@ struct Building<'a> {
     columns: Columns,
     /// Where height 0 stands.
     top: f64,
+    /// Each waiting rider has words beside the mark.
+    in_words: bool,
 }
 
 /// What stands left of the shafts, from the left: where it begins, or for names ends.
@@ -40,26 +51,23 @@ struct Columns {
     names: f64,
     call: f64,
     waiting: f64,
-    riding: f64,
     end: f64,
 }
 
 impl Columns {
-    fn new(labels: &[Label], left: f64) -> Self {
+    fn new(labels: &[Label], left: f64, in_words: bool) -> Self {
         let widest = |width: &dyn Fn(&Label) -> f64| labels.iter().map(width).fold(0.0, f64::max);
         let names = left + widest(&|l| svg::width("name", &l.name)).max(AXIS_WIDTH);
         let (call, waiting) = (names + 10.0, names + 22.0);
-        let room = widest(&|l| match l.waiting {
-            0..=DOTS => DOT * l.waiting as f64,
-            many => svg::width("small", &waiting_text(many)),
-        });
-        let riding = waiting + room + 8.0;
-        let end = riding + widest(&|l| svg::width("small", &l.more)) + 14.0;
+        let width = |l: &Label| match l.more.as_str() {
+            "" => l.riders.width(in_words),
+            more => l.more_at(in_words) + svg::width("small", more),
+        };
+        let end = waiting + widest(&width) + 22.0;
         Self {
             names,
             call,
             waiting,
-            riding,
             end,
         }
     }
@@ -69,11 +77,21 @@ impl Columns {
 struct Label {
     name: String,
     has_call: bool,
-    waiting: usize,
+    riders: Riders,
     /// The riders bound for the stop, and whether it is no pending one.
     more: String,
     height: f64,
     position: f64,
+}
+
+impl Label {
+    /// Where `more` begins, after the riders.
+    fn more_at(&self, in_words: bool) -> f64 {
+        match self.riders.is_empty() {
+            true => 0.0,
+            false => self.riders.width(in_words) + 8.0,
+        }
+    }
 }
 
 /// The stops from the highest to the lowest, so far apart that each can be read.
@@ -83,11 +101,11 @@ fn labels(sheet: &Sheet, chosen: &Chosen, heights: &Heights) -> Vec<Label> {
     let wanted: Vec<f64> = stops.iter().map(|s| heights.of(s.position)).collect();
     let placed = heights::spread(&wanted, 14.0, heights.height + 10.0);
     let label = |(stop, height): (&Stop, f64)| {
-        let waiting = sheet.waiting.iter().filter(|w| w.stop == stop.id).count();
+        let riders = Riders::at(sheet, stop);
         let demand = sheet.demands.iter().find(|d| d.stop == stop.id);
         let riding = demand.map_or(0, |d| d.riding);
         let has_call = demand.is_some_and(|d| d.call);
-        let has_demand = waiting > 0 || riding > 0 || has_call;
+        let has_demand = !riders.is_empty() || riding > 0 || has_call;
         let mut more = Vec::new();
         if riding > 0 {
             more.push(format!("{riding} riding"));
@@ -99,17 +117,13 @@ fn labels(sheet: &Sheet, chosen: &Chosen, heights: &Heights) -> Vec<Label> {
         Label {
             name: format!("{} at {}", stop.id, short(stop.position)),
             has_call,
-            waiting,
+            riders,
             more: more.join(", "),
             height,
             position: stop.position,
         }
     };
     stops.into_iter().zip(placed).map(label).collect()
-}
-
-fn waiting_text(many: usize) -> String {
-    format!("{many} waiting")
 }
 
 /// Draws at a corner; answers the right and lower edge.
@@ -122,13 +136,15 @@ pub fn draw(svg: &mut Svg, sheet: &Sheet, chosen: &Chosen, at: (f64, f64)) -> (f
     };
     let heights = Heights::new(&stops, &cars, height);
     let labels = labels(sheet, chosen, &heights);
+    let in_words = labels.iter().all(|label| label.riders.have_room());
     let building = Building {
         sheet,
         chosen,
         heights,
         left: at.0,
-        columns: Columns::new(&labels, at.0),
+        columns: Columns::new(&labels, at.0, in_words),
         top: at.1 + HEADER + 30.0,
+        in_words,
     };
     let right = building.right();
     let (x, y) = (building.columns.names, building.top - 30.0);
@@ -138,8 +154,8 @@ pub fn draw(svg: &mut Svg, sheet: &Sheet, chosen: &Chosen, at: (f64, f64)) -> (f
         building.stop(svg, label, right);
     }
     building.shafts(svg);
-    let bottom = building.bottom() + 30.0;
-    (right.max(building.legend(svg, bottom)), bottom + 58.0)
+    let (edge, bottom) = building.legend(svg, building.bottom() + 30.0, right);
+    (right.max(edge), bottom)
 }
 
 impl Building<'_> {
@@ -174,21 +190,10 @@ impl Building<'_> {
         if stop.has_call {
             svg.circle("call", at.call, label, 4.0);
         }
-        match stop.waiting {
-            many @ 0..=DOTS => {
-                for k in 0..many {
-                    svg.circle("waiting", at.waiting + DOT * k as f64, label, 2.6);
-                }
-            }
-            many => {
-                let text = waiting_text(many);
-                let x = at.waiting - 3.0;
-                svg.text("many halo", x, label + 3.0, Anchor::Start, &text);
-            }
-        }
+        stop.riders.draw(svg, at.waiting, label, self.in_words);
         if !stop.more.is_empty() {
-            let y = label + 3.0;
-            svg.text("small halo", at.riding, y, Anchor::Start, &stop.more);
+            let (x, y) = (at.waiting + stop.more_at(self.in_words), label + 3.0);
+            svg.text("small halo", x, y, Anchor::Start, &stop.more);
         }
     }
 
@@ -213,24 +218,29 @@ impl Building<'_> {
         }
     }
 
+    /// Where the stops of a mask stand.
+    fn heights_in(&self, mask: u64) -> impl Iterator<Item = f64> {
+        let stops = self.sheet.stops.iter().enumerate();
+        let inside = stops.filter(move |(k, _)| mask & mask_bit(*k) != 0);
+        inside.map(|(_, stop)| self.y(stop.position))
+    }
+
     fn shaft(&self, svg: &mut Svg, line: &Line, car: Option<(usize, &Car)>, x: f64) {
         let (middle, top) = (x + SHAFT / 2.0, self.top - 24.0);
         svg.rect("shaft", middle - 17.0, top, 34.0, self.bottom() - top);
-        for (k, stop) in self.sheet.stops.iter().enumerate() {
-            let (bit, y) = (mask_bit(k), self.y(stop.position));
-            if line.mask & bit != 0 {
-                svg.line("floor", (middle - 17.0, y), (middle + 17.0, y));
-            }
-            let Some((_, car)) = car else { continue };
-            if car.calls & bit != 0 {
-                svg.circle("served", middle - 30.0, y, 3.0);
-            }
-            if car.restricted & bit != 0 {
-                svg.line("barred", (middle - 25.0, y - 3.0), (middle - 19.0, y + 3.0));
-                svg.line("barred", (middle - 25.0, y + 3.0), (middle - 19.0, y - 3.0));
-            }
+        for y in self.heights_in(!line.mask) {
+            svg.rect("hatched", middle - 17.0, y - 3.5, 34.0, 7.0);
+        }
+        for y in self.heights_in(line.mask) {
+            svg.line("floor", (middle - 17.0, y), (middle + 17.0, y));
         }
         if let Some((k, car)) = car {
+            for y in self.heights_in(car.calls) {
+                svg.circle("served", middle - 30.0, y, 3.0);
+            }
+            for y in self.heights_in(car.restricted) {
+                svg.cross("barred", middle - 22.0, y, 3.0);
+            }
             self.header(svg, k, car, middle);
             self.car(svg, car, middle);
             self.decision(svg, k, car, middle);
@@ -313,10 +323,10 @@ impl Building<'_> {
             (h - 2.0) * share,
         );
         if car.going_up {
-            svg.triangle("lamp", middle + 6.0, y + 8.0, 4.0, true);
+            svg.triangle("lamp", (middle + 6.0, y + 8.0), (4.0, 4.0), true);
         }
         if car.going_down {
-            svg.triangle("lamp", middle + 6.0, y + 11.0, 4.0, false);
+            svg.triangle("lamp", (middle + 6.0, y + 11.0), (4.0, 4.0), false);
         }
     }
 
@@ -339,7 +349,7 @@ impl Building<'_> {
         } else {
             let back = if up { 7.0 } else { -7.0 };
             svg.line("arrow", (x, from), (x, to + back));
-            svg.triangle("head", x, to + back, 7.0, up);
+            svg.triangle("head", (x, to + back), (7.0, 7.0), up);
         }
         let cell = self.row(k).and_then(|row| self.chosen.cell(row));
         if let Some(cell) = cell {
@@ -347,39 +357,94 @@ impl Building<'_> {
         }
     }
 
-    fn legend(&self, svg: &mut Svg, y: f64) -> f64 {
-        let x = self.left;
+    /// What is drawn, in marks and words; answers the right and lower edge.
+    fn legend(&self, svg: &mut Svg, top: f64, right: f64) -> (f64, f64) {
+        let width = (right - self.left).clamp(LEGEND.0, LEGEND.1);
+        let mut legend = Legend::new(self.left, top, width);
         let axis = if self.heights.is_to_scale {
             "Stops and cars at their positions."
         } else {
             "Stops in the order of their positions; distances are not to scale."
         };
-        svg.text("small", x, y, Anchor::Start, axis);
-        svg.circle("waiting", x + 4.0, y + 13.0, 2.6);
-        svg.text(
-            "small",
-            x + 12.0,
-            y + 16.0,
-            Anchor::Start,
-            "a waiting rider",
-        );
-        svg.circle("call", x + 96.0, y + 13.0, 4.0);
-        svg.text(
-            "small",
-            x + 106.0,
-            y + 16.0,
-            Anchor::Start,
-            "a call without a rider",
-        );
-        svg.circle("served", x + 222.0, y + 13.0, 3.0);
-        svg.text("small", x + 230.0, y + 16.0, Anchor::Start, "a car call");
-        svg.line("barred", (x + 288.0, y + 10.0), (x + 295.0, y + 16.0));
-        svg.line("barred", (x + 288.0, y + 16.0), (x + 295.0, y + 10.0));
-        svg.text("small", x + 300.0, y + 16.0, Anchor::Start, "a barred stop");
-        let text = "Bold frame: idle-listed. Grey in a car: its load. Triangles: its lamps. Arrow (a ring at the car itself): the decision, with its cost.";
-        svg.text("small", x, y + 31.0, Anchor::Start, text);
-        let text = "Above a shaft: the car's phase, its load of its capacity, its sweep and mode after the pass, the decision.";
-        svg.text("small", x, y + 46.0, Anchor::Start, text);
-        x + svg::width("small", text)
+        legend.sentence(svg, axis);
+        self.stop_entries(svg, &mut legend);
+        shaft_entries(svg, &mut legend);
+        car_entries(svg, &mut legend);
+        legend.end()
     }
+
+    fn stop_entries(&self, svg: &mut Svg, legend: &mut Legend) {
+        legend.entry(svg, "a waiting rider who goes up", |svg, x, y| {
+            Way::Up.draw(svg, x, y);
+        });
+        legend.entry(svg, "down", |svg, x, y| Way::Down.draw(svg, x, y));
+        legend.entry(svg, "unknown", |svg, x, y| Way::Unknown.draw(svg, x, y));
+        legend.entry(svg, "a call without a rider", |svg, x, y| {
+            svg.circle("call", x, y, 4.0);
+        });
+        let riders = if self.in_words {
+            "With each waiting rider: the destination, how long the rider has waited, the line if one is required."
+        } else {
+            "Under the pointer, of each waiting rider: the destination, how long the rider has waited, the line if one is required."
+        };
+        legend.sentence(svg, riders);
+        legend.sentence(
+            svg,
+            "N riding: so many riders are on their way to the stop in cars. Not pending: the stop has demand, but this pass sends no car to it; cars on their way cover it, or no line serves it.",
+        );
+    }
+}
+
+fn shaft_entries(svg: &mut Svg, legend: &mut Legend) {
+    legend.entry(svg, "a stop of the line", |svg, x, y| {
+        svg.rect("shaft", x - 8.0, y - 6.0, 16.0, 12.0);
+        svg.line("floor", (x - 8.0, y), (x + 8.0, y));
+    });
+    legend.entry(svg, "a stop that the line skips", |svg, x, y| {
+        svg.rect("hatched", x - 8.0, y - 3.5, 16.0, 7.0);
+    });
+    legend.entry(svg, "a stop barred to the car", |svg, x, y| {
+        svg.cross("barred", x, y, 3.0);
+    });
+    legend.entry(svg, "a car call", |svg, x, y| {
+        svg.circle("served", x, y, 3.0);
+    });
+}
+
+/// The fills of a car, its frame, lamps and decision.
+fn car_entries(svg: &mut Svg, legend: &mut Legend) {
+    legend.next_row();
+    for (phase, words) in FILLS {
+        legend.entry(svg, words, |svg, x, y| {
+            svg.tile((x - 8.0, y - 6.0), (16.0, 12.0), COLOURS[phase], "car", "");
+        });
+    }
+    legend.entry(svg, "grey from below: its load", |svg, x, y| {
+        svg.tile((x - 8.0, y - 6.0), (16.0, 12.0), COLOURS[0], "car", "");
+        svg.rect("full", x - 7.5, y + 0.5, 15.0, 5.0);
+    });
+    legend.entry(svg, "idle-listed", |svg, x, y| {
+        svg.tile(
+            (x - 7.0, y - 5.0),
+            (14.0, 10.0),
+            COLOURS[0],
+            "car listed",
+            "",
+        );
+    });
+    legend.entry(svg, "its lamps", |svg, x, y| {
+        svg.triangle("lamp", (x, y - 0.5), (4.0, 4.0), true);
+        svg.triangle("lamp", (x, y + 1.5), (4.0, 4.0), false);
+    });
+    legend.entry(svg, "sent there, with the cost", |svg, x, y| {
+        svg.line("arrow", (x, y + 6.0), (x, y));
+        svg.triangle("head", (x, y + 1.0), (6.0, 6.0), true);
+    });
+    legend.entry(svg, "sent to the stop where it is", |svg, x, y| {
+        svg.circle("arrow", x, y, 4.0);
+    });
+    legend.sentence(
+        svg,
+        "Above a shaft: the car's phase, the stop that it moves to or else whether it is idle-listed, its load of its capacity, its sweep and mode after the pass, the decision.",
+    );
 }

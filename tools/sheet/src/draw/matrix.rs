@@ -1,10 +1,12 @@
-//! The cost matrix as a heat map, the chosen cells framed.
+//! The cost matrix as a heat map, the chosen cells framed, the cells without a rank marked by their reasons.
 
 use dispatch_bench::SENTINEL;
 use sheetgen::Sheet;
 
+use super::legend::Legend;
+use super::reasons::{NoRank, Reasons};
 use super::svg::{Anchor, Svg, widest};
-use super::{Chosen, car_name, cost};
+use super::{Chosen, LEGEND, car_name, cost};
 
 /// From the least cost to the most, in the order of the costs.
 const COLOURS: [&str; 7] = [
@@ -12,8 +14,20 @@ const COLOURS: [&str; 7] = [
 ];
 const NO_RANK: &str = "#e6e6e6";
 
+/// What a cost is, by strategy.
+const COSTS: [&str; 3] = [
+    "A cost is the car's rank for the stop. ETD's is a weighted sum and has no unit: travel, the delay of riders aboard and doors on the way, less the bonuses for direction and for waits; never below 0.",
+    "A cost is the car's rank for the stop. RSR's is a weighted sum and has no unit: travel and the penalty for the wrong direction, less the bonuses for a car call and for waits; never below 0.",
+    "A cost is the car's rank for the stop. SCAN's is the distance from the car to the stop, as positions count it.",
+];
+const DIGITS: &str = "Here and at the arrows it is rounded; under the pointer stands the cell itself, which counts 1,000,000 for a cost of 1, as the total does.";
+const TIES: &str = "Where several choices have the least total, the bench takes the lowest columns in car order: the lowest for the first car, then for the second, and so on.";
+
 /// Where the cells stand, and what their rows and columns are called.
-struct Table {
+struct Table<'a> {
+    chosen: &'a Chosen,
+    reasons: Reasons<'a>,
+    shades: Shades,
     corner: (f64, f64),
     size: (f64, f64),
     rows: Vec<String>,
@@ -29,46 +43,52 @@ pub fn draw(svg: &mut Svg, sheet: &Sheet, chosen: &Chosen, at: (f64, f64)) -> (f
         svg.text("small", at.0, at.1 + 16.0, Anchor::Start, none);
         return (at.0 + 300.0, at.1 + 24.0);
     }
-    let idle = sheet.cars.iter().filter(|car| car.idle);
-    let rows: Vec<String> = idle.map(|car| car_name(car.id)).collect();
-    let columns = column_names(chosen);
-    let size = match columns.len() {
-        0..=16 => (50.0, 24.0),
-        _ => (20.0, 20.0),
-    };
-    // The columns' names rise by 55 degrees.
-    let header = 28.0 + 0.82 * widest("small", &columns);
-    let corner = (at.0 + 16.0 + widest("name", &rows), at.1 + header);
-    let table = Table {
-        corner,
-        size,
-        rows,
-        columns,
-    };
+    let table = Table::new(sheet, chosen, at);
     table.names(svg);
-    let shades = Shades::new(&chosen.pass.matrix);
-    for (row, cells) in chosen.pass.rows().enumerate() {
-        for (column, cell) in cells.iter().enumerate() {
-            table.cell(svg, &shades, (row, column), *cell);
+    for row in 0..table.rows.len() {
+        for column in 0..table.columns.len() {
+            table.cell(svg, row, column);
         }
     }
-    table.frames(svg, chosen);
-    let bottom = corner.1 + size.1 * table.rows.len() as f64;
-    shades.legend(svg, (at.0, bottom + 22.0));
-    let right = corner.0 + size.0 * table.columns.len() as f64;
-    (
-        right + 0.57 * widest("small", &table.columns),
-        bottom + 42.0,
-    )
+    table.frames(svg);
+    let (right, bottom) = table.end();
+    let (edge, bottom) = table.legend(svg, sheet, (at.0, bottom + 22.0), right);
+    (right.max(edge), bottom)
 }
 
-impl Table {
+impl<'a> Table<'a> {
+    fn new(sheet: &'a Sheet, chosen: &'a Chosen, at: (f64, f64)) -> Self {
+        let idle = sheet.cars.iter().filter(|car| car.idle);
+        let rows: Vec<String> = idle.map(|car| car_name(car.id)).collect();
+        let columns = column_names(chosen);
+        // The columns' names rise by 55 degrees.
+        let header = 28.0 + 0.82 * widest("small", &columns);
+        Table {
+            chosen,
+            reasons: Reasons::new(sheet, chosen),
+            shades: Shades::new(&chosen.pass.matrix),
+            corner: (at.0 + 16.0 + widest("name", &rows), at.1 + header),
+            size: match columns.len() {
+                0..=16 => (50.0, 24.0),
+                _ => (20.0, 20.0),
+            },
+            rows,
+            columns,
+        }
+    }
+
     fn at(&self, row: usize, column: usize) -> (f64, f64) {
         let (x, y) = self.corner;
         (
             x + self.size.0 * column as f64,
             y + self.size.1 * row as f64,
         )
+    }
+
+    /// The right and lower edge, slanted names included.
+    fn end(&self) -> (f64, f64) {
+        let (x, y) = self.at(self.rows.len(), self.columns.len());
+        (x + 0.57 * widest("small", &self.columns), y)
     }
 
     /// The stops above the columns and the cars beside the rows.
@@ -84,32 +104,105 @@ impl Table {
         }
     }
 
-    fn cell(&self, svg: &mut Svg, shades: &Shades, place: (usize, usize), value: u64) {
-        let (x, y) = self.at(place.0, place.1);
-        let row = self.rows.get(place.0).map_or("", String::as_str);
-        let column = self.columns.get(place.1).map_or("", String::as_str);
-        let tip = format!("{row}, {column}: {} ({value})", cost(value));
-        svg.tile((x, y), self.size, shades.of(value), "cell", &tip);
-        if self.size.0 > 40.0 && value < SENTINEL {
-            let class = if shades.is_dark(value) {
-                "number pale"
-            } else {
-                "number"
-            };
-            let middle = x + self.size.0 / 2.0;
-            svg.text(class, middle, y + 15.5, Anchor::Middle, &cost(value));
+    fn cell(&self, svg: &mut Svg, row: usize, column: usize) {
+        let Some(value) = super::cell(&self.chosen.pass, row, column) else {
+            return;
+        };
+        let (at, (w, h)) = (self.at(row, column), self.size);
+        let name = format!("{}, {}", self.rows[row], self.columns[column]);
+        if let Some(reason) = self.reasons.of(row, column) {
+            let tip = format!("{name}: {} (cell {value})", said(reason));
+            mark(svg, at, self.size, reason, &tip);
+            return;
+        }
+        let tip = format!("{name}: {} (cell {value})", cost(value));
+        svg.tile(at, self.size, self.shades.of(value), "cell", &tip);
+        if w > 40.0 {
+            let is_dark = self.shades.shade(value) >= 4;
+            let class = if is_dark { "number pale" } else { "number" };
+            let (x, y) = (at.0 + w / 2.0, at.1 + h / 2.0 + 3.5);
+            svg.text(class, x, y, Anchor::Middle, &cost(value));
         }
     }
 
     /// The chosen cells; broken where the car stays idle.
-    fn frames(&self, svg: &mut Svg, chosen: &Chosen) {
-        for (row, column) in chosen.columns.iter().enumerate() {
+    fn frames(&self, svg: &mut Svg) {
+        for (row, column) in self.chosen.columns.iter().enumerate() {
             let (x, y) = self.at(row, *column as usize);
-            let sent = chosen.pass.decisions.get(row).is_some_and(Option::is_some);
+            let decisions = &self.chosen.pass.decisions;
+            let sent = decisions.get(row).is_some_and(Option::is_some);
             let class = if sent { "chosen" } else { "unsent" };
             let (w, h) = self.size;
             svg.rect(class, x + 1.0, y + 1.0, w - 2.0, h - 2.0);
         }
+    }
+
+    fn legend(&self, svg: &mut Svg, sheet: &Sheet, at: (f64, f64), right: f64) -> (f64, f64) {
+        let width = (right - at.0).clamp(LEGEND.0, LEGEND.1);
+        let mut legend = Legend::new(at.0, at.1, width);
+        self.shades.legend(svg, &mut legend);
+        let kinds = [
+            NoRank::Line,
+            NoRank::Barred,
+            NoRank::Cut(0),
+            NoRank::Open,
+            NoRank::Spare,
+        ];
+        for kind in kinds.into_iter().filter(|kind| self.has(*kind)) {
+            legend.entry(svg, kind.words(), |svg, x, y| {
+                mark(svg, (x - 8.0, y - 8.0), (16.0, 14.0), kind, "");
+            });
+        }
+        legend.next_row();
+        legend.entry(svg, "chosen, the car is sent", |svg, x, y| {
+            svg.rect("chosen", x - 7.0, y - 5.0, 14.0, 10.0);
+        });
+        legend.entry(svg, "chosen, the car stays idle", |svg, x, y| {
+            svg.rect("unsent", x - 7.0, y - 5.0, 14.0, 10.0);
+        });
+        let costs = COSTS.get(usize::from(sheet.policy.strategy));
+        legend.sentence(svg, &format!("{} {DIGITS}", costs.unwrap_or(&"")));
+        legend.sentence(svg, TIES);
+        legend.end()
+    }
+
+    /// Some cell has no rank for a reason of this kind.
+    fn has(&self, kind: NoRank) -> bool {
+        let same = |reason| std::mem::discriminant(&reason) == std::mem::discriminant(&kind);
+        let columns = 0..self.columns.len();
+        let is_in = |row| {
+            let mut reasons = columns.clone().filter_map(|k| self.reasons.of(row, k));
+            reasons.any(same)
+        };
+        (0..self.rows.len()).any(is_in)
+    }
+}
+
+/// A reason in words, with the rank that the limit cut.
+fn said(reason: NoRank) -> String {
+    match reason {
+        NoRank::Cut(rank) => format!("no rank, {}: {}", reason.words(), cost(rank)),
+        NoRank::Open => reason.words().into(),
+        _ => format!("no rank, {}", reason.words()),
+    }
+}
+
+/// A cell without a rank; each reason has a form of its own, that reads without colours too.
+fn mark(svg: &mut Svg, at: (f64, f64), size: (f64, f64), reason: NoRank, tip: &str) {
+    let (x, y) = (at.0 + size.0 / 2.0, at.1 + size.1 / 2.0);
+    match reason {
+        NoRank::Spare => {
+            let (at, size) = ((at.0 + 1.0, at.1 + 1.0), (size.0 - 2.0, size.1 - 2.0));
+            svg.tile(at, size, "#fff", "spare", tip);
+        }
+        NoRank::Line => svg.tile(at, size, "url(#hatch)", "cell", tip),
+        _ => svg.tile(at, size, NO_RANK, "cell", tip),
+    }
+    match reason {
+        NoRank::Barred => svg.cross("barred", x, y, 3.5),
+        NoRank::Cut(_) => svg.line("cut", (x - 5.0, y + 5.0), (x + 5.0, y - 5.0)),
+        NoRank::Open => svg.line("dash", (x - 3.5, y), (x + 3.5, y)),
+        NoRank::Spare | NoRank::Line => {}
     }
 }
 
@@ -145,30 +238,23 @@ impl Shades {
     }
 
     fn of(&self, cell: u64) -> &'static str {
-        if cell >= SENTINEL {
-            NO_RANK
-        } else {
-            COLOURS[self.shade(cell)]
-        }
+        COLOURS[self.shade(cell)]
     }
 
-    fn is_dark(&self, cell: u64) -> bool {
-        self.shade(cell) >= 4
-    }
-
-    fn legend(&self, svg: &mut Svg, at: (f64, f64)) {
-        svg.tile((at.0, at.1 - 9.0), (16.0, 11.0), NO_RANK, "cell", "");
-        svg.text("small", at.0 + 20.0, at.1, Anchor::Start, "no rank");
-        if let (Some(least), Some(most)) = (self.cells.first(), self.cells.last()) {
-            for (k, colour) in COLOURS.iter().enumerate() {
-                let x = at.0 + 72.0 + 16.0 * k as f64;
-                svg.tile((x, at.1 - 9.0), (16.0, 11.0), colour, "cell", "");
+    /// The costs from the least to the most.
+    fn legend(&self, svg: &mut Svg, legend: &mut Legend) {
+        match self.cells.as_slice() {
+            [] => legend.sentence(svg, "No cell has a rank."),
+            [one] => {
+                let words = format!("every cost is {}", cost(*one));
+                legend.colours(svg, &COLOURS[..1], &words);
             }
-            let (least, most) = (cost(*least), cost(*most));
-            let text = format!("from {least} to {most}, by the order of the costs");
-            svg.text("small", at.0 + 190.0, at.1, Anchor::Start, &text);
+            [least, .., most] => {
+                let (least, most) = (cost(*least), cost(*most));
+                let words = format!("costs from {least} to {most}, by their order");
+                legend.colours(svg, &COLOURS, &words);
+            }
         }
-        let text = "Framed: the choice with the least total; broken where the car stays idle.";
-        svg.text("small", at.0, at.1 + 15.0, Anchor::Start, text);
+        legend.next_row();
     }
 }

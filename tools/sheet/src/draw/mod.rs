@@ -2,9 +2,12 @@
 
 mod building;
 mod heights;
+mod legend;
 mod matrix;
 mod pending;
+mod reasons;
 mod refused;
+mod riders;
 mod svg;
 
 use dispatch_bench::{Pass, SENTINEL};
@@ -14,9 +17,11 @@ use crate::fields::STRATEGIES;
 use crate::show::number_of;
 use svg::{Anchor, Svg};
 
-/// The cost of a unit.
-const UNIT: f64 = 1_000_000.0;
+/// What a cost of 1 counts.
+const UNIT: u64 = 1_000_000;
 const EDGE: f64 = 24.0;
+/// The least and the most width of a legend.
+const LEGEND: (f64, f64) = (660.0, 1_100.0);
 
 /// A sheet and its pass, or where the sheet is refused.
 pub fn draw(bytes: &[u8]) -> String {
@@ -49,23 +54,36 @@ impl Chosen {
 
     /// The chosen cell of an idle car.
     fn cell(&self, row: usize) -> Option<u64> {
-        let column = *self.columns.get(row)? as usize;
-        self.pass.rows().nth(row)?.get(column).copied()
+        cell(&self.pass, row, *self.columns.get(row)? as usize)
     }
+
+    /// How many cars are sent, and the sum of their cells.
+    fn sent(&self) -> (usize, u64) {
+        let rows = self.pass.decisions.iter().enumerate();
+        let sent = rows.filter(|(_, decision)| decision.is_some());
+        let cells = sent.filter_map(|(row, _)| self.cell(row));
+        cells.fold((0, 0), |(cars, sum), cell| (cars + 1, sum + cell))
+    }
+}
+
+fn cell(pass: &Pass, row: usize, column: usize) -> Option<u64> {
+    pass.rows().nth(row)?.get(column).copied()
 }
 
 fn draw_pass(sheet: &Sheet, pass: Pass) -> String {
     let chosen = Chosen::new(sheet, pass);
     let mut svg = Svg::default();
-    let title = title(sheet, &chosen.pass);
+    let (title, total) = (title(sheet, &chosen), total(&chosen));
     svg.text("title", EDGE, 30.0, Anchor::Start, &title);
-    let (width, height) = building::draw(&mut svg, sheet, &chosen, (EDGE, 56.0));
+    svg.text("", EDGE, 49.0, Anchor::Start, &total);
+    let (width, height) = building::draw(&mut svg, sheet, &chosen, (EDGE, 78.0));
     let (right, bottom) = matrix::draw(&mut svg, sheet, &chosen, (EDGE, height + 40.0));
     let width = width.max(right).max(svg::width("title", &title) + EDGE);
+    let width = width.max(svg::width("", &total) + EDGE);
     svg.finish(width + EDGE, bottom + EDGE)
 }
 
-fn title(sheet: &Sheet, pass: &Pass) -> String {
+fn title(sheet: &Sheet, chosen: &Chosen) -> String {
     let strategy = STRATEGIES
         .get(usize::from(sheet.policy.strategy))
         .unwrap_or(&"?");
@@ -73,28 +91,51 @@ fn title(sheet: &Sheet, pass: &Pass) -> String {
         sheetgen::sheet::NO_LIMIT => "none".into(),
         limit => limit.to_string(),
     };
+    let pass = &chosen.pass;
     let cars = number_of(pass.cars, "idle car");
     let stops = number_of(pass.stops, "pending stop");
-    // In the total a car that stays idle counts as the sentinel.
-    let sent = pass.decisions.iter().flatten().count();
-    let idle = pass.cars - sent;
-    let costs = pass.total.saturating_sub(SENTINEL * idle as u64);
+    let (sent, costs) = chosen.sent();
     let mut parts = vec![format!("{cars}, {stops}")];
     if sent > 0 {
-        parts.push(format!("{sent} sent at a cost of {}", cost(costs)));
+        parts.push(format!("{sent} sent at a cost of {}", exact(costs)));
     }
-    if idle > 0 {
-        parts.push(format!("{idle} left idle"));
+    match pass.cars - sent {
+        0 => {}
+        1 => parts.push("1 stays idle".into()),
+        idle => parts.push(format!("{idle} stay idle")),
     }
-    parts.push(format!("total {}", pass.total));
     format!("{strategy}, limit {limit}: {}", parts.join("; "))
 }
 
-/// A cell as a cost.
+/// The answered total and what it holds, to the last digit.
+fn total(chosen: &Chosen) -> String {
+    let (sent, costs) = chosen.sent();
+    let pass = &chosen.pass;
+    let of_costs = format!("{costs} for the cost (1,000,000 for 1)");
+    let of_idle = match pass.cars - sent {
+        1 => format!("{SENTINEL} for the car that stays idle"),
+        idle => format!("{idle} × {SENTINEL} for the cars that stay idle"),
+    };
+    let holds = match (sent, pass.cars - sent) {
+        (0, 0) => "there is no idle car".into(),
+        (_, 0) => of_costs,
+        (0, _) => of_idle,
+        _ => format!("{of_costs} + {of_idle}"),
+    };
+    format!("Answered total {}: {holds}", pass.total)
+}
+
+/// A sum of cells as a cost, with all its digits.
+fn exact(cells: u64) -> String {
+    let text = format!("{}.{:06}", cells / UNIT, cells % UNIT);
+    text.trim_end_matches('0').trim_end_matches('.').into()
+}
+
+/// A cell as a cost, rounded.
 fn cost(cell: u64) -> String {
     match cell {
         SENTINEL.. => "no rank".into(),
-        _ => svg::short(cell as f64 / UNIT),
+        _ => svg::short(cell as f64 / UNIT as f64),
     }
 }
 
@@ -106,5 +147,24 @@ fn car_name(id: u32) -> String {
     match id {
         LONG_ID.. => id.to_string(),
         _ => format!("car {id}"),
+    }
+}
+
+#[cfg(test)]
+mod tests {
+    use super::*;
+
+    #[test]
+    fn costs_keep_their_digits() {
+        for (cells, words) in [
+            (0, "0"),
+            (1, "0.000001"),
+            (1_500_000, "1.5"),
+            (20_000_000, "20"),
+            (32 * (SENTINEL - 1), "9007199254.74096"),
+            (SENTINEL - 1, "281474976.710655"),
+        ] {
+            assert_eq!(exact(cells), words);
+        }
     }
 }

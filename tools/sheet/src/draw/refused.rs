@@ -6,7 +6,7 @@ use sheetgen::sheet::HEAD_BITS;
 use crate::cut::{Cut, Record};
 use crate::explain::{self, Reason};
 use crate::fields::KINDS;
-use crate::value;
+use crate::{text, value};
 
 use super::EDGE;
 use super::svg::{Anchor, Svg};
@@ -27,12 +27,15 @@ pub fn draw(bytes: &[u8], refusal: Refusal) -> String {
     svg.text("fault", EDGE, 50.0, Anchor::Start, &reason.sentence);
     let rule = format!("Rule {number}: {}", refusal.rule());
     svg.text("", EDGE, 66.0, Anchor::Start, &rule);
-    let to_do = format!("To do: {}", refusal.remedy());
+    let to_do = format!("To do: {}", reason.remedy);
     svg.text("", EDGE, 82.0, Anchor::Start, &to_do);
-    strip(&mut svg, &cut, 118.0);
-    mark(&mut svg, &cut, &reason, offset, 118.0);
-    legend(&mut svg, 190.0);
-    let bottom = fields(&mut svg, &cut, &reason, 222.0);
+    if text::is_text(bytes) {
+        svg.text("name", EDGE, 98.0, Anchor::Start, text::HINT);
+    }
+    strip(&mut svg, &cut, 130.0);
+    mark(&mut svg, &cut, &reason, offset, 130.0);
+    legend(&mut svg, 202.0);
+    let bottom = fields(&mut svg, &cut, &reason, 234.0);
     svg.finish(WIDTH + 2.0 * EDGE + 120.0, bottom + EDGE)
 }
 
@@ -66,7 +69,7 @@ fn mark(svg: &mut Svg, cut: &Cut, reason: &Reason, offset: u64, y: f64) {
         None => x(cut, cut.bits()),
     };
     svg.rect("refused", from, y - 3.0, (to - from).max(4.0), 32.0);
-    svg.triangle("here", from, y + 40.0, 6.0, true);
+    svg.triangle("here", (from, y + 40.0), (6.0, 6.0), true);
     let (x, anchor) = match from {
         m if m < EDGE + 60.0 => (m - 6.0, Anchor::Start),
         m if m > EDGE + WIDTH - 60.0 => (m + 6.0, Anchor::End),

@@ -54,6 +54,10 @@ text{font-family:DejaVu Sans,Verdana,sans-serif;font-size:10px;fill:#222}\
 .guide{stroke:#dcdcdc;stroke-width:0.8}\
 .served{fill:#777}\
 .barred{stroke:#b00020;stroke-width:1.6}\
+.cut{stroke:#222;stroke-width:1.8}\
+.dash{stroke:#777;stroke-width:1.6}\
+.hatched{fill:url(#hatch);stroke:#aaa;stroke-width:0.6}\
+.spare{stroke:#bbb;stroke-width:0.8;stroke-dasharray:2 2}\
 .call{fill:none;stroke:#0072b2;stroke-width:1.6}\
 .car{stroke:#444;stroke-width:1}\
 .listed{stroke:#000;stroke-width:2.4}\
@@ -63,12 +67,18 @@ text{font-family:DejaVu Sans,Verdana,sans-serif;font-size:10px;fill:#222}\
 .arrow{stroke:#d55e00;stroke-width:2.2;fill:none}\
 .head{fill:#d55e00}\
 .cell{stroke:#fff;stroke-width:1}\
+.shade{stroke:#bbb;stroke-width:0.6}\
 .refused{fill:none;stroke:#b00020;stroke-width:2.6}\
 .here{fill:#b00020}\
 .chosen{fill:none;stroke:#d55e00;stroke-width:2.6}\
 .unsent{fill:none;stroke:#222;stroke-width:1.6;stroke-dasharray:3 2}\
 .field{fill:#fff;stroke:#999}\
 .wrong{fill:#ffd9dd;stroke:#b00020;stroke-width:2}";
+
+/// Strokes side by side, for what a line does not serve.
+const HATCH: &str = "\
+<pattern id=\"hatch\" width=\"4\" height=\"4\" patternUnits=\"userSpaceOnUse\" patternTransform=\"rotate(45)\">\
+<rect width=\"4\" height=\"4\" fill=\"#f4f4f4\"/><rect width=\"1.4\" height=\"4\" fill=\"#9a9a9a\"/></pattern>";
 
 impl Svg {
     pub fn rect(&mut self, class: &str, x: f64, y: f64, width: f64, height: f64) {
@@ -79,14 +89,37 @@ impl Svg {
         );
     }
 
-    /// A rectangle of a colour, with a text that shows under the pointer.
+    /// A rectangle of a colour, with a text that shows under the pointer unless it is empty.
     pub fn tile(&mut self, at: (f64, f64), size: (f64, f64), fill: &str, class: &str, tip: &str) {
         let (x, y, w, h) = (c(at.0), c(at.1), c(size.0.max(0.0)), c(size.1.max(0.0)));
-        let tip = escape(tip);
+        let end = match tip {
+            "" => "/>".into(),
+            _ => format!("><title>{}</title></rect>", escape(tip)),
+        };
         let _ = writeln!(
             self.body,
-            "<rect class=\"{class}\" x=\"{x}\" y=\"{y}\" width=\"{w}\" height=\"{h}\" fill=\"{fill}\"><title>{tip}</title></rect>"
+            "<rect class=\"{class}\" x=\"{x}\" y=\"{y}\" width=\"{w}\" height=\"{h}\" fill=\"{fill}\"{end}"
         );
+    }
+
+    /// Shapes of a class.
+    pub fn group(&mut self, class: &str, shapes: impl FnOnce(&mut Self)) {
+        let _ = writeln!(self.body, "<g class=\"{class}\">");
+        shapes(self);
+        self.body += "</g>\n";
+    }
+
+    /// Shapes with one text that shows under the pointer.
+    pub fn tipped(&mut self, tip: &str, shapes: impl FnOnce(&mut Self)) {
+        let _ = writeln!(self.body, "<g><title>{}</title>", escape(tip));
+        shapes(self);
+        self.body += "</g>\n";
+    }
+
+    /// Two strokes that cross in a middle.
+    pub fn cross(&mut self, class: &str, x: f64, y: f64, half: f64) {
+        self.line(class, (x - half, y - half), (x + half, y + half));
+        self.line(class, (x - half, y + half), (x + half, y - half));
     }
 
     pub fn line(&mut self, class: &str, from: (f64, f64), to: (f64, f64)) {
@@ -105,10 +138,11 @@ impl Svg {
         );
     }
 
-    /// A triangle with its base in the middle of `x`, `y`; `up` points to smaller y.
-    pub fn triangle(&mut self, class: &str, x: f64, y: f64, size: f64, up: bool) {
-        let tip = if up { y - size } else { y + size };
-        let (left, right, y, x, tip) = (c(x - size), c(x + size), c(y), c(x), c(tip));
+    /// A triangle by the middle of its base, half the base and the height; `up` points to smaller y.
+    pub fn triangle(&mut self, class: &str, base: (f64, f64), size: (f64, f64), up: bool) {
+        let ((x, y), (half, height)) = (base, size);
+        let tip = if up { y - height } else { y + height };
+        let (left, right, y, x, tip) = (c(x - half), c(x + half), c(y), c(x), c(tip));
         let _ = writeln!(
             self.body,
             "<path class=\"{class}\" d=\"M{left} {y}L{right} {y}L{x} {tip}Z\"/>"
@@ -137,26 +171,52 @@ impl Svg {
         let (w, h) = (c(width), c(height));
         format!(
             "<svg xmlns=\"http://www.w3.org/2000/svg\" width=\"{w}\" height=\"{h}\" viewBox=\"0 0 {w} {h}\">\n\
-             <style>{STYLE}</style>\n<rect width=\"{w}\" height=\"{h}\" fill=\"#fff\"/>\n{}</svg>\n",
+             <style>{STYLE}</style>\n{HATCH}\n<rect width=\"{w}\" height=\"{h}\" fill=\"#fff\"/>\n{}</svg>\n",
             self.body
         )
     }
 }
 
-/// How wide a text is, at the most: the widest digit or letter of its class, but for m and w.
+/// How wide a text is, at the most.
 pub fn width(class: &str, text: &str) -> f64 {
-    let each = match class {
-        "title" => 8.8,
+    let digit = match class {
+        "title" => 10.5,
         "name" | "cost" | "fault" => 7.0,
+        "" => 6.4,
         _ => 5.8,
     };
-    each * text.chars().count() as f64
+    digit * text.chars().map(in_digits).sum::<f64>()
+}
+
+/// The width of a character in widths of a digit.
+fn in_digits(c: char) -> f64 {
+    match c {
+        ' ' | '.' | ',' | ':' | ';' | '(' | ')' | '-' | 'f' | 'i' | 'j' | 'l' | 'r' | 't' => 0.66,
+        'm' | 'w' | 'M' | 'W' => 1.55,
+        '0'..='9' | 'a'..='z' => 1.0,
+        _ => 1.35,
+    }
 }
 
 /// The width of the widest.
 pub fn widest(class: &str, texts: &[String]) -> f64 {
     let widths = texts.iter().map(|text| width(class, text));
     widths.fold(0.0, f64::max)
+}
+
+/// A text in lines of words that are at most so wide.
+pub fn wrapped(class: &str, text: &str, most: f64) -> Vec<String> {
+    let mut lines: Vec<String> = Vec::new();
+    for word in text.split(' ') {
+        match lines.last_mut() {
+            Some(line) if width(class, line) + width(class, word) < most => {
+                *line += " ";
+                *line += word;
+            }
+            _ => lines.push(word.into()),
+        }
+    }
+    lines
 }
 
 /// A number for a label, in at most four digits.
