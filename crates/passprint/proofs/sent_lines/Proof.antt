@@ -19,7 +19,7 @@ decision-lines-requires c κs =
     let p = c .before .before .before .before .before .before .before .before .before .before .before .before .before .pre in
     let rows = c .before .before .before .before .before .before .before .list-cars .ensures in
     let h = c .before .before .before .before .head-line .ensures in
-    (accepted (a .s .now) (a .c) (p .0) .small, rows .0, rows .1, p .2, omega (arith, h .1, h .0 .size, p .4))
+    (accepted (a .s .now) (a .c) (p .0) .small, rows .0, rows .1, p .2, omega (arith, h .1, p .4))
 
 sweep-lines-requires : tie.Need-sweep-lines-requires
 sweep-lines-requires c κs =
@@ -28,7 +28,7 @@ sweep-lines-requires c κs =
     let rows = c .before .before .before .before .before .before .before .before .before .before .before .before .list-cars .ensures in
     let h = c .before .before .before .before .before .before .before .before .before .head-line .ensures in
     let d = c .before .before .before .before .decision-lines .ensures in
-    (accepted (a .s .now) (a .c) (p .0) .small, rows .0, rows .1, p .3, omega (arith, h .1, h .0 .size, d .1, d .0 .size, p .4))
+    (accepted (a .s .now) (a .c) (p .0) .small, rows .0, rows .1, p .3, omega (arith, h .1, d .1, p .4))
 
 returns : tie.Need-returns
 returns c =
