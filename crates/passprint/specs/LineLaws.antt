@@ -13,7 +13,7 @@ use Rattle.laws.specs.Bools.{less?}
 use Rattle.laws.specs.Folds.{fold, fold-next, count-le}
 use Rattle.laws.specs.Tables.{tab, getD-tab, tab-length}
 use Rattle.io.specs.Counts.{Counts as Counted}
-use Rattle.text.specs.Text.{decimal, Put, then, nothing}
+use Rattle.text.specs.Text.{decimal, Put, size, then, nothing}
 use Rattle.components.specs.declared.Direction.{Direction}
 use Rattle.components.specs.declared.Direction.the-variants.{Up, Down}
 use Rattle.components.specs.declared.Mode.{Mode}
@@ -97,9 +97,9 @@ pub record Putting (line : ℕ → List ℕ) (entry : List ℕ) (at : ℕ) (i : 
   pub put : Put entry at (linesOf line i) exit r
   pub near : r ≤ at + 60 * i
 
-pub putting-start : (line : ℕ → List ℕ) (e : List ℕ) (a : ℕ) → Putting line e a 0 e a
+pub putting-start : (line : ℕ → List ℕ) (e : List ℕ) (a : ℕ) → a ≤ length e → Putting line e a 0 e a
 unfolding fold
-putting-start line e a = record { put = nothing e a; near = omega arith }
+putting-start line e a h = record { put = nothing e a h; near = omega arith }
 
 pub putting-next : {line : ℕ → List ℕ} {e : List ℕ} {a i : ℕ} {e′ : List ℕ} {b : ℕ} {t e″ : List ℕ} {r : ℕ} → Putting line e a i e′ b
     → t ≡ line i → Put e′ b t e″ r → r ≤ b + 60 → Putting line e a (i + 1) e″ r
@@ -209,5 +209,5 @@ refused-is bytes e = rw e
 pub put-as : {e : List ℕ} {a : ℕ} {t u e′ : List ℕ} {r : ℕ} → t ≡ u → Put e a t e′ r → Put e a u e′ r
 put-as {e} {a} {t} {u} {e′} {r} q p = subst (λ (z : List ℕ). Put e a z e′ r) q p
 
-pub counted : {e t e′ : List ℕ} {r : ℕ} → r ≤ length e → Put e 0 t e′ r → Counted r e′ × (take r e′ ≡ t)
-counted {e} {t} {e′} {r} l p = let h : r ≤ length e′ = omega (arith, p .size) in ((h, sym (length-take-le r e′ h)), p .text)
+pub counted : {e t e′ : List ℕ} {r : ℕ} → Put e 0 t e′ r → Counted r e′ × ((r ≡ length t) × (e′ ≡ t ++ drop r e))
+counted {e} {t} {e′} {r} p = let h : r ≤ length e′ = omega (arith, size p, p .fits) in ((h, sym (length-take-le r e′ h)), (omega (arith, p .next), p .buffer))

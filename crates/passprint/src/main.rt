@@ -5,8 +5,9 @@
 // bytes (`printed-first` of specs/LineLaws.antt), so the rest is not read. No contract can say what is read from a file or written to one: that
 // `main` hands `lines` the bytes of standard input and writes its buffer's text to standard output is tested, not proved.
 ghost use mathlib.Core.Path.{_≡_};
+ghost use mathlib.Core.List.{_++_};
 ghost use Prim.Native.Nat.{_+_, _≤_, _<_};
-ghost use lib.ListN.{length, take};
+ghost use lib.ListN.{length, drop};
 ghost use Rattle.io.specs.Counts.{Counts as Counted};
 ghost use Rattle.text.specs.Text.{Put};
 ghost use Rattle.layout.specs.declared.Reading.the-variants.{Accepted};
@@ -197,10 +198,10 @@ fn pass_lines(s: &[u8], c: Counts, out: &mut [u8]) -> usize
     }
 }
 
-// The text of a byte string, at the start of the buffer; answers its length.
+// The text of a byte string, at the start of the buffer, whose rest is kept; answers its length.
 fn lines(s: &[u8], out: &mut [u8; 4096]) -> usize
     ensures { λ r. ⌜ Counted r (now (out .exit)) ⌝ }
-    ensures { λ r. ⌜ take r (now (out .exit)) ≡ printed (now (s .entry)) ⌝ }
+    ensures { λ r. ⌜ (r ≡ length (printed (now (s .entry)))) × (now (out .exit) ≡ printed (now (s .entry)) ++ drop r (now (out .entry))) ⌝ }
 {
     match sheet::read(s) {
         Reading::Refused { number, offset } => refusal_line(out, number, offset),

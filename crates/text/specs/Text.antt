@@ -1,6 +1,6 @@
 -- Text as a list of ASCII codes, and a buffer that it is put into piece by piece. Assumes nothing.
 use Prim.Native.Nat.{ℕ, zero, suc, _+_, _-_, _/_, _%_, _^_, _≤_, _<_}
-use mathlib.Core.Path.{_≡_, refl, sym, ap, subst, _∙_}
+use mathlib.Core.Path.{_≡_, sym, subst, _∙_}
 use mathlib.Core.Bool.{cond}
 use mathlib.Core.List.{List, [], _∷_, _++_, append-assoc, append-nil}
 use mathlib.Core.Logic.{⊎-elim}
@@ -8,10 +8,11 @@ use native.Mathlib.Numerals.{add-one}
 use native.Mathlib.Nat.{one-le-pow, pow-le-pow-right}
 use native.Mathlib.Omega.{arith}
 use lib.Dec.{ltb}
-use lib.ListN.{length, getD, take, set, length-append, length-set}
-use lib.Seq.{take-suc, take-suc-set, take-length}
+use lib.ListN.{length, getD, take, drop, set, length-append, take-append-drop}
+use lib.Seq.{length-take-le, take-length, take-at, drop-at, drop-drop, paste, paste-suc}
 use borrow.Author.Tests.{lt-ltb, le-ltb}
 use Rattle.laws.specs.Bools.{less?}
+use Rattle.laws.specs.Tables.{front-length}
 use Rattle.io.specs.Digits.{digits, Fewest}
 
 -- a number in decimal, of at most so many digits
@@ -23,37 +24,48 @@ decimalOf (suc most) n = cond (ltb n 10) ((48 + n) ∷ []) (decimalOf most (n / 
 unfoldable pub decimal : ℕ → List ℕ
 decimal n = decimalOf 20 n
 
--- a piece was put into a buffer at a place, and the next one goes to the place r
+-- a piece was put into a buffer at a place: the buffer holds the piece there, and everywhere else, before the place and past the piece, what it
+-- held at entry. The piece fits, and the next one goes to the place r, where this one ends.
 pub record Put (entry : List ℕ) (at : ℕ) (piece : List ℕ) (exit : List ℕ) (r : ℕ) : Type 0 where
   pub next : r ≡ at + length piece
-  pub size : length exit ≡ length entry
-  pub text : take r exit ≡ take at entry ++ piece
+  pub fits : r ≤ length entry
+  pub buffer : exit ≡ (take at entry ++ piece) ++ drop r entry
+
+module _ {e : List ℕ} {a : ℕ} {t : List ℕ} {e′ : List ℕ} {r : ℕ} (p : Put e a t e′ r) where
+  up-to : length (take a e ++ t) ≡ r
+  up-to = let h : a ≤ length e = omega arith in simp (length-append, length-take-le a e h) (omega arith)
+
+  pub size : length e′ ≡ length e
+  size = front-length (take a e ++ t) e e′ r up-to (p .fits) (p .buffer)
+
+  -- what stands before the next place, and what from there on
+  front : take r e′ ≡ take a e ++ t
+  front = rw (p .buffer) (take-at (take a e ++ t) (drop r e) r up-to)
+
+  rest : drop r e′ ≡ drop r e
+  rest = rw (p .buffer) (drop-at (take a e ++ t) (drop r e) r up-to)
 
 -- one piece after the other
 pub then : {e : List ℕ} {a : ℕ} {t : List ℕ} {e′ : List ℕ} {b : ℕ} {u e″ : List ℕ} {r : ℕ} → Put e a t e′ b → Put e′ b u e″ r → Put e a (t ++ u) e″ r
 then {e} {a} {t} {e′} {b} {u} {e″} {r} p q =
+    let kept : drop r e′ ≡ drop r e = rw (q .next, ← drop-drop (length u) b e′, rest p) (drop-drop (length u) b e) in
     record {
       next = simp length-append (omega (arith, p .next, q .next));
-      size = q .size ∙ p .size;
-      text = q .text ∙ ap (λ (l : List ℕ). l ++ u) (p .text) ∙ append-assoc (take a e) t u;
+      fits = omega (arith, size p, q .fits);
+      buffer = q .buffer ∙ rw (front p, append-assoc (take a e) t u, kept);
     }
 
-pub nothing : (e : List ℕ) (a : ℕ) → Put e a [] e a
-nothing e a = record { next = omega arith; size = refl; text = sym (append-nil (take a e)) }
+pub nothing : (e : List ℕ) (a : ℕ) → a ≤ length e → Put e a [] e a
+nothing e a h = record { next = omega arith; fits = h; buffer = sym (simp append-nil (take-append-drop a e)) }
 
 -- ---- a loop that copies a piece
 
-pub copied : (e : List ℕ) (a : ℕ) (piece l : List ℕ) (i v : ℕ) → i < length piece → a + i < length l → v ≡ getD piece i 0
-    → take (a + i) l ≡ take a e ++ take i piece → take (a + (i + 1)) (set l (a + i) v) ≡ take a e ++ take (i + 1) piece
-copied e a piece l i v h k x d =
-    let q : a + (i + 1) ≡ suc (a + i) = omega arith in
-    rw (q, take-suc-set l (a + i) v k, d, add-one i, take-suc piece i 0 h, x) (append-assoc (take a e) (take i piece) (getD piece i 0 ∷ []))
+pub copied : (e : List ℕ) (a : ℕ) (piece l : List ℕ) (i v : ℕ) → i < length piece → a + i < length e → v ≡ getD piece i 0 → l ≡ paste e a piece i
+    → set l (a + i) v ≡ paste e a piece (i + 1)
+copied e a piece l i v h k x d = rw (d, x, add-one i) (paste-suc e a piece i 0 k h)
 
-pub copied-all : (e : List ℕ) (a : ℕ) (piece l : List ℕ) (i : ℕ) → i ≤ length piece → length piece ≤ i → length l ≡ length e
-    → take (a + i) l ≡ take a e ++ take i piece → Put e a piece l (a + i)
-copied-all e a piece l i h k s d =
-    let q : i ≡ length piece = omega arith in
-    record { next = omega arith; size = s; text = d ∙ ap (λ (x : List ℕ). take a e ++ x) (ap (λ (m : ℕ). take m piece) q ∙ take-length piece) }
+pub copied-all : (e : List ℕ) (a : ℕ) (piece l : List ℕ) (i : ℕ) → i ≡ length piece → a + i ≤ length e → l ≡ paste e a piece i → Put e a piece l (a + i)
+copied-all e a piece l i q h d = record { next = omega arith; fits = h; buffer = d ∙ rw (q, take-length piece) }
 
 -- ---- the fewest digits of a number are its decimal ones
 

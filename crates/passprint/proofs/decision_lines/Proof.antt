@@ -3,6 +3,7 @@ use Prim.Native.Nat.{ℕ, _+_, _-_, _≤_}
 use Rattle.layout.specs.Records.{sheetOf, limitOf}
 use Rattle.passprint.specs.LineLaws.{Putting, putting-start, putting-next, decision-row, put-as}
 use Rattle.passprint.specs.Lines.{linesOf, rowDecision}
+use Rattle.text.specs.Text.{size}
 use borrow.Author.Needs.{needs}
 use mathlib.Core.Path.{_≡_, refl, sym, ap, _∙_}
 use native.Mathlib.Omega.{arith}
@@ -16,7 +17,7 @@ abbrev μ-loop : tie.MeasureT-loop
 μ-loop s c cars n decisions out₀ from at₀ r₀ out at r = n - r
 
 loop-holds : tie.Need-loop-holds Inv-loop μ-loop
-loop-holds c = (omega arith, putting-start _ _ _)
+loop-holds c = (omega arith, putting-start _ _ _ (omega arith))
 
 car-id-requires : tie.Need-car-id-requires Inv-loop μ-loop
 unfolding sheetOf
@@ -31,7 +32,7 @@ decision-line-requires : tie.Need-decision-line-requires Inv-loop μ-loop
 decision-line-requires c κs =
     let p = c .before .before .before .before .before .before .before .before .before .before .pre in
     let l = c .before .before .before .before .before .loop in
-    omega (arith, l .inv .1 .near, l .inv .1 .put .size, p .4, p .1 .few, c .before .before .before .before .loop-test .taken)
+    omega (arith, l .inv .1 .near, size (l .inv .1 .put), p .4, p .1 .few, c .before .before .before .before .loop-test .taken)
 
 loop-less : tie.Need-loop-less Inv-loop μ-loop
 loop-less c = omega arith
@@ -46,7 +47,7 @@ loop-again c =
     (omega arith, putting-next (l .inv .1) (decision-row (sheetOf (a .s .now) (a .c)) (p .1) (l .r) t (c .before .before .before .before .car-id .ensures) (limitOf (a .s .now)) (p .3)) (call .0) (call .1))
 
 same-length : tie.Need-same-length Inv-loop μ-loop
-same-length c = c .before .loop .inv .1 .put .size
+same-length c = size (c .before .loop .inv .1 .put)
 
 returns : tie.Need-returns Inv-loop μ-loop
 returns c =

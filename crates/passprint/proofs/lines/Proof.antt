@@ -12,12 +12,12 @@ pass-lines-requires c κs = (sym (c .before .before .before .before .read .ensur
 returns : tie.Need-returns
 returns c =
     let p = c .refusal-line .ensures in
-    counted (omega arith) (put-as (refused-is _ (sym (c .before .before .before .before .before .read .ensures) ∙ c .before .before .before .number .given .1)) (p .0))
+    counted (put-as (refused-is _ (sym (c .before .before .before .before .before .read .ensures) ∙ c .before .before .before .number .given .1)) (p .0))
 
 returns-2 : tie.Need-returns-2
 returns-2 c =
     let p = c .pass-lines .ensures in
-    counted (omega arith) (p .0)
+    counted (p .0)
 
 pub lines-spec : {M : Type 1} → statement M
 lines-spec =

@@ -23,7 +23,7 @@ decision-lines-requires c κs =
     let listed = c .before .before .before .before .before .before .before .list-cars in
     let small = accepted (a .s .now) (a .c) (p .0) .small in
     let h = c .before .before .before .before .head-line .ensures in
-    (small, rows-in (sheetOf (a .s .now) (a .c)) (small .cars) _ _ (listed .result) (listed .ensures .0), listed .ensures .1, p .2, omega (arith, h .1, h .0 .size, p .4))
+    (small, rows-in (sheetOf (a .s .now) (a .c)) (small .cars) _ _ (listed .result) (listed .ensures .0), listed .ensures .1, p .2, omega (arith, h .1, p .4))
 
 sweep-lines-requires : tie.Need-sweep-lines-requires
 unfolding sheetOf
@@ -34,7 +34,7 @@ sweep-lines-requires c κs =
     let small = accepted (a .s .now) (a .c) (p .0) .small in
     let h = c .before .before .before .before .before .before .before .before .before .head-line .ensures in
     let d = c .before .before .before .before .decision-lines .ensures in
-    (small, rows-in (sheetOf (a .s .now) (a .c)) (small .cars) _ _ (listed .result) (listed .ensures .0), listed .ensures .1, p .3, omega (arith, h .1, h .0 .size, d .1, d .0 .size, p .4))
+    (small, rows-in (sheetOf (a .s .now) (a .c)) (small .cars) _ _ (listed .result) (listed .ensures .0), listed .ensures .1, p .3, omega (arith, h .1, d .1, p .4))
 
 returns : tie.Need-returns
 unfolding sheetOf

@@ -1,9 +1,8 @@
 -- text::put meets its contract.
-use Prim.Native.Nat.{_+_, _-_, _≤_}
-use mathlib.Core.Path.{_≡_, refl, sym}
-use mathlib.Core.List.{_++_, append-nil}
-use native.Mathlib.Nat.{add-zero}
-use lib.ListN.{length, take, length-set}
+use Prim.Native.Nat.{_-_, _≤_}
+use mathlib.Core.Path.{_≡_, refl}
+use lib.ListN.{length, length-set}
+use lib.Seq.{paste, paste-zero}
 use borrow.Author.Needs.{needs}
 use Rattle.text.specs.Text.{copied, copied-all}
 use native.Mathlib.Omega.{arith}
@@ -11,14 +10,14 @@ use Rattle.text.proofs.put.Statement.{statement}
 use Rattle.text.proofs.put.Tie as tie
 
 abbrev Inv-loop : tie.InvT-loop
-Inv-loop out₀ at piece i₀ out i = (i ≤ length piece) × (length out ≡ length out₀) × (take (at + i) out ≡ take at out₀ ++ take i piece)
+Inv-loop out₀ at piece i₀ out i = (i ≤ length piece) × (length out ≡ length out₀) × (out ≡ paste out₀ at piece i)
 
 abbrev μ-loop : tie.MeasureT-loop
 μ-loop out₀ at piece i₀ out i = length piece - i
 
 -- src/lib.rt:12:5
 loop-holds : tie.Need-loop-holds Inv-loop μ-loop
-loop-holds c = (omega arith, refl, rw add-zero (sym (append-nil _)))
+loop-holds c = (omega arith, refl, paste-zero (c .args .out .now) (c .args .at) (c .args .piece .now))
 
 -- src/lib.rt:13:23
 shared-slice-read-out : tie.Need-shared-slice-read-out Inv-loop μ-loop
@@ -47,7 +46,7 @@ loop-again c =
     let l = c .before .before .loop in (
       omega arith,
       simp length-set (l .inv .1),
-      copied (a .out .now) (a .at) (a .piece .now) (l .out) (l .i) _ (omega arith) (omega (arith, l .inv .1, c .before .before .before .pre)) refl (l .inv .2),
+      copied (a .out .now) (a .at) (a .piece .now) (l .out) (l .i) _ (omega arith) (omega (arith, c .before .before .before .pre)) refl (l .inv .2),
     )
 
 -- src/lib.rt:16:5
@@ -63,7 +62,7 @@ returns : tie.Need-returns Inv-loop μ-loop
 returns c =
     let a = c .before .before .args in
     let l = c .before .loop in
-    copied-all (a .out .now) (a .at) (a .piece .now) (l .out) (l .i) (l .inv .0) (omega arith) (l .inv .1) (l .inv .2)
+    copied-all (a .out .now) (a .at) (a .piece .now) (l .out) (l .i) (omega arith) (omega (arith, c .before .before .pre)) (l .inv .2)
 
 pub put-spec : {M : Type 1} → statement M
 put-spec =
