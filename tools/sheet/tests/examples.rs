@@ -141,8 +141,7 @@ fn the_manual_has_every_rule() {
     }
     for path in files("examples", "txt") {
         let name = name(&path);
-        let is_named = manual.contains(&format!("`{name}`"));
-        assert!(is_named || !name.starts_with("refusal_"), "{name}");
+        assert!(manual.contains(&format!("`{name}`")), "{name}");
     }
 }
 

@@ -2,6 +2,8 @@
 use Rattle.layout.specs.Records.{sheetOf}
 use Rattle.rows.specs.HeldLaws.{Held, seats-length}
 use Rattle.rows.specs.MatrixLaws.{row-for-is}
+use Rattle.riders.specs.Riders.{ridersIn}
+use mathlib.Core.Path.{_≡_}
 use borrow.Author.Needs.{needs}
 use native.Mathlib.Omega.{arith}
 use Rattle.rows.proofs.row_for.Statement.{statement}
@@ -43,10 +45,11 @@ returns c =
     let riders = c .before .before .before .before .before .riders-of in
     let goal = c .before .before .goal in
     let sweep = c .before .sweep-after in
+    let seated : riders .result ≡ ridersIn (a .ids .now) (a .c .stops) (a .acar .now) (a .adest .now) (a .car .id) (a .c .aboards) = riders .ensures .answered in
     let len = seats-length (a .ids .now) (a .xs .now) (a .c .stops) (a .acar .now) (a .adest .now) (a .c .aboards) (a .car .id) (riders .result) (riders .ensures) (omega (arith, p .0 .0 .aboards, p .0 .5)) in (
       row-for-is (sheetOf (a .s .now) (a .c)) (a .ids .now) (a .xs .now) (a .acar .now) (a .adest .now) (a .stops) (a .demand) (a .limit)
           (policy .result) (a .car) (sweep .result) (goal .result) (riders .result) (c .kept-by .result)
-          (policy .ensures) (riders .ensures .answered) (goal .ensures) (sweep .ensures) (c .kept-by .ensures),
+          (policy .ensures) seated (goal .ensures) (sweep .ensures) (c .kept-by .ensures),
       (len .0, len .1, riders .ensures .held),
     )
 
