@@ -8,6 +8,7 @@ use sheet::{rules, show, text};
 
 const USAGE: &str = "\
 usage: sheet COMMAND
+  example [STRATEGY]   print a text to start from: ETD (the default), RSR or SCAN
   write IN.txt [OUT]   turn text into a sheet, in OUT or on standard output
   show SHEET           print a sheet as text that `write` turns into the same bytes
   explain SHEET        say whether the bench accepts a sheet, and if not, what to do
@@ -40,6 +41,8 @@ fn main() -> ExitCode {
     let path = |k: usize| PathBuf::from(&args[k]);
     let done = match words.as_slice() {
         ["help" | "--help" | "-h"] => print(USAGE.as_bytes()),
+        ["example"] => example("ETD"),
+        ["example", strategy] => example(strategy),
         ["write", _] | ["write", _, "-"] => write(&path(1), None),
         ["write", _, _] => write(&path(1), Some(&path(2))),
         ["show", _] => input(&path(1)).and_then(|bytes| {
@@ -159,6 +162,20 @@ fn unlinked(_: &[u8]) -> Result<String, Stop> {
     Err(failed(
         "this program was built without the proved library (feature `pass`), which alone gives verdicts",
     ))
+}
+
+fn example(strategy: &str) -> Result<(), Stop> {
+    let text = match strategy {
+        "ETD" => include_str!("../examples/lobby.txt"),
+        "RSR" => include_str!("../examples/small_rsr.txt"),
+        "SCAN" => include_str!("../examples/small_scan.txt"),
+        _ => {
+            return Err(failed(format!(
+                "\"{strategy}\": expected a strategy, ETD, RSR or SCAN"
+            )));
+        }
+    };
+    print(text.as_bytes())
 }
 
 fn rule(number: &str) -> Result<(), Stop> {

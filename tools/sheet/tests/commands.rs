@@ -51,6 +51,26 @@ fn without_the_library() {
     }
 }
 
+/// Each strategy has a text, which is a sheet of that strategy.
+#[test]
+fn texts_to_start_from() {
+    let default = run(&["example"], b"");
+    for strategy in ["ETD", "RSR", "SCAN"] {
+        let output = run(&["example", strategy], b"");
+        assert_eq!(output.status.code(), Some(0));
+        assert_eq!(output.stdout == default.stdout, strategy == "ETD");
+        let written = run(&["write", "-"], &output.stdout);
+        assert_eq!(written.status.code(), Some(0));
+        let shown = text(&run(&["show", "-"], &written.stdout).stdout);
+        assert!(shown.contains(&format!("\npolicy strategy={strategy} ")));
+    }
+    let output = run(&["example", "LOOK"], b"");
+    assert_eq!(output.status.code(), Some(1));
+    let said = "\"LOOK\": expected a strategy, ETD, RSR or SCAN\n";
+    assert_eq!(text(&output.stderr), said);
+    assert_eq!(text(&output.stdout), "");
+}
+
 #[test]
 fn rules() {
     let all = run(&["rule"], b"");
