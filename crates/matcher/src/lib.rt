@@ -50,7 +50,7 @@ fn write(cells: &[u64], n: usize, cols: usize, col_of: &[usize], places: &mut [u
 }
 
 // The choice of a matrix with cells up to 2^55.
-pub fn choose(cells: &[u64], n: usize, cols: usize, places: &mut [u32]) -> u64
+fn choose(cells: &[u64], n: usize, cols: usize, places: &mut [u32]) -> u64
     requires { ⌜ Matrix (now cells) n cols × (n ≤ length (now places)) ⌝ }
     ensures { λ r. ⌜ (r ≡ leastTotal (cellAt (now (cells .entry)) cols) n cols) × (now (places .exit) ≡ chosen (cellAt (now (cells .entry)) cols) n cols ++ drop n (now (places .entry))) ⌝ }
 {
