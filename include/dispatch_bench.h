@@ -1,4 +1,7 @@
-/* The dispatch bench, for hosts in C. `tools/library` puts the library into target/staticlib. */
+/* The dispatch bench, for hosts in C. `tools/library` puts the library into target/staticlib.
+
+   There is no state, and any number of threads may call at once. Every pointer must be valid for its length, and none may be null, that of an
+   empty sheet or buffer included; no two of one call may overlap. */
 #ifndef DISPATCH_BENCH_H
 #define DISPATCH_BENCH_H
 
@@ -15,7 +18,7 @@ uint32_t dispatch_bench_read(const uint8_t *sheet, size_t length, uint64_t *offs
 
 /* The choice of one column a car with the least total; among these the lowest column for the first car, then the second, on. Cells stand row by
    row. 1: the columns stand first in chosen, and *total is their total. 0, and nothing is written: more than 32 cars or 64 columns, fewer columns
-   than cars, cell_count not cars * columns, a cell above 281,474,976,710,656, or fewer places than cars. */
+   than cars, cell_count not cars * columns, a cell above DISPATCH_BENCH_SENTINEL, or fewer places than cars. */
 uint32_t dispatch_bench_choose(size_t cars, size_t columns, const uint64_t *cells, size_t cell_count, uint32_t *chosen, size_t places, uint64_t *total);
 
 /* The refusals, by document 01's numbers. */
@@ -44,11 +47,21 @@ enum dispatch_bench_refusal {
 #define DISPATCH_BENCH_CELLS 2048
 #define DISPATCH_BENCH_SWEEPS 32
 
-/* A pass over a sheet. 0: *cars idle cars, *stops pending stops, *total their total; in decisions the stop id of each idle car in record order (0 for
+/* The cell of a pair without a rank, and the largest cell. */
+#define DISPATCH_BENCH_SENTINEL UINT64_C(281474976710656)
+
+/* Bytes past these change no answer. */
+#define DISPATCH_BENCH_MOST_BYTES 65536
+
+/* A pass over a sheet. 0: *cars idle cars, *stops pending stops, *total the least total; in decisions the stop id of each idle car in record order (0 for
    idle), in matrix the cells row by row, a row of max(*cars, *stops) columns for each idle car, in sweeps 2 * sweep + mode of each car record; what
    stands past these is left, and so is *offset. *ranked is the number of pairs ranked: at most *cars times the sheet's limit (*cars * *stops with
    none). Otherwise the refusal's number, 1 to 16, with the bit offset where the refused record starts in *offset (0 for 1); nothing else is written.
-   A null pointer may be given for no parameter, and no two may overlap. */
+
+   A cell is the cost times 1,000,000, rounded, or DISPATCH_BENCH_SENTINEL where there is no rank, and in spare columns; the first *stops columns are
+   the pending stops by rising id. *total is the sum of a cell for each idle car: that of the stop where it is sent, or the sentinel where it stays
+   idle. Which car a decision is for is read off the sheet: decision k is that of the k-th car record whose bit 154, counted from 0 where the
+   record starts, is set (idle-listed); its id is the 32 bits from bit 22 on (docs/MANUAL.md, Where each record stands; examples/c/pass.c does it). */
 uint32_t dispatch_bench_pass(const uint8_t *sheet, size_t length, uint32_t *decisions, size_t decision_count, uint64_t *matrix, size_t cell_count,
                              uint8_t *sweeps, size_t sweep_count, uint64_t *cars, uint64_t *stops, uint64_t *total, uint64_t *ranked, uint64_t *offset);
 

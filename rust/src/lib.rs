@@ -21,18 +21,21 @@
 
 #[allow(unsafe_code)]
 mod library;
+mod lines;
 mod pass;
 mod records;
 mod refusal;
 mod rules;
 
+pub use lines::lines;
 pub use pass::{
     Buffers, Decision, Pass, Summary, Sweep, SweepDirection, SweepMode, pass, pass_into,
 };
 pub use records::{Car, cars};
 pub use refusal::Refusal;
 
-/// The cell of a pair that has no rank, and the largest cell that [`choose`] takes.
+/// The cell of a pair that has no rank and of a spare column, what a car that stays idle counts in the total, and the largest cell that
+/// [`choose`] takes. A cost of 1 is a cell of 1,000,000.
 pub const SENTINEL: u64 = 281_474_976_710_656;
 
 /// The most cars of a matrix.

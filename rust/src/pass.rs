@@ -80,13 +80,13 @@ pub struct Summary<'b> {
     pub cars: usize,
     /// The pending stops.
     pub stops: usize,
-    /// The sum of the chosen cells.
+    /// The sum of the chosen cells: 1,000,000 for a cost of 1, and [`SENTINEL`](crate::SENTINEL) for each car that stays idle.
     pub total: u64,
     /// How many pairs of a car and a stop were ranked.
     pub ranked: u64,
     /// One for each idle car, in record order.
     pub decisions: &'b [Decision],
-    /// The cells, a row for each idle car.
+    /// The cells, a row for each idle car; the columns are the pending stops by rising id, then spare ones.
     pub matrix: &'b [u64],
     /// One for each car record.
     pub sweeps: &'b [Sweep],
@@ -111,13 +111,13 @@ pub struct Pass {
     pub cars: usize,
     /// The pending stops.
     pub stops: usize,
-    /// The sum of the chosen cells.
+    /// The sum of the chosen cells: 1,000,000 for a cost of 1, and [`SENTINEL`](crate::SENTINEL) for each car that stays idle.
     pub total: u64,
     /// How many pairs of a car and a stop were ranked.
     pub ranked: u64,
     /// One for each idle car, in record order.
     pub decisions: Vec<Decision>,
-    /// The cells, a row for each idle car.
+    /// The cells, a row for each idle car; the columns are the pending stops by rising id, then spare ones.
     pub matrix: Vec<u64>,
     /// One for each car record.
     pub sweeps: Vec<Sweep>,

@@ -2,7 +2,8 @@ use std::fmt;
 
 use crate::rules;
 
-/// Why there is no pass: the number of a rule, and the bit offset where the refused record starts.
+/// Why there is no pass: the number of a rule, and the bit offset where the refused record starts. It is displayed with both and the rule;
+/// [`remedy`](Refusal::remedy) says what to do.
 ///
 /// ```
 /// let refusal = dispatch_bench::read(&[2, 0, 0]).unwrap_err();
@@ -16,7 +17,7 @@ use crate::rules;
 pub struct Refusal {
     /// 1 to 16; 1 is given for short buffers alone.
     pub number: u32,
-    /// In bits from the sheet's start; 0 for 1 and 3.
+    /// In bits from the sheet's start; 0 for 1, for 3, and for a sheet that ends within its head.
     pub offset: u64,
 }
 
