@@ -7,6 +7,17 @@ pub struct Rule {
     pub remedy: &'static str,
 }
 
+/// How the remedies of what damage can cause end.
+macro_rules! changed {
+    () => {
+        "If the writer is not at fault, the file may have been changed on its way: fetch it again, in binary."
+    };
+}
+
+/// That sentence, for tools/sheet, which has remedies of its own beside the rules'.
+#[allow(dead_code)]
+pub const CHANGED: &str = changed!();
+
 /// Rule `number` is entry `number` - 1.
 pub const RULES: [Rule; 16] = [
     Rule {
@@ -15,23 +26,35 @@ pub const RULES: [Rule; 16] = [
     },
     Rule {
         says: "The head, a record's 22 bits of kind and length, or its stated body passes the end of the sheet.",
-        remedy: "Fetch the whole file again; if it is whole, its writer stated a wrong record count or body length.",
+        remedy: "Fetch the whole file again, in binary; if it is whole, it may be no sheet, or its writer stated a wrong record count or body length.",
     },
     Rule {
         says: "The edition in the first 8 bits is not 1.",
-        remedy: "Have the sheet written as edition 1, or take a bench that reads its edition.",
+        remedy: concat!(
+            "Have the sheet written as edition 1, or take a bench that reads its edition. The file may also be no sheet at all, or not the right one. ",
+            changed!()
+        ),
     },
     Rule {
         says: "A record's kind is not 1 to 7.",
-        remedy: "Leave the record out; a newer writer, or a wrong length in the record before it, can cause this.",
+        remedy: concat!(
+            "Leave the record out; a newer writer, or a body of the wrong length before it, can cause this. ",
+            changed!()
+        ),
     },
     Rule {
         says: "A record's stated body length is not its kind's: 468, 96, 96, 715, 65, 226, 49 bits for kinds 1 to 7.",
-        remedy: "Write the record with its kind's fields and length; a newer writer can cause this.",
+        remedy: concat!(
+            "Write the record with its kind's fields and length; a newer writer can cause this. ",
+            changed!()
+        ),
     },
     Rule {
-        says: "The first record is not the policy, or a record's kind is below the kind before it.",
-        remedy: "Put the records in the order policy, stop, line, car, aboard, waiting, demand.",
+        says: "The head counts no record, the first one is not the policy, or a record's kind is below the kind before it.",
+        remedy: concat!(
+            "Put the records in the order policy, stop, line, car, aboard, waiting, demand. ",
+            changed!()
+        ),
     },
     Rule {
         says: "There are more records of a kind than 1 policy, 64 stops, 8 lines, 32 cars, 512 aboard, 512 waiting.",
@@ -39,7 +62,10 @@ pub const RULES: [Rule; 16] = [
     },
     Rule {
         says: "The strategy is 3, the phase is 7, or a field that is absent or unused has a one bit.",
-        remedy: "Give the field a code of edition 1, or zeros where it is absent or unused.",
+        remedy: concat!(
+            "Give the field a code of edition 1, or zeros where it is absent or unused. ",
+            changed!()
+        ),
     },
     Rule {
         says: "An id is 0, a stop's id is not above that of the stop before, a line or car has the id of an earlier one, or a stop has a second demand.",
@@ -51,7 +77,7 @@ pub const RULES: [Rule; 16] = [
     },
     Rule {
         says: "A double is outside of its range, or not a number.",
-        remedy: "Give the field a value inside of its range.",
+        remedy: concat!("Give the field a value inside of its range. ", changed!()),
     },
     Rule {
         says: "The candidate limit is 0.",

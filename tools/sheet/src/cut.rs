@@ -121,6 +121,18 @@ impl<'a> Cut<'a> {
             .filter(move |r| r.kind == kind && r.has_fields())
     }
 
+    /// The ids of the records of a kind, in record order.
+    pub fn ids(&self, kind: usize) -> Vec<u64> {
+        let records = self.of_kind(kind);
+        records.filter_map(|r| self.named(r, "id")).collect()
+    }
+
+    /// A record that the head counts passes the end; it would start at `end`.
+    pub fn is_cut_short(&self) -> bool {
+        self.head
+            .is_some_and(|head| head.count > self.records.len())
+    }
+
     pub fn stops(&self) -> Stops {
         let id = |r: &Record| self.named(r, "id").map(|id| id as u32);
         Stops(self.of_kind(2).map(id).collect())

@@ -6,6 +6,8 @@ use dispatch_bench::Refusal;
 use crate::cut::{Cut, Record};
 use crate::faults;
 use crate::fields::KINDS;
+use crate::numbers::grouped;
+use crate::show::number_of;
 use crate::{remedies, show, text};
 
 /// A refusal in words.
@@ -20,11 +22,15 @@ pub struct Reason {
     pub remedy: String,
 }
 
+/// The most characters of a record's line in `explain`, with fields and without; `show` prints all of them.
+const TEXT: usize = 480;
+const RAW_TEXT: usize = 120;
+
 /// The lines of `sheet explain`.
 pub fn explain(bytes: &[u8]) -> String {
     let cut = Cut::new(bytes);
     let Err(refusal) = dispatch_bench::read(bytes) else {
-        return format!("accepted\n{}\n", show::counts(&cut));
+        return accepted(&cut);
     };
     let Refusal { number, offset } = refusal;
     let reason = reason(&cut, refusal);
@@ -32,7 +38,7 @@ pub fn explain(bytes: &[u8]) -> String {
     lines += &format!("rule {number}: {}\n", refusal.rule());
     lines += &format!("to do: {}\n", reason.remedy);
     if let Some(record) = reason.record {
-        lines += &format!("text: {}\n", show::record_line(&cut, &record, &cut.stops()));
+        lines += &as_text(&cut, &record);
     }
     if text::is_text(bytes) {
         lines += &format!("hint: {}\n", text::HINT);
@@ -40,31 +46,67 @@ pub fn explain(bytes: &[u8]) -> String {
     lines
 }
 
+/// An accepted sheet, and what to ask where a host does not accept it.
+fn accepted(cut: &Cut) -> String {
+    let bytes = number_of(cut.bytes.len(), "byte");
+    format!(
+        "accepted\n{}\nto do: Nothing for this bench. If a host refuses the sheet, ask for the number that it gave (1: the host's own buffers are too short) and for the length of its file: here it is {bytes}.\n",
+        show::counts(cut)
+    )
+}
+
+/// The record's line of text, and how to put it right there; bits without fields are nothing to edit where they are many.
+fn as_text(cut: &Cut, record: &Record) -> String {
+    let whole = show::record_line(cut, record, &cut.stops());
+    let most = if record.has_fields() { TEXT } else { RAW_TEXT };
+    let text = cropped(&whole, most);
+    if text != whole && !record.has_fields() {
+        return format!("text: {text}\n");
+    }
+    let line = grouped(show::line_number(cut, record) as u64);
+    format!(
+        "text: {text}\nrepair: If the file is as its writer wrote it: `sheet show FILE >a.txt`, put right line {line} of a.txt, which is this record, `sheet write a.txt FILE`.\n"
+    )
+}
+
+/// A line, or how it begins.
+fn cropped(line: &str, most: usize) -> String {
+    match line.char_indices().nth(most) {
+        Some((end, _)) => {
+            let all = grouped(line.chars().count() as u64);
+            let start = &line[..end];
+            format!("{start}.. ({all} characters, `sheet show` prints them)")
+        }
+        None => line.into(),
+    }
+}
+
 /// Why a sheet was refused.
 pub fn reason(cut: &Cut, refusal: Refusal) -> Reason {
     let number = refusal.number;
     let at = usize::try_from(refusal.offset).unwrap_or(usize::MAX);
-    let whole = |sentence: String, field: Option<&'static str>| Reason {
+    let whole = |sentence: String| Reason {
         sentence,
         record: None,
-        field,
+        field: None,
         remedy: refusal.remedy().into(),
     };
     match number {
-        2 => return whole(passes_the_end(cut, at), None),
-        3 => return whole(edition(cut), Some("edition")),
+        2 => return whole(passes_the_end(cut, at)),
+        3 => return whole(edition(cut)),
         16 => return tail(cut, at, refusal),
-        6 if cut.head.is_some_and(|head| head.count == 0) => return no_record(),
+        6 if cut.head.is_some_and(|head| head.count == 0) => return no_record(at),
         _ => {}
     }
     let Some(record) = cut.records.iter().find(|record| record.at == at) else {
-        return whole(format!("The refusal is at bit {at}."), None);
+        return whole(format!("The refusal is at {}.", bit_and_byte(at)));
     };
     let place = place(cut, record);
     let fault = faults::find(cut, record, number);
     let says = fault.as_ref().map_or("see the rule", |fault| &fault.says);
     let field = fault.as_ref().map(|fault| fault.field);
     let remedy = field.and_then(|name| remedies::find(cut, record, number, name));
+    let remedy = remedy.map(|words| remedies::instead(number, &words));
     Reason {
         sentence: format!("{place}: {says}."),
         record: Some(*record),
@@ -73,17 +115,21 @@ pub fn reason(cut: &Cut, refusal: Refusal) -> Reason {
     }
 }
 
-/// 6, of a sheet that has no record.
-fn no_record() -> Reason {
+/// 6, of a head that counts no record; it is given where the first one would start.
+fn no_record(at: usize) -> Reason {
+    let place = bit_and_byte(at);
+    let words = "Add a policy; if there are records, have the head count them.";
     Reason {
-        sentence: "Head (bit 0): records is 0, but the policy must be there.".into(),
+        sentence: format!(
+            "Record 1 of the sheet ({place}): it must be the policy, but the head counts 0 records."
+        ),
         record: None,
-        field: Some("records"),
-        remedy: "Add a policy; if there are records, have the head count them.".into(),
+        field: None,
+        remedy: remedies::instead(6, words),
     }
 }
 
-/// `Car record 2 (id 8, bit 1723)`.
+/// `Car record 2 (id 8, bit 1,723; byte 215, bit 3)`.
 fn place(cut: &Cut, record: &Record) -> String {
     let earlier = cut.records.iter().take_while(|other| other.at < record.at);
     let nth = 1 + earlier
@@ -91,13 +137,24 @@ fn place(cut: &Cut, record: &Record) -> String {
         .filter(|other| other.kind == record.kind)
         .count();
     let place = match KINDS.get(record.kind) {
-        Some(name) if record.kind > 0 => format!("{} record {nth}", capital(name)),
-        _ => format!("Record {} of the sheet", 1 + earlier.count()),
+        Some(name) if record.kind > 0 => {
+            format!("{} record {}", capital(name), grouped(nth as u64))
+        }
+        _ => format!(
+            "Record {} of the sheet",
+            grouped(1 + earlier.count() as u64)
+        ),
     };
     let id = cut
         .named(record, "id")
         .map_or(String::new(), |id| format!("id {id}, "));
-    format!("{place} ({id}bit {})", record.at)
+    format!("{place} ({id}{})", bit_and_byte(record.at))
+}
+
+/// A bit's offset in both ways, each counted from 0: `bit 1,723; byte 215, bit 3`.
+fn bit_and_byte(at: usize) -> String {
+    let (bit, byte) = (grouped(at as u64), grouped(at as u64 / 8));
+    format!("bit {bit}; byte {byte}, bit {}", at % 8)
 }
 
 fn capital(word: &str) -> String {
@@ -106,24 +163,42 @@ fn capital(word: &str) -> String {
 }
 
 fn passes_the_end(cut: &Cut, at: usize) -> String {
-    let end = cut.bits();
     let Some(head) = cut.head else {
-        return format!("Head (bit 0): it takes 24 bits, but the sheet has {end}.");
+        return short_head(cut);
     };
-    let nth = cut.records.len() + 1;
-    let left = end.saturating_sub(at);
+    let left = cut.bits().saturating_sub(at);
+    let whole = whole_records(cut.records.len(), head.count);
     match cut.stated_at(at) {
-        None => format!(
-            "Record {nth} of the {} that the head counts (bit {at}): kind and length take 22 bits, but {left} are left.",
-            head.count
-        ),
-        Some(stated) => format!(
-            "{}: length is {}, but {} bits are left after the record's 22.",
-            place(cut, &stated),
-            stated.length,
-            left - 22
-        ),
+        None => {
+            let nth = grouped(cut.records.len() as u64 + 1);
+            let (count, place) = (grouped(head.count as u64), bit_and_byte(at));
+            format!(
+                "Record {nth} of the {count} that the head counts ({place}): kind and length take 22 bits, but {left} are left; {whole}."
+            )
+        }
+        Some(stated) => {
+            let place = place(cut, &stated);
+            let [length, left] = [stated.length, left - 22].map(|bits| grouped(bits as u64));
+            format!(
+                "{place}: length is {length}, but {left} bits are left after the record's 22; {whole}."
+            )
+        }
     }
+}
+
+/// 2, of a file that ends within its head.
+fn short_head(cut: &Cut) -> String {
+    match cut.bytes.len() {
+        0 => "Head (bit 0): it takes 3 bytes, but the file is empty.".into(),
+        bytes => format!("Head (bit 0): it takes 3 bytes, but the file has {bytes}."),
+    }
+}
+
+/// `13 of 15 records are whole`.
+fn whole_records(whole: usize, count: usize) -> String {
+    let verb = if whole == 1 { "is" } else { "are" };
+    let [whole, count] = [whole, count].map(|records| grouped(records as u64));
+    format!("{whole} of {count} records {verb} whole")
 }
 
 fn edition(cut: &Cut) -> String {
@@ -134,8 +209,7 @@ fn edition(cut: &Cut) -> String {
 fn tail(cut: &Cut, at: usize, refusal: Refusal) -> Reason {
     let left = cut.bits().saturating_sub(at);
     let (sentence, remedy) = if left >= 8 {
-        let sentence = format!("{left} bits follow the last record, but at most 7 may");
-        (sentence, refusal.remedy())
+        (bytes_too_many(cut, at, left), refusal.remedy())
     } else {
         let sentence = "a bit after the last record is one, but they must be zeros".into();
         let remedy =
@@ -143,9 +217,17 @@ fn tail(cut: &Cut, at: usize, refusal: Refusal) -> Reason {
         (sentence, remedy)
     };
     Reason {
-        sentence: format!("Tail (bit {at}): {sentence}."),
+        sentence: format!("Tail ({}): {sentence}.", bit_and_byte(at)),
         record: None,
         field: None,
         remedy: remedy.into(),
     }
+}
+
+/// A tail in bits and in bytes.
+fn bytes_too_many(cut: &Cut, at: usize, left: usize) -> String {
+    let [left, end, all] = [left, at.div_ceil(8), cut.bytes.len()].map(|n| grouped(n as u64));
+    format!(
+        "{left} bits follow the last record, but at most 7 may: the sheet ends after {end} bytes, the file has {all}"
+    )
 }

@@ -5,8 +5,12 @@ use sheetgen::sheet::{BODY_BITS, MOST, RSR};
 
 use crate::cut::{Cut, Record};
 use crate::fields::{Absence, Field, Form, KINDS, Names, PHASES, Range};
+use crate::numbers::{grouped, grouped_text};
 use crate::show::number_of;
 use crate::value::{self, Value};
+
+/// The most ids that a sentence names.
+const IDS_IN_A_LIST: usize = 16;
 
 /// What a refusal is about.
 pub struct Fault {
@@ -43,14 +47,14 @@ pub fn find(cut: &Cut, record: &Record, number: u32) -> Option<Fault> {
 }
 
 fn wait(cut: &Cut, record: &Record) -> Option<String> {
-    let wait = cut.named(record, "wait_ticks")?;
+    let wait = grouped(cut.named(record, "wait_ticks")?);
     Some(format!(
-        "wait_ticks is {wait}, but the most is 9007199254740992"
+        "wait_ticks is {wait}, but the most is 9,007,199,254,740,992"
     ))
 }
 
 fn length(record: &Record) -> Option<String> {
-    let (kind, stated) = (record.kind, record.length);
+    let (kind, stated) = (record.kind, grouped(record.length as u64));
     let bits = BODY_BITS.get(kind)?;
     let name = KINDS.get(kind)?;
     Some(format!(
@@ -98,7 +102,8 @@ fn unused(cut: &Cut, record: &Record, field: &Field, held: Value) -> Option<Stri
             "{name} is absent, but its bits are not zeros ({shown})"
         )),
         (_, Absence::Unused) if held.bits != 0 => Some(format!(
-            "{name} is {shown}, but the strategy has no such weight, so it must be zeros"
+            "{name} is {}, but the strategy has no such weight, so it must be zeros",
+            grouped_text(&shown)
         )),
         (_, Absence::Zeros) if held.bits != 0 && !is_bound(cut, record) => Some(format!(
             "{name} is {shown}, but in phase {} it must be zeros",
@@ -161,13 +166,7 @@ fn missing(cut: &Cut, record: &Record, field: &Field, held: Value) -> Option<Str
         Form::Id(Names::Record(kind)) => {
             let mut records = cut.of_kind(kind).take_while(|other| other.at < record.at);
             let found = records.any(|other| cut.named(other, "id") == Some(held.bits));
-            let what = || {
-                format!(
-                    "{name} is {}, but no {} record has that id",
-                    held.bits, KINDS[kind]
-                )
-            };
-            (!found).then(what)
+            (!found).then(|| unnamed(cut, name, kind, held.bits))
         }
         Form::Mask => {
             let stops = cut
@@ -177,10 +176,35 @@ fn missing(cut: &Cut, record: &Record, field: &Field, held: Value) -> Option<Str
             let past = (stops..64).find(|k| held.bits >> (63 - k) & 1 == 1)?;
             let (nth, stops) = (past + 1, number_of(stops, "stop record"));
             Some(format!(
-                "{name} has a one bit for stop record {nth}, but the sheet has {stops}"
+                "{name} has a one bit for stop record {nth}, but the sheet has {stops} before it"
             ))
         }
         _ => None,
+    }
+}
+
+/// 10: no record of the kind, in front of the one that names it, has the id.
+fn unnamed(cut: &Cut, name: &str, kind: usize, id: u64) -> String {
+    let noun = KINDS[kind];
+    let ids = cut.ids(kind);
+    if ids.contains(&id) {
+        return format!("{name} is {id}, but the {noun} with that id comes after it");
+    }
+    let there = match ids.len() {
+        0 => format!("there is no {noun}"),
+        1 => format!("no {noun} has id {id}; the only {noun} is {}", listed(&ids)),
+        _ => format!("no {noun} has id {id}; {noun}s are {}", listed(&ids)),
+    };
+    format!("{name} is {id}, but {there}")
+}
+
+/// The first ids, and how many more there are.
+fn listed(ids: &[u64]) -> String {
+    let (first, others) = ids.split_at(ids.len().min(IDS_IN_A_LIST));
+    let first: Vec<String> = first.iter().map(u64::to_string).collect();
+    match others.len() {
+        0 => first.join(", "),
+        more => format!("{} and {} more", first.join(", "), grouped(more as u64)),
     }
 }
 
@@ -204,7 +228,7 @@ fn outside(field: &Field, held: Value) -> Option<String> {
     let shown = if value.is_nan() {
         format!("not a number ({shown})")
     } else {
-        shown
+        grouped_text(&shown)
     };
     (!inside).then(|| format!("{} is {shown}, but its range is {words}", field.name))
 }
@@ -216,15 +240,15 @@ fn within(value: f64, low: f64, high: f64) -> bool {
 fn ticks(cut: &Cut, record: &Record) -> Option<String> {
     let transition = cut.named(record, "transition_ticks")?;
     let open = cut.named(record, "open_ticks")?;
-    let sum = 2 * transition + open;
+    let [transition, open, sum] = [transition, open, 2 * transition + open].map(grouped);
     Some(format!(
-        "twice transition_ticks {transition} plus open_ticks {open} is {sum}, but the most is 4294967295"
+        "twice transition_ticks {transition} plus open_ticks {open} is {sum}, but the most is 4,294,967,295"
     ))
 }
 
 fn load_weight(cut: &Cut, record: &Record) -> Option<String> {
     let is_rsr = cut.named(record, "strategy") == Some(RSR.into());
-    let shown = value::show_double(cut.named(record, "load")?);
+    let shown = grouped_text(&value::show_double(cut.named(record, "load")?));
     is_rsr.then(|| format!("load is {shown}, but under RSR it must be 0"))
 }
 

@@ -11,7 +11,8 @@ pub mod explain;
 #[cfg(feature = "pass")]
 mod faults;
 pub mod fields;
-mod near;
+pub mod near;
+mod numbers;
 #[cfg(feature = "pass")]
 mod remedies;
 // The table of refusals is that of the crate dispatch-bench; `rule` needs it without the library too.

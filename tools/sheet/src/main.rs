@@ -1,10 +1,11 @@
 //! `sheet`: sheets of the dispatch bench written from text, shown as text, explained and drawn.
 
+use std::ffi::OsString;
 use std::io::{ErrorKind, IsTerminal, Read, Write};
-use std::path::{Path, PathBuf};
+use std::path::Path;
 use std::process::ExitCode;
 
-use sheet::{rules, show, text};
+use sheet::{near, rules, show, text};
 
 const USAGE: &str = "\
 usage: sheet COMMAND
@@ -13,16 +14,32 @@ usage: sheet COMMAND
   show SHEET           print a sheet as text that `write` turns into the same bytes
   explain SHEET        say whether the bench accepts a sheet, and if not, what to do
   draw SHEET [OUT]     draw a sheet and its pass, or where it is refused, as SVG
+  pass SHEET           print the pass, or the refusal, in the lines of the program passprint
   rule [NUMBER]        print a refusal's rule, or all of them
-  help                 print this
+  help, --version      print this, or the version
 - stands for standard input, as OUT for standard output. The text is described in docs/MANUAL.md, \"Sheets as text\".
 Exit 0: done, a refused sheet explained included. 1: not done, the reason is on standard error. 2: no such command.
 ";
 
+/// Each command, what follows it, and the least number of words of that.
+const COMMANDS: [(&str, &str, usize); 11] = [
+    ("example", " [STRATEGY]", 0),
+    ("write", " IN.txt [OUT]", 1),
+    ("show", " SHEET", 1),
+    ("explain", " SHEET", 1),
+    ("draw", " SHEET [OUT]", 1),
+    ("pass", " SHEET", 1),
+    ("rule", " [NUMBER]", 0),
+    ("help", "", 0),
+    ("--help", "", 0),
+    ("-h", "", 0),
+    ("--version", "", 0),
+];
+
 /// Why a command ended early.
 enum Stop {
-    /// The command line has no meaning.
-    Usage,
+    /// The command line has no meaning, and why.
+    Usage(String),
     /// What to print on standard error.
     Failed(String),
 }
@@ -32,34 +49,11 @@ fn failed(message: impl Into<String>) -> Stop {
 }
 
 fn main() -> ExitCode {
-    let args: Vec<_> = std::env::args_os().skip(1).collect();
-    let words: Vec<String> = args
-        .iter()
-        .map(|arg| arg.to_string_lossy().into_owned())
-        .collect();
-    let words: Vec<&str> = words.iter().map(String::as_str).collect();
-    let path = |k: usize| PathBuf::from(&args[k]);
-    let done = match words.as_slice() {
-        ["help" | "--help" | "-h"] => print(USAGE.as_bytes()),
-        ["example"] => example("ETD"),
-        ["example", strategy] => example(strategy),
-        ["write", _] | ["write", _, "-"] => write(&path(1), None),
-        ["write", _, _] => write(&path(1), Some(&path(2))),
-        ["show", _] => input(&path(1)).and_then(|bytes| {
-            hint(&path(1), &bytes);
-            print(show::show(&bytes).as_bytes())
-        }),
-        ["explain", _] => input(&path(1)).and_then(|bytes| print(explain(&bytes)?.as_bytes())),
-        ["draw", _] | ["draw", _, "-"] => drawn(&path(1)).and_then(|svg| print(svg.as_bytes())),
-        ["draw", _, _] => drawn(&path(1)).and_then(|svg| replace(&path(2), svg.as_bytes())),
-        ["rule"] => rules_from(1, rules::RULES.len() as u32),
-        ["rule", number] => rule(number),
-        _ => Err(Stop::Usage),
-    };
-    match done {
+    let args: Vec<OsString> = std::env::args_os().skip(1).collect();
+    match command(&args) {
         Ok(()) => ExitCode::SUCCESS,
-        Err(Stop::Usage) => {
-            complain(USAGE);
+        Err(Stop::Usage(why)) => {
+            complain(&format!("sheet: {why}\n{USAGE}"));
             ExitCode::from(2)
         }
         Err(Stop::Failed(message)) => {
@@ -67,6 +61,41 @@ fn main() -> ExitCode {
             ExitCode::FAILURE
         }
     }
+}
+
+fn command(args: &[OsString]) -> Result<(), Stop> {
+    let words: Vec<_> = args.iter().map(|arg| arg.to_string_lossy()).collect();
+    let words: Vec<&str> = words.iter().map(|word| &**word).collect();
+    let path = |k: usize| Path::new(&args[k]);
+    match words.as_slice() {
+        ["help" | "--help" | "-h"] => print(USAGE.as_bytes()),
+        ["--version"] => print(concat!("sheet ", env!("CARGO_PKG_VERSION"), "\n").as_bytes()),
+        ["example"] => example("ETD"),
+        ["example", strategy] => example(strategy),
+        ["write", _] | ["write", _, "-"] => write(path(1), None),
+        ["write", _, _] => write(path(1), Some(path(2))),
+        ["show", _] => print(made(path(1), shown)?.as_bytes()),
+        ["explain", _] => print(explain(&input(path(1))?)?.as_bytes()),
+        ["draw", _] | ["draw", _, "-"] => print(made(path(1), draw)?.as_bytes()),
+        ["draw", _, _] => replace(path(2), made(path(1), draw)?.as_bytes()),
+        ["pass", _] => print(made(path(1), pass)?.as_bytes()),
+        ["rule"] => rules_from(1, rules::RULES.len() as u32),
+        ["rule", number] => rule(number),
+        words => Err(Stop::Usage(no_meaning(words))),
+    }
+}
+
+/// What is wrong with a command line that no command takes.
+fn no_meaning(words: &[&str]) -> String {
+    let Some((word, after)) = words.split_first() else {
+        return "no command is named".into();
+    };
+    let Some((name, takes, least)) = COMMANDS.iter().find(|command| command.0 == *word) else {
+        let meant = near::did_you_mean(word, &COMMANDS.map(|command| command.0));
+        return format!("\"{word}\" is no command{meant}");
+    };
+    let few_or_many = if after.len() < *least { "few" } else { "many" };
+    format!("too {few_or_many} words after {name}: expected `sheet {name}{takes}`")
 }
 
 /// Standard error may be closed; then there is nobody to tell.
@@ -94,18 +123,18 @@ fn input(path: &Path) -> Result<Vec<u8>, Stop> {
     bytes.map_err(|error| failed(format!("{}: {error}", path.display())))
 }
 
-/// Says on standard error that a text was handed over, where one was.
-fn hint(path: &Path, bytes: &[u8]) {
-    if text::is_text(bytes) {
+/// What a command makes of a file. Where it is a text, a hint goes to standard error.
+fn made(path: &Path, make: fn(&[u8]) -> Result<String, Stop>) -> Result<String, Stop> {
+    let bytes = input(path)?;
+    let made = make(&bytes)?;
+    if text::is_text(&bytes) {
         complain(&format!("{}: hint: {}\n", path.display(), text::HINT));
     }
+    Ok(made)
 }
 
-fn drawn(path: &Path) -> Result<String, Stop> {
-    let bytes = input(path)?;
-    let svg = draw(&bytes)?;
-    hint(path, &bytes);
-    Ok(svg)
+fn shown(bytes: &[u8]) -> Result<String, Stop> {
+    Ok(show::show(bytes))
 }
 
 fn write(from: &Path, to: Option<&Path>) -> Result<(), Stop> {
@@ -153,8 +182,13 @@ fn draw(bytes: &[u8]) -> Result<String, Stop> {
     Ok(sheet::draw::draw(bytes))
 }
 
+#[cfg(feature = "pass")]
+fn pass(bytes: &[u8]) -> Result<String, Stop> {
+    Ok(dispatch_bench::lines(bytes))
+}
+
 #[cfg(not(feature = "pass"))]
-use {unlinked as draw, unlinked as explain};
+use {unlinked as draw, unlinked as explain, unlinked as pass};
 
 /// What gives verdicts and passes is not there.
 #[cfg(not(feature = "pass"))]

@@ -2,7 +2,18 @@
 
 use crate::cut::{Cut, Record};
 use crate::fields::{Absence, Field, Form, KINDS, Names, STRATEGIES};
+use crate::rules;
 use crate::value::{self, Value};
+
+/// Words in the place of a rule's; what the rule says of a file that was changed on its way stays.
+pub fn instead(number: u32, words: &str) -> String {
+    let remedy = rules::rule(number).map_or("", |rule| rule.remedy);
+    if remedy.ends_with(rules::CHANGED) {
+        format!("{words} {}", rules::CHANGED)
+    } else {
+        words.into()
+    }
+}
 
 /// `None` where the rule's own words fit.
 pub fn find(cut: &Cut, record: &Record, number: u32, name: &str) -> Option<String> {
@@ -10,20 +21,27 @@ pub fn find(cut: &Cut, record: &Record, number: u32, name: &str) -> Option<Strin
     let field = || fields.iter().find(|field| field.name == name);
     let held = |field: &Field| cut.value(record, field);
     match number {
+        4 | 5 if is_first(cut, record) && record.kind != 1 => {
+            Some("Make the policy the first record; a newer writer, or a file that is no sheet, can cause this.".into())
+        }
         6 => order(cut, record),
         7 if record.kind == 1 => Some("Leave this policy out; a sheet has one.".into()),
         8 => field().map(|field| unused(cut, record, field, held(field))),
         9 => field().map(|field| id(record, field, held(field))),
-        10 => field().and_then(mask),
+        10 => field().and_then(|field| missing(cut, field, held(field))),
+        11 => Some(format!("Give {name} a value inside of its range.")),
         _ => None,
     }
 }
 
+fn is_first(cut: &Cut, record: &Record) -> bool {
+    cut.records.first().is_some_and(|r| r.at == record.at)
+}
+
 /// 6, of a record that is there.
 fn order(cut: &Cut, record: &Record) -> Option<String> {
-    let is_first = cut.records.first().is_some_and(|r| r.at == record.at);
     let has_policy = cut.records.iter().any(|r| r.kind == 1);
-    let words = match (is_first, has_policy) {
+    let words = match (is_first(cut, record), has_policy) {
         (true, true) => "Put the policy in front of all other records.",
         (true, false) => "Add a policy, in front of all other records.",
         _ if record.kind == 1 => "Leave this policy out; a sheet has one, its first record.",
@@ -81,9 +99,19 @@ fn id(record: &Record, field: &Field, held: Value) -> String {
     }
 }
 
-/// 10, of a mask.
-fn mask(field: &Field) -> Option<String> {
+/// 10: an id without its record, or a mask bit without a stop.
+fn missing(cut: &Cut, field: &Field, held: Value) -> Option<String> {
     let name = field.name;
-    let words = || format!("Give {name}= stops that have a record: their ids, all, or none.");
-    (field.form == Form::Mask).then(words)
+    let Form::Id(Names::Record(kind)) = field.form else {
+        let words = || format!("Give {name}= stops that have a record: their ids, all, or none.");
+        return (field.form == Form::Mask).then(words);
+    };
+    let (noun, id, ids) = (KINDS[kind], held.bits, cut.ids(kind));
+    Some(if ids.contains(&id) {
+        format!("Put {noun} {id} in front of the records that name it.")
+    } else if ids.is_empty() {
+        format!("Add {noun} {id}.")
+    } else {
+        format!("Give {name}= the id of a {noun} that is there, or add {noun} {id}.")
+    })
 }

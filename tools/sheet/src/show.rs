@@ -5,6 +5,7 @@ use sheetgen::sheet::{BODY_BITS, EDITION};
 
 use crate::cut::{Cut, Record};
 use crate::fields::{Absence, KINDS};
+use crate::numbers::grouped;
 use crate::value::{self, Stops};
 
 /// The most raw bits in one line of the rest.
@@ -13,8 +14,7 @@ const BITS_IN_A_LINE: usize = 256;
 pub fn show(bytes: &[u8]) -> String {
     let cut = Cut::new(bytes);
     let stops = cut.stops();
-    let mut lines = vec![format!("# {}", counts(&cut))];
-    lines.extend(head(&cut));
+    let mut lines = front(&cut);
     for record in &cut.records {
         lines.push(record_line(&cut, record, &stops));
     }
@@ -23,6 +23,18 @@ pub fn show(bytes: &[u8]) -> String {
     }
     lines.push(String::new());
     lines.join("\n")
+}
+
+/// What stands above the records.
+fn front(cut: &Cut) -> Vec<String> {
+    let counts = format!("# {}", counts(cut));
+    [counts].into_iter().chain(head(cut)).collect()
+}
+
+/// The line of a record in what `show` prints, from 1.
+pub fn line_number(cut: &Cut, record: &Record) -> usize {
+    let above = cut.records.iter().filter(|other| other.at < record.at);
+    front(cut).len() + above.count() + 1
 }
 
 /// How many bytes and records there are: `326 bytes, 9 records: 1 policy, 3 stops, ..`.
@@ -34,7 +46,7 @@ pub fn counts(cut: &Cut) -> String {
     }
     let raw = cut.records.iter().filter(|r| !r.has_fields()).count();
     if raw > 0 {
-        parts.push(format!("{raw} without fields"));
+        parts.push(format!("{} without fields", grouped(raw as u64)));
     }
     let bytes = number_of(cut.bytes.len(), "byte");
     let records = number_of(cut.records.len(), "record");
@@ -43,10 +55,11 @@ pub fn counts(cut: &Cut) -> String {
 
 /// A number and its noun: `1 stop`, `2 stops`, `2 policies`, `2 aboard`.
 pub fn number_of(number: usize, noun: &str) -> String {
+    let said = grouped(number as u64);
     match (number, noun) {
-        (1, _) | (_, "aboard" | "waiting") => format!("{number} {noun}"),
-        (_, "policy") => format!("{number} policies"),
-        _ => format!("{number} {noun}s"),
+        (1, _) | (_, "aboard" | "waiting") => format!("{said} {noun}"),
+        (_, "policy") => format!("{said} policies"),
+        _ => format!("{said} {noun}s"),
     }
 }
 
@@ -97,9 +110,9 @@ fn rest(cut: &Cut) -> Vec<String> {
     let mut lines = Vec::new();
     let left = cut.bits() - cut.end;
     if left > 0 {
+        let (left, end) = (grouped(left as u64), grouped(cut.end as u64));
         lines.push(format!(
-            "# not cut into records: {left} bits from bit {}",
-            cut.end
+            "# not cut into records: {left} bits from bit {end}"
         ));
     }
     let mut at = cut.end;

@@ -110,7 +110,7 @@ fn number_below(width: usize) -> String {
 }
 
 /// For who hands a text over where a sheet is expected.
-pub const HINT: &str = "This looks like a text; `sheet write` turns a text into a sheet.";
+pub const HINT: &str = "If this is a sheet's text, `sheet write` turns it into a sheet.";
 
 /// Bytes that are printed characters and line ends alone. No accepted sheet is: its first byte is 1.
 pub fn is_text(bytes: &[u8]) -> bool {

@@ -15,24 +15,53 @@ fn help() {
 }
 
 #[test]
+fn version() {
+    let output = run(&["--version"], b"");
+    assert_eq!(output.status.code(), Some(0));
+    let said = format!("sheet {}\n", env!("CARGO_PKG_VERSION"));
+    assert_eq!(text(&output.stdout), said);
+    assert_eq!(text(&output.stderr), "");
+}
+
+/// Nothing is done; what is wrong with the command line stands above the usage.
+fn has_no_meaning(args: &[&str], why: &str) {
+    let usage = text(&run(&["help"], b"").stdout);
+    let output = run(args, b"");
+    assert_eq!(output.status.code(), Some(2), "{args:?}");
+    assert_eq!(text(&output.stderr), format!("sheet: {why}\n{usage}"));
+    assert_eq!(text(&output.stdout), "");
+}
+
+#[test]
 fn no_such_command() {
-    for args in [
-        &["draught"][..],
-        &[],
-        &["show"],
-        &["show", "a", "b"],
-        &["write"],
+    has_no_meaning(&[], "no command is named");
+    has_no_meaning(&["draught", "a"], "\"draught\" is no command");
+    let meant = "\"explane\" is no command; did you mean explain?";
+    has_no_meaning(&["explane", "a"], meant);
+}
+
+#[test]
+fn too_few_or_too_many_words() {
+    for (args, words, takes) in [
+        (&["show"][..], "few", " SHEET"),
+        (&["write"], "few", " IN.txt [OUT]"),
+        (&["explain", "a", "b"], "many", " SHEET"),
+        (&["pass", "a", "b"], "many", " SHEET"),
+        (&["draw", "a", "b", "c"], "many", " SHEET [OUT]"),
+        (&["example", "ETD", "RSR"], "many", " [STRATEGY]"),
+        (&["rule", "1", "2"], "many", " [NUMBER]"),
+        (&["help", "a"], "many", ""),
+        (&["--version", "a"], "many", ""),
     ] {
-        let output = run(args, b"");
-        assert_eq!(output.status.code(), Some(2), "{args:?}");
-        assert!(text(&output.stderr).starts_with("usage: sheet COMMAND\n"));
-        assert_eq!(text(&output.stdout), "");
+        let name = args[0];
+        let why = format!("too {words} words after {name}: expected `sheet {name}{takes}`");
+        has_no_meaning(args, &why);
     }
 }
 
 #[test]
 fn no_such_file() {
-    for command in ["write", "show", "explain", "draw"] {
+    for command in ["write", "show", "explain", "draw", "pass"] {
         let output = run(&[command, "/no/such/file"], b"");
         assert_eq!(output.status.code(), Some(1));
         assert!(text(&output.stderr).starts_with("/no/such/file: "));
@@ -43,7 +72,7 @@ fn no_such_file() {
 #[cfg(not(feature = "pass"))]
 #[test]
 fn without_the_library() {
-    for command in ["explain", "draw"] {
+    for command in ["explain", "draw", "pass"] {
         let output = run(&[command, "-"], b"");
         assert_eq!(output.status.code(), Some(1));
         assert!(text(&output.stderr).contains("built without the proved library"));
@@ -128,7 +157,7 @@ fn written_file_is_the_sheet() {
 #[test]
 fn a_text_is_shown_with_a_hint() {
     let lobby = std::fs::read(here("examples/lobby.txt")).unwrap();
-    let hint = "-: hint: This looks like a text; `sheet write` turns a text into a sheet.\n";
+    let hint = "-: hint: If this is a sheet's text, `sheet write` turns it into a sheet.\n";
     for (bytes, said) in [
         (&lobby[..], hint),
         ("caf\u{e9}\r\n\tbar".as_bytes(), hint),

@@ -282,6 +282,25 @@ fn document_01_as_stored() {
     assert_eq!(text(&std::fs::read(&out).unwrap()), text(&stored));
 }
 
+/// A record that passes the end is drawn as one; sentences that are too long for a line are drawn in two.
+#[test]
+fn refused_as_stored() {
+    for (example, hatched, lines) in [
+        ("refusal_02_cut_body", 2, 3),
+        ("refusal_03_edition", 1, 4),
+        ("refusal_08_phase", 1, 3),
+    ] {
+        let path = here(&format!("examples/{example}.txt"));
+        let written = run(&["write", path.to_str().unwrap()], b"");
+        let svg = text(&run(&["draw", "-"], &written.stdout).stdout);
+        let stored = std::fs::read(path.with_extension("svg")).unwrap();
+        assert_eq!(svg, text(&stored), "{example}");
+        assert_eq!(count(&svg, "<rect class=\"hatched\""), hatched);
+        let sentences = count(&svg, "<text class=\"\" x=\"24\"") + 1;
+        assert_eq!(sentences, lines, "{example}");
+    }
+}
+
 #[test]
 fn refused_examples() {
     let mut refused = 0;

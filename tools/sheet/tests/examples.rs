@@ -5,8 +5,9 @@ mod common;
 
 use common::{files, here, name, run, text};
 use dispatch_bench::{Refusal, read};
-use sheet::{explain, rules};
-use sheetgen::generate::{PROFILES, generate};
+use sheet::{explain, rules, show};
+use sheetgen::generate::{PROFILES, Profile, generate};
+use sheetgen::rng::Rng;
 
 #[test]
 fn document_01() {
@@ -23,7 +24,7 @@ fn document_01() {
 #[test]
 fn explained_as_stored() {
     let more = files("tests/explained", "txt");
-    assert!(more.len() >= 16);
+    assert!(more.len() >= 33);
     for path in files("examples", "txt").iter().chain(&more) {
         let written = run(&["write", path.to_str().unwrap()], b"");
         assert_eq!(text(&written.stderr), "", "{}", name(path));
@@ -43,12 +44,12 @@ fn a_text_is_no_sheet() {
 refused 3 at 0
 Head (bit 0): edition is 35, but this bench reads edition 1.
 rule 3: The edition in the first 8 bits is not 1.
-to do: Have the sheet written as edition 1, or take a bench that reads its edition.
-hint: This looks like a text; `sheet write` turns a text into a sheet.
+to do: Have the sheet written as edition 1, or take a bench that reads its edition. The file may also be no sheet at all, or not the right one. If the writer is not at fault, the file may have been changed on its way: fetch it again, in binary.
+hint: If this is a sheet's text, `sheet write` turns it into a sheet.
 ";
     assert_eq!(text(&explained.stdout), said);
     assert_eq!(text(&explained.stderr), "");
-    let drawn = run(&["draw", "-"], &std::fs::read(lobby).unwrap());
+    let drawn = run(&["draw", "-"], &std::fs::read(&lobby).unwrap());
     assert_eq!(drawn.status.code(), Some(0));
     assert_eq!(
         text(&drawn.stderr),
@@ -56,6 +57,10 @@ hint: This looks like a text; `sheet write` turns a text into a sheet.
     );
     let svg = text(&drawn.stdout);
     assert!(svg.contains(">Refused 3 at 0<") && svg.contains(sheet::text::HINT));
+    let passed = run(&["pass", lobby.to_str().unwrap()], b"");
+    assert_eq!(text(&passed.stdout), "refused 3 at 0\n");
+    let hint = format!("{}: hint: {}\n", lobby.display(), sheet::text::HINT);
+    assert_eq!(text(&passed.stderr), hint);
     for (_, profile) in PROFILES {
         for index in 0..300 {
             let bytes = generate(profile, 11, index);
@@ -63,6 +68,97 @@ hint: This looks like a text; `sheet write` turns a text into a sheet.
             assert!(!hinted || read(&bytes).is_err(), "{profile:?} {index}");
         }
     }
+}
+
+/// The lines of a pass are the stored ones, those of a refusal its first line.
+#[test]
+fn passes_as_stored() {
+    let mut passes = 0;
+    for path in files("examples", "txt") {
+        let written = run(&["write", path.to_str().unwrap()], b"");
+        let output = run(&["pass", "-"], &written.stdout);
+        assert_eq!(output.status.code(), Some(0), "{}", name(&path));
+        assert_eq!(text(&output.stderr), "", "{}", name(&path));
+        let lines = text(&output.stdout);
+        if let Ok(stored) = std::fs::read(path.with_extension("pass")) {
+            assert_eq!(lines, text(&stored), "{}", name(&path));
+            passes += 1;
+        } else {
+            let said = text(&std::fs::read(path.with_extension("explain")).unwrap());
+            assert!(said.starts_with(&lines), "{}", name(&path));
+            assert_eq!(lines.lines().count(), 1);
+        }
+    }
+    assert_eq!(passes, 5);
+    let example = run(&["pass", "-"], &sheetgen::Sheet::example().write());
+    let stored = std::fs::read(here("../../crates/passprint/stdout")).unwrap();
+    assert_eq!(example.stdout, stored);
+}
+
+/// The number of the line that `explain` says is to be put right.
+fn line_to_repair(said: &str) -> Option<usize> {
+    let repair = said.lines().find(|line| line.starts_with("repair: "))?;
+    let (_, after) = repair.split_once("put right line ")?;
+    let (number, _) = after.split_once(" of a.txt")?;
+    number.replace(',', "").parse().ok()
+}
+
+/// In what `show` prints, that line is the refused record's: the lines above it end at the refusal's offset.
+#[test]
+fn the_line_to_repair_is_the_record() {
+    let mut repaired = 0;
+    for path in [files("examples", "txt"), files("tests/explained", "txt")].concat() {
+        let bytes = run(&["write", path.to_str().unwrap()], b"").stdout;
+        let said = explain::explain(&bytes);
+        let Some(number) = line_to_repair(&said) else {
+            let record = said.contains("\ntext: ");
+            assert!(!record || said.contains("record kind="), "{}", name(&path));
+            continue;
+        };
+        let shown = show::show(&bytes);
+        let above: Vec<&str> = shown.lines().take(number - 1).collect();
+        let above = sheet::text::write(above.join("\n").as_bytes()).unwrap();
+        let offset = read(&bytes).unwrap_err().offset as usize;
+        assert_eq!(above.len(), offset.div_ceil(8), "{}", name(&path));
+        repaired += 1;
+    }
+    assert!(repaired > 45, "{repaired}");
+}
+
+/// With that line put right, or left out, the sheet is accepted.
+#[test]
+fn a_repaired_line_is_enough() {
+    for (example, wrong, right) in [
+        ("refusal_04_kind", "record kind=8", "# record kind=8"),
+        ("refusal_07_lines", "line id=9", "# line id=9"),
+        ("refusal_08_phase", "phase=7", "phase=idle"),
+        ("refusal_10_line", "line=2", "line=1"),
+        ("refusal_11_speed", "max_speed=0.0005", "max_speed=1"),
+        ("refusal_12_limit", "limit=0", "limit=5"),
+    ] {
+        let path = here(&format!("examples/{example}.txt"));
+        let bytes = run(&["write", path.to_str().unwrap()], b"").stdout;
+        let number = line_to_repair(&explain::explain(&bytes)).unwrap();
+        let shown = show::show(&bytes);
+        let mut lines: Vec<String> = shown.lines().map(String::from).collect();
+        assert!(lines[number - 1].contains(wrong), "{example}");
+        lines[number - 1] = lines[number - 1].replace(wrong, right);
+        let repaired = sheet::text::write(lines.join("\n").as_bytes()).unwrap();
+        assert_eq!(read(&repaired), Ok(()), "{example}");
+    }
+}
+
+/// The text that is said to be the record's stands on the line that is named.
+fn has_its_line(sheet: &[u8], said: &str) {
+    let Some(number) = line_to_repair(said) else {
+        return;
+    };
+    let text = said.lines().find_map(|line| line.strip_prefix("text: "));
+    let text = text.unwrap();
+    let start = text.split(".. (").next().unwrap();
+    let shown = show::show(sheet);
+    let line = shown.lines().nth(number - 1).unwrap();
+    assert!(line == text || line.starts_with(start), "{said}");
 }
 
 #[test]
@@ -121,6 +217,11 @@ fn has_sentence(sheet: &[u8]) {
     );
     assert!(lines[2].starts_with(&format!("rule {number}: ")), "{said}");
     assert!(lines[3].starts_with("to do: "), "{said}");
+    let by_damage = [3, 4, 5, 6, 8, 11].contains(&number);
+    assert_eq!(lines[3].ends_with(rules::CHANGED), by_damage, "{said}");
+    assert!(!lines[3].contains("the field"), "{said}");
+    assert!(said.lines().all(|line| line.len() < 700), "{said}");
+    has_its_line(sheet, &said);
 }
 
 #[test]
@@ -129,6 +230,23 @@ fn every_generated_refusal_has_its_sentence() {
         for index in 0..300 {
             has_sentence(&generate(profile, 11, index));
         }
+    }
+}
+
+/// Sheets that were cut or carried as texts, and bytes that begin as a sheet does.
+#[test]
+fn every_damaged_file_has_its_sentence() {
+    let mut rng = Rng::new(11, 3, 0);
+    for index in 0..200 {
+        let sheet = generate(Profile::Valid, 11, index);
+        has_sentence(&sheet[..rng.below(sheet.len())]);
+        let as_text: String = sheet.iter().map(|b| char::from(*b)).collect();
+        has_sentence(as_text.as_bytes());
+        let ends: Vec<&[u8]> = sheet.split(|b| *b == b'\n').collect();
+        has_sentence(&ends.join(&b"\r\n"[..]));
+        let mut foreign: Vec<u8> = (0..3_000).map(|_| rng.next() as u8).collect();
+        foreign[..2].copy_from_slice(&[1, 0]);
+        has_sentence(&foreign);
     }
 }
 
@@ -160,6 +278,7 @@ fn the_manual_has_an_example_of_every_number() {
     let file = |path: &str| text(&std::fs::read(here(path)).unwrap());
     let manual = file("../../docs/MANUAL.md");
     assert!(manual.contains(&indented(&file("examples/lobby.txt"))));
+    assert!(manual.contains(&indented(&file("examples/document_01.explain"))));
     let is_shown = |example: &str| {
         let said = file(&format!("examples/{example}.explain"));
         let mut lines = said.lines();

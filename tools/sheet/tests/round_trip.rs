@@ -45,6 +45,18 @@ fn stored_passes() {
     assert!(sheets > 100, "{sheets}");
 }
 
+/// In comments thousands are set apart, in records not; `show` prints the whole of a long record.
+#[test]
+fn numbers_and_long_lines() {
+    let path = common::here("tests/explained/long_car.txt");
+    let bytes = text::write(&std::fs::read(path).unwrap()).unwrap();
+    let shown = show::show(&bytes);
+    let counts = "# 1,116 bytes, 67 records: 1 policy, 64 stops, 1 line, 1 car, 0 aboard, 0 waiting, 0 demands";
+    assert_eq!(shown.lines().next(), Some(counts));
+    let car = shown.lines().last().unwrap();
+    assert!(car.contains(" position=2000000 ") && car.ends_with(",4000000062 car_calls=none"));
+}
+
 #[test]
 fn generated_sheets() {
     for (name, profile) in PROFILES {

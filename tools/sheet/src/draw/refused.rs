@@ -6,12 +6,15 @@ use sheetgen::sheet::HEAD_BITS;
 use crate::cut::{Cut, Record};
 use crate::explain::{self, Reason};
 use crate::fields::KINDS;
+use crate::numbers::grouped;
 use crate::{text, value};
 
 use super::EDGE;
-use super::svg::{Anchor, Svg};
+use super::svg::{self, Anchor, Svg};
 
+/// The width of the strip, and what is left beside it.
 const WIDTH: f64 = 1000.0;
+const BESIDE: f64 = 120.0;
 /// By kind; 0 is for what has no known kind.
 const COLOURS: [&str; 8] = [
     "#999999", "#6a3d9a", "#1f78b4", "#33a02c", "#ff7f00", "#b2df8a", "#a6cee3", "#fdbf6f",
@@ -24,19 +27,28 @@ pub fn draw(bytes: &[u8], refusal: Refusal) -> String {
     let mut svg = Svg::default();
     let title = format!("Refused {number} at {offset}");
     svg.text("title", EDGE, 30.0, Anchor::Start, &title);
-    svg.text("fault", EDGE, 50.0, Anchor::Start, &reason.sentence);
     let rule = format!("Rule {number}: {}", refusal.rule());
-    svg.text("", EDGE, 66.0, Anchor::Start, &rule);
     let to_do = format!("To do: {}", reason.remedy);
-    svg.text("", EDGE, 82.0, Anchor::Start, &to_do);
+    let mut y = sentence(&mut svg, "fault", 50.0, &reason.sentence);
+    y = sentence(&mut svg, "", y, &rule);
+    y = sentence(&mut svg, "", y, &to_do);
     if text::is_text(bytes) {
-        svg.text("name", EDGE, 98.0, Anchor::Start, text::HINT);
+        y = sentence(&mut svg, "name", y, text::HINT);
     }
-    strip(&mut svg, &cut, 130.0);
-    mark(&mut svg, &cut, &reason, offset, 130.0);
-    legend(&mut svg, 202.0);
-    let bottom = fields(&mut svg, &cut, &reason, 234.0);
-    svg.finish(WIDTH + 2.0 * EDGE + 120.0, bottom + EDGE)
+    strip(&mut svg, &cut, y + 24.0);
+    mark(&mut svg, &cut, &reason, offset, y + 24.0);
+    legend(&mut svg, y + 96.0);
+    let bottom = fields(&mut svg, &cut, &reason, y + 128.0);
+    svg.finish(WIDTH + 2.0 * EDGE + BESIDE, bottom + EDGE)
+}
+
+/// A sentence in as many lines as it needs; answers where the next one stands.
+fn sentence(svg: &mut Svg, class: &str, mut y: f64, words: &str) -> f64 {
+    for line in svg::wrapped(class, words, WIDTH + BESIDE) {
+        svg.text(class, EDGE, y, Anchor::Start, &line);
+        y += 16.0;
+    }
+    y
 }
 
 /// Where a bit stands on the strip.
@@ -50,13 +62,27 @@ fn strip(svg: &mut Svg, cut: &Cut, y: f64) {
         let (from, to) = (x(cut, record.at), x(cut, record.body() + record.length));
         let colour = COLOURS.get(record.kind).unwrap_or(&COLOURS[0]);
         let name = KINDS.get(record.kind).unwrap_or(&"");
-        let tip = format!("{name} at bit {}", record.at);
+        let tip = format!("{name} at bit {}", grouped(record.at as u64));
         let class = if to - from > 3.0 { "cell" } else { "" };
         svg.tile((from, y), (to - from, 26.0), colour, class, &tip);
     }
+    if cut.is_cut_short() {
+        passing(svg, cut, y);
+    }
     svg.text("small", EDGE, y - 9.0, Anchor::Start, "bit 0");
-    let end = format!("bit {}", cut.bits());
+    let end = format!("bit {}", grouped(cut.bits() as u64));
     svg.text("small", EDGE + WIDTH, y - 9.0, Anchor::End, &end);
+}
+
+/// What is there of the record that passes the end.
+fn passing(svg: &mut Svg, cut: &Cut, y: f64) {
+    let kind = cut.stated_at(cut.end).map_or(0, |stated| stated.kind);
+    let name = KINDS.get(kind).filter(|name| !name.is_empty());
+    let (name, at) = (name.unwrap_or(&"record"), grouped(cut.end as u64));
+    let from = x(cut, cut.end);
+    svg.tipped(&format!("{name} at bit {at}, passes the end"), |svg| {
+        svg.rect("hatched", from, y, EDGE + WIDTH - from, 26.0);
+    });
 }
 
 /// The place of the refusal on the strip.
@@ -75,7 +101,8 @@ fn mark(svg: &mut Svg, cut: &Cut, reason: &Reason, offset: u64, y: f64) {
         m if m > EDGE + WIDTH - 60.0 => (m + 6.0, Anchor::End),
         m => (m, Anchor::Middle),
     };
-    svg.text("fault", x, y + 53.0, anchor, &format!("bit {offset}"));
+    let bit = format!("bit {}", grouped(offset));
+    svg.text("fault", x, y + 53.0, anchor, &bit);
 }
 
 fn legend(svg: &mut Svg, y: f64) {
@@ -86,8 +113,13 @@ fn legend(svg: &mut Svg, y: f64) {
         svg.text("small", x + 16.0, y, Anchor::Start, name);
     }
     let x = EDGE + 100.0 * COLOURS.len() as f64;
-    svg.rect("field", x, y - 9.0, 12.0, 11.0);
-    svg.text("small", x + 16.0, y, Anchor::Start, "head, or no record");
+    for (x, class, words) in [
+        (x, "field", "head, or no record"),
+        (x + 130.0, "hatched", "record that passes the end"),
+    ] {
+        svg.rect(class, x, y - 9.0, 12.0, 11.0);
+        svg.text("small", x + 16.0, y, Anchor::Start, words);
+    }
 }
 
 /// Each field of the refused record with its value; answers the lower edge.
@@ -111,7 +143,7 @@ fn fields(svg: &mut Svg, cut: &Cut, reason: &Reason, top: f64) -> f64 {
             EDGE + 6.0,
             y + 12.5,
             Anchor::Start,
-            &format!("bit {bit}"),
+            &format!("bit {}", grouped(bit as u64)),
         );
         svg.text("name", EDGE + 70.0, y + 12.5, Anchor::Start, name);
         let class = if wrong { "fault" } else { "" };
