@@ -1,10 +1,11 @@
 -- passprint::sweep_lines meets its contract.
 use Prim.Native.Nat.{ℕ, _+_, _-_, _≤_}
 use Rattle.layout.specs.Records.{sheetOf, limitOf}
-use Rattle.passprint.specs.LineLaws.{Putting, putting-start, putting-next, sweep-row, put-as}
+use Rattle.passprint.specs.LineLaws.{Putting, putting-start, putting-next, codeLine, sweep-row, put-as}
 use Rattle.passprint.specs.Lines.{linesOf, rowSweep}
-use Rattle.text.specs.Text.{size}
+use Rattle.text.specs.Text.{Put, size}
 use borrow.Author.Needs.{needs}
+use lib.ListN.{getD}
 use mathlib.Core.Path.{_≡_, refl, sym, ap, _∙_}
 use native.Mathlib.Omega.{arith}
 use Rattle.passprint.proofs.sweep_lines.Statement.{statement}
@@ -52,8 +53,9 @@ loop-again c =
     let p = c .before .before .before .before .before .before .before .before .before .before .before .before .before .pre in
     let l = c .before .before .before .before .before .before .before .before .loop in
     let t = c .before .before .before .before .before .before .before .loop-test .taken in
-    let call = c .before .before .sweep-line .ensures in
-    (omega arith, putting-next (l .inv .1) (sweep-row (sheetOf (a .s .now) (a .c)) (p .1) (l .r) t (c .before .before .before .before .car-id .ensures) (p .3)) (call .0) (call .1))
+    let line = c .before .before .sweep-line in
+    let put : Put (l .out) (l .at) (codeLine (c .before .before .before .before .car-id .result) (getD (a .sweeps .now) (getD (a .cars .now) (l .r) 0) 0)) (line .last .0) (line .result) = line .ensures .0 in
+    (omega arith, putting-next (l .inv .1) (sweep-row (sheetOf (a .s .now) (a .c)) (p .1) (l .r) t (c .before .before .before .before .car-id .ensures) (p .3)) put (line .ensures .1))
 
 same-length : tie.Need-same-length Inv-loop μ-loop
 same-length c = size (c .before .loop .inv .1 .put)
