@@ -1,4 +1,5 @@
 -- decisions::decision meets its contract.
+use mathlib.Core.Path.{refl}
 use Rattle.decisions.specs.Decisions.{told}
 use Rattle.scale.specs.Scale.{sentinel}
 use borrow.Author.Needs.{needs}
@@ -23,7 +24,7 @@ shared-slice-read-result c = let p = c .before .before .before .before .pre in o
 
 returns-3 : tie.Need-returns-3
 unfolding told
-returns-3 c = let a = c .before .before .before .before .args in rw (lt-ltb (a .place) (a .m) (omega (arith, c .before .before .before .if1 .left)), lt-ltb (a .cell) sentinel (omega (arith, c .before .before .if2 .left)))
+returns-3 c = let a = c .before .before .before .before .args in rw (lt-ltb (a .place) (a .m) (omega (arith, c .before .before .before .if1 .left)), lt-ltb (a .cell) sentinel (omega (arith, c .before .before .if2 .left))) refl
 
 pub decision-spec : {M : Type 1} → statement M
 decision-spec = tie.close (tie.spec returns returns-2 (λ c. search needs) (λ c. search needs) mul-result shared-slice-read-result returns-3)

@@ -1,13 +1,14 @@
 -- riders::is_routed meets its contract.
+use mathlib.Core.Path.{refl}
 use borrow.Author.Tests.{eq-eqb, ne-eqb}
 use Rattle.riders.proofs.is_routed.Statement.{statement}
 use Rattle.riders.proofs.is_routed.Tie as tie
 
 returns : tie.Need-returns
-returns c = simp (eq-eqb _ _ (c .if1 .taken))
+returns c = simp (eq-eqb _ _ (c .if1 .taken)) refl
 
 returns-2 : tie.Need-returns-2
-returns-2 c = simp (ne-eqb _ _ (c .if1 .left))
+returns-2 c = simp (ne-eqb _ _ (c .if1 .left)) refl
 
 pub is-routed-spec : {M : Type 1} → statement M
 is-routed-spec = tie.close (tie.spec returns returns-2)

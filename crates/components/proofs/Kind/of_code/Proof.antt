@@ -1,4 +1,5 @@
 -- components::Kind::of_code meets its contract.
+use mathlib.Core.Path.{refl}
 use borrow.Author.Tests.{ne-eqb}
 use Rattle.components.specs.Codes.{kindOf}
 use Rattle.components.proofs.Kind.of_code.Statement.{statement}
@@ -6,35 +7,35 @@ use Rattle.components.proofs.Kind.of_code.Tie as tie
 
 returns : tie.Need-returns
 unfolding kindOf
-returns c = rw (c .match .keys1)
+returns c = rw (c .match .keys1) refl
 
 returns-2 : tie.Need-returns-2
 unfolding kindOf
-returns-2 c = rw (c .match .keys2)
+returns-2 c = rw (c .match .keys2) refl
 
 returns-3 : tie.Need-returns-3
 unfolding kindOf
-returns-3 c = rw (c .match .keys3)
+returns-3 c = rw (c .match .keys3) refl
 
 returns-4 : tie.Need-returns-4
 unfolding kindOf
-returns-4 c = rw (c .match .keys4)
+returns-4 c = rw (c .match .keys4) refl
 
 returns-5 : tie.Need-returns-5
 unfolding kindOf
-returns-5 c = rw (c .match .keys5)
+returns-5 c = rw (c .match .keys5) refl
 
 returns-6 : tie.Need-returns-6
 unfolding kindOf
-returns-6 c = rw (c .match .keys6)
+returns-6 c = rw (c .match .keys6) refl
 
 returns-7 : tie.Need-returns-7
 unfolding kindOf
-returns-7 c = rw (c .match .keys7)
+returns-7 c = rw (c .match .keys7) refl
 
 returns-8 : tie.Need-returns-8
 unfolding kindOf
-returns-8 c = rw (c .match .keys8)
+returns-8 c = rw (c .match .keys8) refl
 
 returns-9 : tie.Need-returns-9
 unfolding kindOf

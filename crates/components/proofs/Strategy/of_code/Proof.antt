@@ -1,4 +1,5 @@
 -- components::Strategy::of_code meets its contract.
+use mathlib.Core.Path.{refl}
 use borrow.Author.Tests.{ne-eqb}
 use Rattle.components.specs.Codes.{strategyOf}
 use Rattle.components.proofs.Strategy.of_code.Statement.{statement}
@@ -6,15 +7,15 @@ use Rattle.components.proofs.Strategy.of_code.Tie as tie
 
 returns : tie.Need-returns
 unfolding strategyOf
-returns c = rw (c .match .keys1)
+returns c = rw (c .match .keys1) refl
 
 returns-2 : tie.Need-returns-2
 unfolding strategyOf
-returns-2 c = rw (c .match .keys2)
+returns-2 c = rw (c .match .keys2) refl
 
 returns-3 : tie.Need-returns-3
 unfolding strategyOf
-returns-3 c = rw (c .match .keys3)
+returns-3 c = rw (c .match .keys3) refl
 
 returns-4 : tie.Need-returns-4
 unfolding strategyOf
