@@ -24,11 +24,13 @@ use Rattle.components.specs.declared.Phase.the-variants as phases
 use Rattle.components.specs.declared.Threshold.the-variants.{Absent, At}
 use Rattle.components.specs.Codes.{kindOf, phaseOf}
 use Rattle.components.specs.Cars.{isMoving, movingTarget}
+use Rattle.components.specs.declared.Kind.the-variants as kind
 use Rattle.layout.specs.declared.Counts.{Counts}
 use Rattle.layout.specs.declared.Reading.{Reading}
 use Rattle.layout.specs.declared.Reading.the-variants.{Refused, Accepted}
-use Rattle.layout.specs.Offsets.{isFull, none, next, endOf, lastKind, stopsFrom, linesFrom, carsFrom, aboardsFrom, waitsFrom, demandsFrom, Small}
-use Rattle.layout.specs.Records.{Fields, from, flag, double, policyOf, stopOf, lineOf, carOf, aboardOf, waitingOf, demandOf, sheetOf, limitOf}
+use Rattle.layout.specs.Offsets.{stopAt, lineAt, carAt, aboardAt, waitingAt, demandAt, recordLength, isFull, none, next, endOf, lastKind, stopsFrom, linesFrom, carsFrom, aboardsFrom, waitsFrom, demandsFrom, Small}
+use Rattle.layout.specs.Table.{carHasBypassUp, carHasBypassDown, carBypassDown, policyLimit, policyRate, policyW0, policyW1, policyW2, policyW3, policyW4, stopId, lineId, lineServes, carId, carLine, carStop, carHasTarget, carTarget, carPosition, carSpeed, carCapacity, carLoad, carBypassUp, carBypassDown, carTransition, carDwell, carRestricted, carCalls, aboardCar, waitingStop, waitingWeight, waitingWait, demandStop}
+use Rattle.layout.specs.Records.{Fields, from, flag, double, policyOf, stopOf, lineOf, carOf, aboardOf, waitingOf, demandOf, sheetOf, limitOf, read}
 use Rattle.layout.specs.Refusals.{kindAt, refusal6, isUnknown, seen, hasStop, hasLine, hasCar, hasDemand, lastStop, presentZero, unusedWeights, loadWeighed, unusedStop, phaseAt, refusal8Policy, refusal11Policy, refusal12, refusal15, refusal9Stop, refusal11Stop, refusal9Line, refusal10Line, refusal8Car, refusal9Car, refusal10Car, refusal11Car, refusal13, refusal8Aboard, refusal9Aboard, refusal10Aboard, refusal8Waiting, refusal9Waiting, refusal10Waiting, refusal11Waiting, refusal14, refusal9Demand, refusal10Demand}
 use Rattle.layout.specs.Verdict.{policyRefusal, stopRefusal, lineRefusal, carRefusal, aboardRefusal, waitingRefusal, demandRefusal, bodyRefusal, recordRefusal, tailFits, tailVerdict, recordsVerdict, verdict}
 use Rattle.layout.specs.VerdictLaws.{pick-none, Clean, clean}
@@ -351,7 +353,7 @@ whole s c e = let h = headed s c e in from-here s (fieldAt s 8 16) none c (no-re
 -- ---- what the conditions leave of each record
 
 module _ (f : Fields) where
-  sound-policy : (s : List ℕ) (c : Counts) → policyRefusal s c f ≡ 0 → SoundPolicy (policyOf f) × (0 < f 24 16)
+  sound-policy : (s : List ℕ) (c : Counts) → policyRefusal s c f ≡ 0 → SoundPolicy (policyOf f) × (0 < read f policyLimit)
   unfolding policyRefusal refusal8Policy refusal11Policy refusal12 refusal15 policyOf
   sound-policy s c e =
       let a = pick-none (refusal8Policy f) 8 _ (omega arith) e in
@@ -359,28 +361,28 @@ module _ (f : Fields) where
       let d = pick-none (refusal12 f) 12 _ (omega arith) (b .1) in
       let g = pick-none (refusal15 f) 15 0 (omega arith) (d .1) in
       let r0 = not-false _ (b .0) in
-      let r1 = both-right (isTickRate (double f 40)) _ r0 in
-      let r2 = both-right (isMass (double f 106)) _ r1 in
-      let r3 = both-right (isMass (double f 170)) _ r2 in
-      let r4 = both-right (isMass (double f 234)) _ r3 in
-      let r5 = both-right (isMass (double f 298)) _ r4 in (
+      let r1 = both-right (isTickRate (double f policyRate)) _ r0 in
+      let r2 = both-right (isMass (double f policyW0)) _ r1 in
+      let r3 = both-right (isMass (double f policyW1)) _ r2 in
+      let r4 = both-right (isMass (double f policyW2)) _ r3 in
+      let r5 = both-right (isMass (double f policyW3)) _ r4 in (
         record {
           strategy = λ q. not-both (ap (λ k. unusedWeights k f) q) (a .0);
-          rate = both-left (isTickRate (double f 40)) _ r0;
-          w0 = both-left (isMass (double f 106)) _ r1;
-          w1 = both-left (isMass (double f 170)) _ r2;
-          w2 = both-left (isMass (double f 234)) _ r3;
-          w3 = both-left (isMass (double f 298)) _ r4;
-          w4 = both-left (isMass (double f 362)) _ r5;
-          w5 = both-right (isMass (double f 362)) _ r5;
+          rate = both-left (isTickRate (double f policyRate)) _ r0;
+          w0 = both-left (isMass (double f policyW0)) _ r1;
+          w1 = both-left (isMass (double f policyW1)) _ r2;
+          w2 = both-left (isMass (double f policyW2)) _ r3;
+          w3 = both-left (isMass (double f policyW3)) _ r4;
+          w4 = both-left (isMass (double f policyW4)) _ r5;
+          w5 = both-right (isMass (double f policyW4)) _ r5;
           unloaded = λ q. sym (ap (λ k. loadWeighed k f) q) ∙ g .0;
         },
-        above-zero (f 24 16) (d .0),
+        above-zero (read f policyLimit) (d .0),
       )
 
   record StopFacts (s : List ℕ) (c : Counts) : Type 0 where
     pub sound : SoundStop (stopOf f)
-    pub above : lastStop s c < f 22 32
+    pub above : lastStop s c < read f stopId
 
   stop-facts : (s : List ℕ) (c : Counts) → stopRefusal s c f ≡ 0 → StopFacts s c
   unfolding stopRefusal refusal9Stop refusal11Stop stopOf
@@ -389,16 +391,16 @@ module _ (f : Fields) where
       let b = pick-none (refusal11Stop f) 11 0 (omega arith) (a .1) in
       record {
         sound = record {
-          id = above-zero (f 22 32) (neither-left (eqb (f 22 32) 0) _ (a .0));
+          id = above-zero (read f stopId) (neither-left (eqb (read f stopId) 0) _ (a .0));
           position = not-false _ (b .0);
         };
-        above = leb-false (f 22 32) (lastStop s c) (neither-right (eqb (f 22 32) 0) _ (a .0));
+        above = leb-false (read f stopId) (lastStop s c) (neither-right (eqb (read f stopId) 0) _ (a .0));
       }
 
   record LineFacts (s : List ℕ) (c : Counts) : Type 0 where
-    pub id : 0 < f 22 32
-    pub fresh : hasLine s c (f 22 32) ≡ false
-    pub serves : pastStops (f 54 64) (c .stops) ≡ false
+    pub id : 0 < read f lineId
+    pub fresh : hasLine s c (read f lineId) ≡ false
+    pub serves : pastStops (read f lineServes) (c .stops) ≡ false
 
   line-facts : (s : List ℕ) (c : Counts) → lineRefusal s c f ≡ 0 → LineFacts s c
   unfolding lineRefusal refusal9Line refusal10Line
@@ -406,26 +408,26 @@ module _ (f : Fields) where
       let a = pick-none (refusal9Line s c f) 9 _ (omega arith) e in
       let b = pick-none (refusal10Line c f) 10 0 (omega arith) (a .1) in
       record {
-        id = above-zero (f 22 32) (neither-left (eqb (f 22 32) 0) _ (a .0));
-        fresh = neither-right (eqb (f 22 32) 0) _ (a .0);
+        id = above-zero (read f lineId) (neither-left (eqb (read f lineId) 0) _ (a .0));
+        fresh = neither-right (eqb (read f lineId) 0) _ (a .0);
         serves = b .0;
       }
 
   record CarFacts (s : List ℕ) (c : Counts) : Type 0 where
-    pub id : 0 < f 22 32
-    pub fresh : hasCar s c (f 22 32) ≡ false
-    pub line : hasLine s c (f 54 32) ≡ true
-    pub phase : unusedStop (phaseAt f) (not (eqb (f 89 32) 0)) ≡ false
-    pub moving : (isMoving (phaseAt f) && eqb (f 89 32) 0) ≡ false
-    pub position : isPosition (double f 159) ≡ true
-    pub speed : isSpeed (double f 223) ≡ true
-    pub capacity : isMass (double f 287) ≡ true
-    pub load : isMass (double f 351) ≡ true
-    pub bypassup : isThreshold (double f 416) ≡ true
-    pub bypassdown : isThreshold (double f 481) ≡ true
-    pub ticks : 2 * f 545 32 + f 577 32 ≤ 4294967295
-    pub restricted : pastStops (f 609 64) (c .stops) ≡ false
-    pub calls : pastStops (f 673 64) (c .stops) ≡ false
+    pub id : 0 < read f carId
+    pub fresh : hasCar s c (read f carId) ≡ false
+    pub line : hasLine s c (read f carLine) ≡ true
+    pub phase : unusedStop (phaseAt f) (not (eqb (read f carStop) 0)) ≡ false
+    pub moving : (isMoving (phaseAt f) && eqb (read f carStop) 0) ≡ false
+    pub position : isPosition (double f carPosition) ≡ true
+    pub speed : isSpeed (double f carSpeed) ≡ true
+    pub capacity : isMass (double f carCapacity) ≡ true
+    pub load : isMass (double f carLoad) ≡ true
+    pub bypassup : isThreshold (double f carBypassUp) ≡ true
+    pub bypassdown : isThreshold (double f carBypassDown) ≡ true
+    pub ticks : 2 * read f carTransition + read f carDwell ≤ 4294967295
+    pub restricted : pastStops (read f carRestricted) (c .stops) ≡ false
+    pub calls : pastStops (read f carCalls) (c .stops) ≡ false
 
   car-facts : (s : List ℕ) (c : Counts) → carRefusal s c f ≡ 0 → CarFacts s c
   unfolding carRefusal refusal8Car refusal9Car refusal10Car refusal11Car refusal13
@@ -435,33 +437,33 @@ module _ (f : Fields) where
       let r10 = pick-none (refusal10Car s c f) 10 _ (omega arith) (r9 .1) in
       let r11 = pick-none (refusal11Car f) 11 _ (omega arith) (r10 .1) in
       let r13 = pick-none (refusal13 f) 13 0 (omega arith) (r11 .1) in
-      let i1 = neither-right (eqb (f 22 32) 0) _ (r9 .0) in
-      let i2 = neither-right (eqb (f 54 32) 0) _ i1 in
-      let i3 = neither-right (isMoving (phaseAt f) && eqb (f 89 32) 0) _ i2 in
-      let m = neither-right (not (hasLine s c (f 54 32))) _ (r10 .0) in
+      let i1 = neither-right (eqb (read f carId) 0) _ (r9 .0) in
+      let i2 = neither-right (eqb (read f carLine) 0) _ i1 in
+      let i3 = neither-right (isMoving (phaseAt f) && eqb (read f carStop) 0) _ i2 in
+      let m = neither-right (not (hasLine s c (read f carLine))) _ (r10 .0) in
       let d0 = not-false _ (r11 .0) in
-      let d1 = both-right (isPosition (double f 159)) _ d0 in
-      let d2 = both-right (isSpeed (double f 223)) _ d1 in
-      let d3 = both-right (isMass (double f 287)) _ d2 in
-      let d4 = both-right (isMass (double f 351)) _ d3 in
+      let d1 = both-right (isPosition (double f carPosition)) _ d0 in
+      let d2 = both-right (isSpeed (double f carSpeed)) _ d1 in
+      let d3 = both-right (isMass (double f carCapacity)) _ d2 in
+      let d4 = both-right (isMass (double f carLoad)) _ d3 in
       record {
-        id = above-zero (f 22 32) (neither-left (eqb (f 22 32) 0) _ (r9 .0));
-        fresh = neither-right (presentZero f 121) _ i3;
-        line = not-false _ (neither-left (not (hasLine s c (f 54 32))) _ (r10 .0));
-        phase = neither-left (unusedStop (phaseAt f) (not (eqb (f 89 32) 0))) _ (r8 .0);
-        moving = neither-left (isMoving (phaseAt f) && eqb (f 89 32) 0) _ i2;
-        position = both-left (isPosition (double f 159)) _ d0;
-        speed = both-left (isSpeed (double f 223)) _ d1;
-        capacity = both-left (isMass (double f 287)) _ d2;
-        load = both-left (isMass (double f 351)) _ d3;
-        bypassup = both-left (isThreshold (double f 416)) _ d4;
-        bypassdown = both-right (isThreshold (double f 416)) _ d4;
-        ticks = ltb-false 4294967295 (2 * f 545 32 + f 577 32) (r13 .0);
-        restricted = neither-left (pastStops (f 609 64) (c .stops)) _ m;
-        calls = neither-right (pastStops (f 609 64) (c .stops)) _ m;
+        id = above-zero (read f carId) (neither-left (eqb (read f carId) 0) _ (r9 .0));
+        fresh = neither-right (presentZero f carHasTarget carTarget) _ i3;
+        line = not-false _ (neither-left (not (hasLine s c (read f carLine))) _ (r10 .0));
+        phase = neither-left (unusedStop (phaseAt f) (not (eqb (read f carStop) 0))) _ (r8 .0);
+        moving = neither-left (isMoving (phaseAt f) && eqb (read f carStop) 0) _ i2;
+        position = both-left (isPosition (double f carPosition)) _ d0;
+        speed = both-left (isSpeed (double f carSpeed)) _ d1;
+        capacity = both-left (isMass (double f carCapacity)) _ d2;
+        load = both-left (isMass (double f carLoad)) _ d3;
+        bypassup = both-left (isThreshold (double f carBypassUp)) _ d4;
+        bypassdown = both-right (isThreshold (double f carBypassUp)) _ d4;
+        ticks = ltb-false 4294967295 (2 * read f carTransition + read f carDwell) (r13 .0);
+        restricted = neither-left (pastStops (read f carRestricted) (c .stops)) _ m;
+        calls = neither-right (pastStops (read f carRestricted) (c .stops)) _ m;
       }
 
-  aboard-car : (s : List ℕ) (c : Counts) → aboardRefusal s c f ≡ 0 → hasCar s c (f 22 32) ≡ true
+  aboard-car : (s : List ℕ) (c : Counts) → aboardRefusal s c f ≡ 0 → hasCar s c (read f aboardCar) ≡ true
   unfolding aboardRefusal refusal10Aboard
   aboard-car s c e =
       let a = pick-none (refusal8Aboard f) 8 _ (omega arith) e in
@@ -469,9 +471,9 @@ module _ (f : Fields) where
       not-false _ (pick-none (refusal10Aboard s c f) 10 0 (omega arith) (b .1) .0)
 
   record WaitingFacts (s : List ℕ) (c : Counts) : Type 0 where
-    pub stop : hasStop s c (f 22 32) ≡ true
-    pub weight : isMass (double f 120) ≡ true
-    pub wait : f 184 64 ≤ 9007199254740992
+    pub stop : hasStop s c (read f waitingStop) ≡ true
+    pub weight : isMass (double f waitingWeight) ≡ true
+    pub wait : read f waitingWait ≤ 9007199254740992
 
   waiting-facts : (s : List ℕ) (c : Counts) → waitingRefusal s c f ≡ 0 → WaitingFacts s c
   unfolding waitingRefusal refusal10Waiting refusal11Waiting refusal14
@@ -481,18 +483,18 @@ module _ (f : Fields) where
       let d = pick-none (refusal10Waiting s c f) 10 _ (omega arith) (b .1) in
       let g = pick-none (refusal11Waiting f) 11 _ (omega arith) (d .1) in
       let h = pick-none (refusal14 f) 14 0 (omega arith) (g .1) in
-      record { stop = not-false _ (d .0); weight = not-false _ (g .0); wait = ltb-false 9007199254740992 (f 184 64) (h .0) }
+      record { stop = not-false _ (d .0); weight = not-false _ (g .0); wait = ltb-false 9007199254740992 (read f waitingWait) (h .0) }
 
   record DemandFacts (s : List ℕ) (c : Counts) : Type 0 where
-    pub fresh : hasDemand s c (f 22 32) ≡ false
-    pub stop : hasStop s c (f 22 32) ≡ true
+    pub fresh : hasDemand s c (read f demandStop) ≡ false
+    pub stop : hasStop s c (read f demandStop) ≡ true
 
   demand-facts : (s : List ℕ) (c : Counts) → demandRefusal s c f ≡ 0 → DemandFacts s c
   unfolding demandRefusal refusal9Demand refusal10Demand
   demand-facts s c e =
       let a = pick-none (refusal9Demand s c f) 9 _ (omega arith) e in
       let b = pick-none (refusal10Demand s c f) 10 0 (omega arith) (a .1) in
-      record { fresh = neither-right (eqb (f 22 32) 0) _ (a .0); stop = not-false _ (b .0) }
+      record { fresh = neither-right (eqb (read f demandStop) 0) _ (a .0); stop = not-false _ (b .0) }
 
 -- ---- ids
 
@@ -563,49 +565,49 @@ pub body-at : {s : List ℕ} {c : Counts} {k : Kind} → Read s c k → (at : �
 body-at {s} {c} {k} r at e = subst (λ x. bodyRefusal s c k (from s x) ≡ 0) e (r .body)
 
 module _ (s : List ℕ) (c : Counts) (h : Records s c) where
-  the-stop : (j : ℕ) → j < c .stops → StopFacts (from s (stopsFrom c + 118 * j)) s (counts (c .policies) j 0 0 0 0 0)
+  the-stop : (j : ℕ) → j < c .stops → StopFacts (from s (stopAt c j)) s (counts (c .policies) j 0 0 0 0 0)
   the-stop j l =
-      let at = stopsFrom c + 118 * j in stop-facts (from s at) s (counts (c .policies) j 0 0 0 0 0) (body-at (h .stops j l) at (omega arith))
+      let at = stopAt c j in stop-facts (from s at) s (counts (c .policies) j 0 0 0 0 0) (body-at (h .stops j l) at (omega arith))
 
-  the-line : (i : ℕ) → i < c .lines → LineFacts (from s (linesFrom c + 118 * i)) s (counts (c .policies) (c .stops) i 0 0 0 0)
+  the-line : (i : ℕ) → i < c .lines → LineFacts (from s (lineAt c i)) s (counts (c .policies) (c .stops) i 0 0 0 0)
   the-line i l =
-      let at = linesFrom c + 118 * i in
+      let at = lineAt c i in
       line-facts (from s at) s (counts (c .policies) (c .stops) i 0 0 0 0) (body-at (h .lines i l) at (omega arith))
 
-  the-car : (i : ℕ) → i < c .cars → CarFacts (from s (carsFrom c + 737 * i)) s (counts (c .policies) (c .stops) (c .lines) i 0 0 0)
+  the-car : (i : ℕ) → i < c .cars → CarFacts (from s (carAt c i)) s (counts (c .policies) (c .stops) (c .lines) i 0 0 0)
   the-car i l =
-      let at = carsFrom c + 737 * i in
+      let at = carAt c i in
       car-facts (from s at) s (counts (c .policies) (c .stops) (c .lines) i 0 0 0) (body-at (h .cars i l) at (omega arith))
 
-  the-aboard : (i : ℕ) → i < c .aboards → hasCar s c (from s (aboardsFrom c + 87 * i) 22 32) ≡ true
+  the-aboard : (i : ℕ) → i < c .aboards → hasCar s c (from s (aboardAt c i) 22 32) ≡ true
   the-aboard i l =
-      let at = aboardsFrom c + 87 * i in
+      let at = aboardAt c i in
       aboard-car (from s at) s (counts (c .policies) (c .stops) (c .lines) (c .cars) i 0 0) (body-at (h .aboards i l) at (omega arith))
 
   the-waiting : (i : ℕ) → i < c .waits
-      → WaitingFacts (from s (waitsFrom c + 248 * i)) s (counts (c .policies) (c .stops) (c .lines) (c .cars) (c .aboards) i 0)
+      → WaitingFacts (from s (waitingAt c i)) s (counts (c .policies) (c .stops) (c .lines) (c .cars) (c .aboards) i 0)
   the-waiting i l =
-      let at = waitsFrom c + 248 * i in
+      let at = waitingAt c i in
       waiting-facts (from s at) s (counts (c .policies) (c .stops) (c .lines) (c .cars) (c .aboards) i 0) (body-at (h .waits i l) at (omega arith))
 
   the-demand : (i : ℕ) → i < c .demands
-      → DemandFacts (from s (demandsFrom c + 71 * i)) s (counts (c .policies) (c .stops) (c .lines) (c .cars) (c .aboards) (c .waits) i)
+      → DemandFacts (from s (demandAt c i)) s (counts (c .policies) (c .stops) (c .lines) (c .cars) (c .aboards) (c .waits) i)
   the-demand i l =
-      let at = demandsFrom c + 71 * i in
+      let at = demandAt c i in
       demand-facts (from s at) s (counts (c .policies) (c .stops) (c .lines) (c .cars) (c .aboards) (c .waits) i)
       (body-at (h .demands i l) at (omega arith))
 
   abbrev stop-ids : ℕ → ℕ
-  stop-ids j = fieldAt s (stopsFrom c + 118 * j + 22) 32
+  stop-ids j = fieldAt s (stopAt c j + 22) 32
 
   abbrev line-ids : ℕ → ℕ
-  line-ids i = fieldAt s (linesFrom c + 118 * i + 22) 32
+  line-ids i = fieldAt s (lineAt c i + 22) 32
 
   abbrev car-ids : ℕ → ℕ
-  car-ids i = fieldAt s (carsFrom c + 737 * i + 22) 32
+  car-ids i = fieldAt s (carAt c i + 22) 32
 
   abbrev demand-ids : ℕ → ℕ
-  demand-ids i = fieldAt s (demandsFrom c + 71 * i + 22) 32
+  demand-ids i = fieldAt s (demandAt c i + 22) 32
 
   stops-rise : (i : ℕ) → suc i < c .stops → stop-ids i < stop-ids (suc i)
   unfolding lastStop
@@ -629,7 +631,7 @@ module _ (s : List ℕ) (c : Counts) (h : Records s c) where
   distinct-demands = distinct demand-ids (c .demands) (λ i l. the-demand i l .fresh)
 
   demand-found : (i : ℕ) → i < c .demands → Found stop-ids (c .stops) (demand-ids i)
-  demand-found i l = found s (stopsFrom c) 118 (c .stops) (demand-ids i) (the-demand i l .stop)
+  demand-found i l = found s (stopsFrom c) (recordLength kind.Stop) (c .stops) (demand-ids i) (the-demand i l .stop)
 
   pub few-demands : c .demands ≤ c .stops
   few-demands = no-more demand-ids stop-ids (c .demands) (c .stops) distinct-demands demand-found
@@ -653,11 +655,11 @@ module _ (s : List ℕ) (c : Counts) (h : Records s c) where
   sound-car : (i : ℕ) → i < c .cars → SoundCar (sheetOf s c) (sheetOf s c .car i)
   unfolding sheetOf lineOf carOf
   sound-car i l =
-      let g = from s (carsFrom c + 737 * i) in
+      let g = from s (carAt c i) in
       let f = the-car i l in
       record {
         id = f .id;
-        line = found s (linesFrom c) 118 (c .lines) (g 54 32) (f .line);
+        line = found s (linesFrom c) (recordLength kind.Line) (c .lines) (g 54 32) (f .line);
         phase = λ q. not-both (ap (λ k. unusedStop k (not (eqb (g 89 32) 0))) q) (f .phase);
         moving = λ q.
             above-zero (movingTarget (phaseAt g))
@@ -666,8 +668,8 @@ module _ (s : List ℕ) (c : Counts) (h : Records s c) where
         speed = f .speed;
         capacity = f .capacity;
         load = f .load;
-        bypassup = threshold-or (flag g 415) (double g 416) (f .bypassup);
-        bypassdown = threshold-or (flag g 480) (double g 481) (f .bypassdown);
+        bypassup = threshold-or (flag g carHasBypassUp) (double g carBypassUp) (f .bypassup);
+        bypassdown = threshold-or (flag g carHasBypassDown) (double g carBypassDown) (f .bypassdown);
         ticks = let t = f .ticks in omega arith;
         restricted = f .restricted;
         calls = f .calls;
@@ -678,7 +680,7 @@ module _ (s : List ℕ) (c : Counts) (h : Records s c) where
   sound-waiting r l =
       let f = the-waiting r l in
       record {
-        stop = found s (stopsFrom c) 118 (c .stops) (from s (waitsFrom c + 248 * r) 22 32) (f .stop);
+        stop = found s (stopsFrom c) (recordLength kind.Stop) (c .stops) (from s (waitingAt c r) 22 32) (f .stop);
         weight = f .weight;
         wait = f .wait;
       }
@@ -701,7 +703,7 @@ module _ (s : List ℕ) (c : Counts) (h : Records s c) where
         line-ids = distinct-lines;
         car = sound-car;
         car-ids = distinct-cars;
-        aboard = λ r l. found s (carsFrom c) 737 (c .cars) (from s (aboardsFrom c + 87 * r) 22 32) (the-aboard r l);
+        aboard = λ r l. found s (carsFrom c) (recordLength kind.Car) (c .cars) (from s (aboardAt c r) 22 32) (the-aboard r l);
         waiting = sound-waiting;
         demand = demand-found;
         demand-stops = distinct-demands;

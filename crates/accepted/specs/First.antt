@@ -19,11 +19,13 @@ use Rattle.components.specs.declared.Strategy.{Strategy}
 use Rattle.components.specs.declared.Strategy.the-variants.{Etd, Rsr, Scan}
 use Rattle.components.specs.declared.Strategy.the-variants as strategy
 use Rattle.components.specs.Codes.{kindOf, strategyOf}
+use Rattle.components.specs.declared.Kind.the-variants as kind
 use Rattle.layout.specs.declared.Counts.{Counts}
 use Rattle.layout.specs.declared.Reading.{Reading}
 use Rattle.layout.specs.declared.Reading.the-variants.{Refused, Accepted}
-use Rattle.layout.specs.Offsets.{none, next, endOf, isFull, stopsFrom, linesFrom, carsFrom, demandsFrom}
-use Rattle.layout.specs.Records.{Fields, from, double}
+use Rattle.layout.specs.Offsets.{stopAt, recordLength, none, next, endOf, isFull, stopsFrom, linesFrom, carsFrom, demandsFrom}
+use Rattle.layout.specs.Table.{policyStrategy, lineId, carId, carLine, aboardCar, waitingStop, demandStop}
+use Rattle.layout.specs.Records.{Fields, from, double, read}
 use Rattle.layout.specs.Refusals.{kindAt, lengthAt, seen, hasStop, hasLine, hasCar, hasDemand, lastStop, isUnknown, unusedWeights, loadWeighed, refusal2, refusal5, refusal6, refusal8Policy, refusal11Policy, refusal12, refusal15, refusal9Stop, refusal11Stop, refusal9Line, refusal10Line, refusal8Car, refusal9Car, refusal10Car, refusal11Car, refusal13, refusal8Aboard, refusal9Aboard, refusal10Aboard, refusal8Waiting, refusal9Waiting, refusal10Waiting, refusal11Waiting, refusal14, refusal9Demand, refusal10Demand}
 use Rattle.layout.specs.Verdict.{pick, policyRefusal, stopRefusal, lineRefusal, carRefusal, aboardRefusal, waitingRefusal, demandRefusal, bodyRefusal, recordRefusal, tailFits, tailVerdict, recordsVerdict, verdict}
 use Rattle.layout.specs.VerdictLaws.{clean}
@@ -58,7 +60,7 @@ module _ (s : List ℕ) (c : Counts) (f : Fields) where
   unfolding policyRefusal refusal8Policy refusal11Policy refusal12 refusal15
   policy-clip =
       ap₂ (λ (a b : Bool). pick a 8 (pick (refusal11Policy f) 11 (pick (refusal12 f) 12 (pick b 15 0))))
-      (unused-clip (strategyOf (f 22 2))) (load-clip (strategyOf (f 22 2)))
+      (unused-clip (strategyOf (read f policyStrategy))) (load-clip (strategyOf (read f policyStrategy)))
 
   stop-clip : stopRefusal s c f ≡ stopRefusal s c (clip f)
   unfolding stopRefusal refusal9Stop refusal11Stop
@@ -115,20 +117,20 @@ module _ (s : List ℕ) (long : 65536 < length s) where
   -- what was read so far ends by bit 208,658
   module _ (c : Counts) (near : endOf c ≤ 208658) where
     stops-same : (id : ℕ) → hasStop s c id ≡ hasStop start c id
-    stops-same id = seen-same (stopsFrom c) 118 (c .stops) id (λ i l. omega arith)
+    stops-same id = seen-same (stopsFrom c) (recordLength kind.Stop) (c .stops) id (λ i l. omega arith)
 
     lines-same : (id : ℕ) → hasLine s c id ≡ hasLine start c id
-    lines-same id = seen-same (linesFrom c) 118 (c .lines) id (λ i l. omega arith)
+    lines-same id = seen-same (linesFrom c) (recordLength kind.Line) (c .lines) id (λ i l. omega arith)
 
     cars-same : (id : ℕ) → hasCar s c id ≡ hasCar start c id
-    cars-same id = seen-same (carsFrom c) 737 (c .cars) id (λ i l. omega arith)
+    cars-same id = seen-same (carsFrom c) (recordLength kind.Car) (c .cars) id (λ i l. omega arith)
 
     demands-same : (id : ℕ) → hasDemand s c id ≡ hasDemand start c id
-    demands-same id = seen-same (demandsFrom c) 71 (c .demands) id (λ i l. omega arith)
+    demands-same id = seen-same (demandsFrom c) (recordLength kind.Demand) (c .demands) id (λ i l. omega arith)
 
     last-same : lastStop s c ≡ lastStop start c
     unfolding lastStop
-    last-same = ap (λ x. cond (eqb (c .stops) 0) 0 x) (field-same (stopsFrom c + 118 * (c .stops - 1) + 22) 32 (omega arith))
+    last-same = ap (λ x. cond (eqb (c .stops) 0) 0 x) (field-same (stopAt c (c .stops - 1) + 22) 32 (omega arith))
 
     module _ (f : Fields) where
       policy-look : policyRefusal s c f ≡ policyRefusal start c f
@@ -141,23 +143,23 @@ module _ (s : List ℕ) (long : 65536 < length s) where
 
       line-look : lineRefusal s c f ≡ lineRefusal start c f
       unfolding lineRefusal refusal9Line
-      line-look = rw (lines-same (f 22 32))
+      line-look = rw (lines-same (read f lineId))
 
       car-look : carRefusal s c f ≡ carRefusal start c f
       unfolding carRefusal refusal9Car refusal10Car
-      car-look = rw (cars-same (f 22 32), lines-same (f 54 32))
+      car-look = rw (cars-same (read f carId), lines-same (read f carLine))
 
       aboard-look : aboardRefusal s c f ≡ aboardRefusal start c f
       unfolding aboardRefusal refusal10Aboard
-      aboard-look = rw (cars-same (f 22 32))
+      aboard-look = rw (cars-same (read f aboardCar))
 
       waiting-look : waitingRefusal s c f ≡ waitingRefusal start c f
       unfolding waitingRefusal refusal10Waiting
-      waiting-look = rw (stops-same (f 22 32))
+      waiting-look = rw (stops-same (read f waitingStop))
 
       demand-look : demandRefusal s c f ≡ demandRefusal start c f
       unfolding demandRefusal refusal9Demand refusal10Demand
-      demand-look = rw (demands-same (f 22 32), stops-same (f 22 32))
+      demand-look = rw (demands-same (read f demandStop), stops-same (read f demandStop))
 
       body-look : (k : Kind) → bodyRefusal s c k f ≡ bodyRefusal start c k f
       body-look Policy = policy-look

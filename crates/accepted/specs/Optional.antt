@@ -10,8 +10,9 @@ use Rattle.laws.specs.Bools.{never, neither-left, neither-right}
 use Rattle.components.specs.Cars.{isMoving}
 use Rattle.layout.specs.declared.Counts.{Counts}
 use Rattle.layout.specs.declared.Reading.the-variants.{Accepted}
-use Rattle.layout.specs.Offsets.{carsFrom, aboardsFrom, waitsFrom}
-use Rattle.layout.specs.Records.{Fields, from, flag, carOf, aboardOf, waitingOf, sheetOf}
+use Rattle.layout.specs.Offsets.{carAt, aboardAt, waitingAt, carsFrom, aboardsFrom, waitsFrom}
+use Rattle.layout.specs.Table.{carId, carLine, carStop, carHasTarget, carTarget, aboardCar, aboardHasDestination, aboardDestination, waitingStop, waitingHasLine, waitingLine, waitingHasDestination, waitingDestination}
+use Rattle.layout.specs.Records.{Fields, from, flag, carOf, aboardOf, waitingOf, sheetOf, read}
 use Rattle.layout.specs.Refusals.{absentSet, presentZero, unusedStop, phaseAt, refusal8Car, refusal9Car, refusal8Aboard, refusal9Aboard, refusal8Waiting, refusal9Waiting}
 use Rattle.layout.specs.Verdict.{carRefusal, aboardRefusal, waitingRefusal, verdict}
 use Rattle.layout.specs.VerdictLaws.{pick-none}
@@ -25,49 +26,49 @@ exact false true a b = refl
 exact false false a b = never (sym a)
 
 module _ (s : List ℕ) (c : Counts) (f : Fields) where
-  target-exact : carRefusal s c f ≡ 0 → flag f 121 ≡ not (eqb (f 122 32) 0)
+  target-exact : carRefusal s c f ≡ 0 → flag f carHasTarget ≡ not (eqb (read f carTarget) 0)
   unfolding carRefusal refusal8Car refusal9Car
   target-exact e =
       let a = pick-none (refusal8Car f) 8 _ (omega arith) e in
       let b = pick-none (refusal9Car s c f) 9 _ (omega arith) (a .1) in
-      let g = neither-right (unusedStop (phaseAt f) (not (eqb (f 89 32) 0))) _ (a .0) in
-      let h = neither-right (eqb (f 54 32) 0) _ (neither-right (eqb (f 22 32) 0) _ (b .0)) in
-      let k = neither-right (isMoving (phaseAt f) && eqb (f 89 32) 0) _ h in
-      exact (flag f 121) (eqb (f 122 32) 0) (neither-left (absentSet f 121 32) _ g) (neither-left (presentZero f 121) _ k)
+      let g = neither-right (unusedStop (phaseAt f) (not (eqb (read f carStop) 0))) _ (a .0) in
+      let h = neither-right (eqb (read f carLine) 0) _ (neither-right (eqb (read f carId) 0) _ (b .0)) in
+      let k = neither-right (isMoving (phaseAt f) && eqb (read f carStop) 0) _ h in
+      exact (flag f carHasTarget) (eqb (read f carTarget) 0) (neither-left (absentSet f carHasTarget carTarget) _ g) (neither-left (presentZero f carHasTarget carTarget) _ k)
 
-  aboard-exact : aboardRefusal s c f ≡ 0 → flag f 54 ≡ not (eqb (f 55 32) 0)
+  aboard-exact : aboardRefusal s c f ≡ 0 → flag f aboardHasDestination ≡ not (eqb (read f aboardDestination) 0)
   unfolding aboardRefusal refusal8Aboard refusal9Aboard
   aboard-exact e =
       let a = pick-none (refusal8Aboard f) 8 _ (omega arith) e in
       let b = pick-none (refusal9Aboard f) 9 _ (omega arith) (a .1) in
-      exact (flag f 54) (eqb (f 55 32) 0) (a .0) (neither-right (eqb (f 22 32) 0) _ (b .0))
+      exact (flag f aboardHasDestination) (eqb (read f aboardDestination) 0) (a .0) (neither-right (eqb (read f aboardCar) 0) _ (b .0))
 
-  waiting-exact : waitingRefusal s c f ≡ 0 → (flag f 54 ≡ not (eqb (f 55 32) 0)) × (flag f 87 ≡ not (eqb (f 88 32) 0))
+  waiting-exact : waitingRefusal s c f ≡ 0 → (flag f waitingHasLine ≡ not (eqb (read f waitingLine) 0)) × (flag f waitingHasDestination ≡ not (eqb (read f waitingDestination) 0))
   unfolding waitingRefusal refusal8Waiting refusal9Waiting
   waiting-exact e =
       let a = pick-none (refusal8Waiting f) 8 _ (omega arith) e in
       let b = pick-none (refusal9Waiting f) 9 _ (omega arith) (a .1) in
-      let g = neither-right (eqb (f 22 32) 0) _ (b .0) in (
-        exact (flag f 54) (eqb (f 55 32) 0) (neither-left (absentSet f 54 32) _ (a .0)) (neither-left (presentZero f 54) _ g),
-        exact (flag f 87) (eqb (f 88 32) 0) (neither-right (absentSet f 54 32) _ (a .0)) (neither-right (presentZero f 54) _ g),
+      let g = neither-right (eqb (read f waitingStop) 0) _ (b .0) in (
+        exact (flag f waitingHasLine) (eqb (read f waitingLine) 0) (neither-left (absentSet f waitingHasLine waitingLine) _ (a .0)) (neither-left (presentZero f waitingHasLine waitingLine) _ g),
+        exact (flag f waitingHasDestination) (eqb (read f waitingDestination) 0) (neither-right (absentSet f waitingHasLine waitingLine) _ (a .0)) (neither-right (presentZero f waitingHasLine waitingLine) _ g),
       )
 
 -- each present bit says that the sheet's field is not 0
 pub record Optionals (s : List ℕ) (c : Counts) : Type 0 where
-  pub target : (i : ℕ) → i < c .cars → flag (from s (carsFrom c + 737 * i)) 121 ≡ not (eqb (sheetOf s c .car i .target) 0)
-  pub destination : (i : ℕ) → i < c .aboards → flag (from s (aboardsFrom c + 87 * i)) 54 ≡ not (eqb (sheetOf s c .aboard i .destination) 0)
-  pub line : (i : ℕ) → i < c .waits → flag (from s (waitsFrom c + 248 * i)) 54 ≡ not (eqb (sheetOf s c .waiting i .line) 0)
-  pub bound-for : (i : ℕ) → i < c .waits → flag (from s (waitsFrom c + 248 * i)) 87 ≡ not (eqb (sheetOf s c .waiting i .destination) 0)
+  pub target : (i : ℕ) → i < c .cars → flag (from s (carAt c i)) carHasTarget ≡ not (eqb (sheetOf s c .car i .target) 0)
+  pub destination : (i : ℕ) → i < c .aboards → flag (from s (aboardAt c i)) aboardHasDestination ≡ not (eqb (sheetOf s c .aboard i .destination) 0)
+  pub line : (i : ℕ) → i < c .waits → flag (from s (waitingAt c i)) waitingHasLine ≡ not (eqb (sheetOf s c .waiting i .line) 0)
+  pub bound-for : (i : ℕ) → i < c .waits → flag (from s (waitingAt c i)) waitingHasDestination ≡ not (eqb (sheetOf s c .waiting i .destination) 0)
 
 pub optional-ids : (s : List ℕ) (c : Counts) → verdict s ≡ Accepted c → Optionals s c
 unfolding sheetOf carOf aboardOf waitingOf
 optional-ids s c e =
     let r = whole s c e .records in
     let w : (i : ℕ) → i < c .waits → _ = λ i l.
-    waiting-exact s _ (from s (waitsFrom c + 248 * i)) (body-at (r .waits i l) (waitsFrom c + 248 * i) (omega arith)) in
+    waiting-exact s _ (from s (waitingAt c i)) (body-at (r .waits i l) (waitingAt c i) (omega arith)) in
     record {
-      target = λ i l. target-exact s _ (from s (carsFrom c + 737 * i)) (body-at (r .cars i l) (carsFrom c + 737 * i) (omega arith));
-      destination = λ i l. aboard-exact s _ (from s (aboardsFrom c + 87 * i)) (body-at (r .aboards i l) (aboardsFrom c + 87 * i) (omega arith));
+      target = λ i l. target-exact s _ (from s (carAt c i)) (body-at (r .cars i l) (carAt c i) (omega arith));
+      destination = λ i l. aboard-exact s _ (from s (aboardAt c i)) (body-at (r .aboards i l) (aboardAt c i) (omega arith));
       line = λ i l. w i l .0;
       bound-for = λ i l. w i l .1;
     }

@@ -10,7 +10,7 @@ use Rattle.bits.specs.Field.{fieldAt, field-ext}
 use Rattle.components.specs.Codes.{kindOf}
 use Rattle.layout.specs.declared.Counts.{Counts}
 use Rattle.layout.specs.declared.Reading.the-variants.{Accepted}
-use Rattle.layout.specs.Offsets.{none, next, endOf, stopsFrom, linesFrom, carsFrom, aboardsFrom, waitsFrom, demandsFrom}
+use Rattle.layout.specs.Offsets.{stopAt, lineAt, carAt, aboardAt, waitingAt, demandAt, none, next, endOf, stopsFrom, linesFrom, carsFrom, aboardsFrom, waitsFrom, demandsFrom}
 use Rattle.layout.specs.Records.{from, policyOf, stopOf, lineOf, carOf, aboardOf, waitingOf, demandOf, sheetOf}
 use Rattle.layout.specs.Refusals.{kindAt}
 use Rattle.layout.specs.Verdict.{recordsVerdict, verdict}
@@ -73,17 +73,17 @@ module _ (s t : List ℕ) (agree : AgreeButLimit s t) where
       λ i. record {
         policy = policy-same i;
         stops = c .stops;
-        stop = λ j. stopOf (past (stopsFrom c + 118 * j) (omega arith) i);
+        stop = λ j. stopOf (past (stopAt c j) (omega arith) i);
         lines = c .lines;
-        line = λ j. lineOf (past (linesFrom c + 118 * j) (omega arith) i);
+        line = λ j. lineOf (past (lineAt c j) (omega arith) i);
         cars = c .cars;
-        car = λ j. carOf (past (carsFrom c + 737 * j) (omega arith) i);
+        car = λ j. carOf (past (carAt c j) (omega arith) i);
         aboards = c .aboards;
-        aboard = λ j. aboardOf (past (aboardsFrom c + 87 * j) (omega arith) i);
+        aboard = λ j. aboardOf (past (aboardAt c j) (omega arith) i);
         waits = c .waits;
-        waiting = λ j. waitingOf (past (waitsFrom c + 248 * j) (omega arith) i);
+        waiting = λ j. waitingOf (past (waitingAt c j) (omega arith) i);
         demands = c .demands;
-        demand = λ j. demandOf (past (demandsFrom c + 71 * j) (omega arith) i);
+        demand = λ j. demandOf (past (demandAt c j) (omega arith) i);
       }
 
   pub sheet-same : (c d : Counts) → verdict s ≡ Accepted c → verdict t ≡ Accepted d → sheetOf s c ≡ sheetOf t d

@@ -19,6 +19,9 @@ ghost use Rattle.rows.specs.Gathered.{gatheredOf};
 ghost use Rattle.cells.specs.Survey.{Survey, idleMask};
 use components::Car;
 use layout::Counts;
+use layout::aboard;
+use layout::stop;
+use layout::waiting;
 use manifest::Waiters;
 
 // The ids and the positions of the stops.
@@ -29,8 +32,8 @@ pub fn fill_stops(s: &[u8], c: Counts, ids: &mut [u32], xs: &mut [f64])
 {
     let n = c.stops as usize;
     let at = c.stops_from();
-    columns::fill32(s, at, 118, 22, n, ids);
-    columns::fill_doubles(s, at, 118, 54, n, xs);
+    columns::fill32(s, at, stop::BITS, stop::ID, n, ids);
+    columns::fill_doubles(s, at, stop::BITS, stop::POSITION, n, xs);
 }
 
 // The cars and the destinations of those aboard.
@@ -41,8 +44,8 @@ pub fn fill_aboard(s: &[u8], c: Counts, acar: &mut [u32], adest: &mut [u32])
 {
     let n = c.aboards as usize;
     let at = c.aboards_from();
-    columns::fill32(s, at, 87, 22, n, acar);
-    columns::fill32(s, at, 87, 55, n, adest);
+    columns::fill32(s, at, aboard::BITS, aboard::CAR, n, acar);
+    columns::fill32(s, at, aboard::BITS, aboard::DESTINATION, n, adest);
 }
 
 // The stops, destinations, weights and wait ticks of those who wait.
@@ -62,10 +65,10 @@ fn fill_waits(
 {
     let n = c.waits as usize;
     let at = c.waits_from();
-    columns::fill32(s, at, 248, 22, n, wstop);
-    columns::fill32(s, at, 248, 88, n, wdest);
-    columns::fill_doubles(s, at, 248, 120, n, wweight);
-    columns::fill64(s, at, 248, 184, n, wwait);
+    columns::fill32(s, at, waiting::BITS, waiting::STOP, n, wstop);
+    columns::fill32(s, at, waiting::BITS, waiting::DESTINATION, n, wdest);
+    columns::fill_doubles(s, at, waiting::BITS, waiting::WEIGHT, n, wweight);
+    columns::fill64(s, at, waiting::BITS, waiting::WAIT, n, wwait);
 }
 
 // What waits at each stop.

@@ -61,28 +61,51 @@ next c Demand =
     record { policies = c .policies; stops = c .stops; lines = c .lines; cars = c .cars; aboards = c .aboards; waits = c .waits; demands = c .demands + 1 }
 next c Unknown = c
 
--- where the records of each kind start, after the head's 24 bits; a record has 22 bits before its body
+-- a record's length: "kind 6 bits, body length in bits 16 bits, body"
+abbrev pub recordLength : Kind → ℕ
+recordLength k = 22 + bodyLength k
+
+-- where the records of each kind start, after the head's 24 bits
 abbrev pub stopsFrom : Counts → ℕ
-stopsFrom c = 24 + 490 * c .policies
+stopsFrom c = 24 + recordLength Policy * c .policies
 
 abbrev pub linesFrom : Counts → ℕ
-linesFrom c = stopsFrom c + 118 * c .stops
+linesFrom c = stopsFrom c + recordLength Stop * c .stops
 
 abbrev pub carsFrom : Counts → ℕ
-carsFrom c = linesFrom c + 118 * c .lines
+carsFrom c = linesFrom c + recordLength Line * c .lines
 
 abbrev pub aboardsFrom : Counts → ℕ
-aboardsFrom c = carsFrom c + 737 * c .cars
+aboardsFrom c = carsFrom c + recordLength Car * c .cars
 
 abbrev pub waitsFrom : Counts → ℕ
-waitsFrom c = aboardsFrom c + 87 * c .aboards
+waitsFrom c = aboardsFrom c + recordLength Aboard * c .aboards
 
 abbrev pub demandsFrom : Counts → ℕ
-demandsFrom c = waitsFrom c + 248 * c .waits
+demandsFrom c = waitsFrom c + recordLength Waiting * c .waits
+
+-- where the record with index i of each kind starts
+abbrev pub stopAt : Counts → ℕ → ℕ
+stopAt c i = stopsFrom c + recordLength Stop * i
+
+abbrev pub lineAt : Counts → ℕ → ℕ
+lineAt c i = linesFrom c + recordLength Line * i
+
+abbrev pub carAt : Counts → ℕ → ℕ
+carAt c i = carsFrom c + recordLength Car * i
+
+abbrev pub aboardAt : Counts → ℕ → ℕ
+aboardAt c i = aboardsFrom c + recordLength Aboard * i
+
+abbrev pub waitingAt : Counts → ℕ → ℕ
+waitingAt c i = waitsFrom c + recordLength Waiting * i
+
+abbrev pub demandAt : Counts → ℕ → ℕ
+demandAt c i = demandsFrom c + recordLength Demand * i
 
 -- where the next record starts
 abbrev pub endOf : Counts → ℕ
-endOf c = demandsFrom c + 71 * c .demands
+endOf c = demandsFrom c + recordLength Demand * c .demands
 
 -- the code of the last record's kind, 0 before the first
 unfoldable pub lastKind : Counts → ℕ

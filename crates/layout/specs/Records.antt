@@ -19,7 +19,8 @@ use Rattle.components.specs.declared.Threshold.the-variants as threshold
 use Rattle.components.specs.Codes.{strategyOf, trafficOf, phaseOf, directionOf, modeOf}
 use Rattle.components.specs.Sheet.{Sheet}
 use Rattle.layout.specs.declared.Counts.{Counts}
-use Rattle.layout.specs.Offsets.{stopsFrom, linesFrom, carsFrom, aboardsFrom, waitsFrom, demandsFrom}
+use Rattle.layout.specs.Table.{Field, policyStrategy, policyRate, policyTraffic, policyW0, policyW1, policyW2, policyW3, policyW4, policyW5, stopId, stopPosition, lineId, lineServes, carId, carLine, carPhase, carStop, carTarget, carListed, carUp, carDown, carSweep, carMode, carPosition, carSpeed, carCapacity, carLoad, carHasBypassUp, carBypassUp, carHasBypassDown, carBypassDown, carTransition, carDwell, carRestricted, carCalls, aboardCar, aboardDestination, waitingStop, waitingLine, waitingDestination, waitingWeight, waitingWait, demandStop, demandRiding, demandCall}
+use Rattle.layout.specs.Offsets.{stopAt, lineAt, carAt, aboardAt, waitingAt, demandAt}
 
 -- what stands at an offset of a record, with a width
 abbrev pub Fields : Type 0
@@ -29,75 +30,79 @@ Fields = ℕ → ℕ → ℕ
 abbrev pub from : List ℕ → ℕ → Fields
 from s at o w = fieldAt s (at + o) w
 
-abbrev pub flag : Fields → ℕ → Bool
-flag f o = eqb (f o 1) 1
+abbrev pub read : Fields → Field → ℕ
+read f x = f (x .start) (x .width)
 
-abbrev pub double : Fields → ℕ → Float
-double f o = ofBits binary64 (f o 64)
+abbrev pub flag : Fields → Field → Bool
+flag f x = eqb (read f x) 1
 
-abbrev pub optional : Fields → ℕ → Threshold
-optional f o = cond (flag f o) (threshold.At (double f (o + 1))) threshold.Absent
+abbrev pub double : Fields → Field → Float
+double f x = ofBits binary64 (read f x)
+
+-- a present bit, and the double
+abbrev pub optional : Fields → Field → Field → Threshold
+optional f present x = cond (flag f present) (threshold.At (double f x)) threshold.Absent
 
 -- "1 policy: strategy 2; limit 16; tick rate; traffic 2; six weights". The limit stands apart: the sheet is without it
 unfoldable pub policyOf : Fields → Policy
 policyOf f =
     record {
-      strategy = strategyOf (f 22 2);
-      rate = double f 40;
-      traffic = trafficOf (f 104 2);
-      w0 = double f 106;
-      w1 = double f 170;
-      w2 = double f 234;
-      w3 = double f 298;
-      w4 = double f 362;
-      w5 = double f 426;
+      strategy = strategyOf (read f policyStrategy);
+      rate = double f policyRate;
+      traffic = trafficOf (read f policyTraffic);
+      w0 = double f policyW0;
+      w1 = double f policyW1;
+      w2 = double f policyW2;
+      w3 = double f policyW3;
+      w4 = double f policyW4;
+      w5 = double f policyW5;
     }
 
 -- "2 stop: id, rising; position"
 unfoldable pub stopOf : Fields → Stop
-stopOf f = record { id = f 22 32; position = double f 54 }
+stopOf f = record { id = read f stopId; position = double f stopPosition }
 
 -- "3 line: id; stops served, mask 64"
 unfoldable pub lineOf : Fields → Line
-lineOf f = record { id = f 22 32; serves = f 54 64 }
+lineOf f = record { id = read f lineId; serves = read f lineServes }
 
 -- "4 car: id; line; phase 3; stop of phases 1 and 2, 32; opt target stop 32; five single bits: idle-listed, going up, going down, sweep, mode;
 -- position; max speed; capacity; load; opt up threshold; opt down threshold; transition ticks 32; open ticks 32; restricted mask 64; car-call mask 64"
 unfoldable pub carOf : Fields → Car
 carOf f =
     record {
-      id = f 22 32;
-      line = f 54 32;
-      phase = phaseOf (f 86 3) (f 89 32);
-      target = f 122 32;
-      listed = flag f 154;
-      up = flag f 155;
-      down = flag f 156;
-      direction = directionOf (flag f 157);
-      mode = modeOf (flag f 158);
-      position = double f 159;
-      speed = double f 223;
-      capacity = double f 287;
-      load = double f 351;
-      bypassup = optional f 415;
-      bypassdown = optional f 480;
-      transition = f 545 32;
-      dwell = f 577 32;
-      restricted = f 609 64;
-      calls = f 673 64;
+      id = read f carId;
+      line = read f carLine;
+      phase = phaseOf (read f carPhase) (read f carStop);
+      target = read f carTarget;
+      listed = flag f carListed;
+      up = flag f carUp;
+      down = flag f carDown;
+      direction = directionOf (flag f carSweep);
+      mode = modeOf (flag f carMode);
+      position = double f carPosition;
+      speed = double f carSpeed;
+      capacity = double f carCapacity;
+      load = double f carLoad;
+      bypassup = optional f carHasBypassUp carBypassUp;
+      bypassdown = optional f carHasBypassDown carBypassDown;
+      transition = read f carTransition;
+      dwell = read f carDwell;
+      restricted = read f carRestricted;
+      calls = read f carCalls;
     }
 
 -- "5 aboard: car; opt destination 32"
 unfoldable pub aboardOf : Fields → Aboard
-aboardOf f = record { car = f 22 32; destination = f 55 32 }
+aboardOf f = record { car = read f aboardCar; destination = read f aboardDestination }
 
 -- "6 waiting: stop; opt required line 32; opt destination 32; weight; wait ticks 64"
 unfoldable pub waitingOf : Fields → Waiting
-waitingOf f = record { stop = f 22 32; line = f 55 32; destination = f 88 32; weight = double f 120; wait = f 184 64 }
+waitingOf f = record { stop = read f waitingStop; line = read f waitingLine; destination = read f waitingDestination; weight = double f waitingWeight; wait = read f waitingWait }
 
 -- "7 demand: stop; riding count 16; 1 if a hall call there has no pending rider"
 unfoldable pub demandOf : Fields → Demand
-demandOf f = record { stop = f 22 32; riding = f 54 16; call = flag f 70 }
+demandOf f = record { stop = read f demandStop; riding = read f demandRiding; call = flag f demandCall }
 
 -- the sheet that bytes with these counts hold
 unfoldable pub sheetOf : List ℕ → Counts → Sheet
@@ -105,17 +110,17 @@ sheetOf s c =
     record {
       policy = policyOf (from s 24);
       stops = c .stops;
-      stop = λ i. stopOf (from s (stopsFrom c + 118 * i));
+      stop = λ i. stopOf (from s (stopAt c i));
       lines = c .lines;
-      line = λ i. lineOf (from s (linesFrom c + 118 * i));
+      line = λ i. lineOf (from s (lineAt c i));
       cars = c .cars;
-      car = λ i. carOf (from s (carsFrom c + 737 * i));
+      car = λ i. carOf (from s (carAt c i));
       aboards = c .aboards;
-      aboard = λ i. aboardOf (from s (aboardsFrom c + 87 * i));
+      aboard = λ i. aboardOf (from s (aboardAt c i));
       waits = c .waits;
-      waiting = λ i. waitingOf (from s (waitsFrom c + 248 * i));
+      waiting = λ i. waitingOf (from s (waitingAt c i));
       demands = c .demands;
-      demand = λ i. demandOf (from s (demandsFrom c + 71 * i));
+      demand = λ i. demandOf (from s (demandAt c i));
     }
 
 -- the candidate limit: bits 48 to 63, so bytes 6 and 7

@@ -22,16 +22,17 @@ use Rattle.components.specs.declared.Phase.the-variants as phase
 use Rattle.components.specs.Codes.{kindOf, strategyOf, phaseOf}
 use Rattle.components.specs.Cars.{isMoving}
 use Rattle.layout.specs.declared.Counts.{Counts}
-use Rattle.layout.specs.Offsets.{bodyLength, isFull, lastKind, stopsFrom, linesFrom, carsFrom, demandsFrom, endOf}
-use Rattle.layout.specs.Records.{Fields, from, flag, double}
+use Rattle.layout.specs.Offsets.{bodyLength, recordLength, isFull, lastKind, stopsFrom, linesFrom, carsFrom, demandsFrom, endOf}
+use Rattle.layout.specs.Table.{Field, recordKind, recordStates, policyStrategy, policyLimit, policyRate, policyW0, policyW1, policyW2, policyW3, policyW4, policyW5, stopId, stopPosition, lineId, lineServes, carId, carLine, carPhase, carStop, carHasTarget, carTarget, carPosition, carSpeed, carCapacity, carLoad, carHasBypassUp, carBypassUp, carHasBypassDown, carBypassDown, carTransition, carDwell, carRestricted, carCalls, aboardCar, aboardHasDestination, aboardDestination, waitingStop, waitingHasLine, waitingLine, waitingHasDestination, waitingDestination, waitingWeight, waitingWait, demandStop}
+use Rattle.layout.specs.Records.{Fields, from, read, flag, double}
 
 -- ---- the record's head
 
 abbrev pub kindAt : List ℕ → Counts → ℕ
-kindAt s c = from s (endOf c) 0 6
+kindAt s c = read (from s (endOf c)) recordKind
 
 abbrev pub lengthAt : List ℕ → Counts → ℕ
-lengthAt s c = from s (endOf c) 6 16
+lengthAt s c = read (from s (endOf c)) recordStates
 
 -- bit e lies past the end
 abbrev pub pastEnd : List ℕ → ℕ → Bool
@@ -69,91 +70,91 @@ unfoldable pub seen : List ℕ → ℕ → ℕ → ℕ → ℕ → Bool
 seen s base len n id = any (λ i. eqb (fieldAt s (base + len * i + 22) 32) id) n
 
 abbrev pub hasStop : List ℕ → Counts → ℕ → Bool
-hasStop s c id = seen s (stopsFrom c) 118 (c .stops) id
+hasStop s c id = seen s (stopsFrom c) (recordLength Stop) (c .stops) id
 
 abbrev pub hasLine : List ℕ → Counts → ℕ → Bool
-hasLine s c id = seen s (linesFrom c) 118 (c .lines) id
+hasLine s c id = seen s (linesFrom c) (recordLength Line) (c .lines) id
 
 abbrev pub hasCar : List ℕ → Counts → ℕ → Bool
-hasCar s c id = seen s (carsFrom c) 737 (c .cars) id
+hasCar s c id = seen s (carsFrom c) (recordLength Car) (c .cars) id
 
 abbrev pub hasDemand : List ℕ → Counts → ℕ → Bool
-hasDemand s c id = seen s (demandsFrom c) 71 (c .demands) id
+hasDemand s c id = seen s (demandsFrom c) (recordLength Demand) (c .demands) id
 
 -- the id of the last stop record, 0 before the first
 unfoldable pub lastStop : List ℕ → Counts → ℕ
-lastStop s c = cond (eqb (c .stops) 0) 0 (fieldAt s (stopsFrom c + 118 * (c .stops - 1) + 22) 32)
+lastStop s c = cond (eqb (c .stops) 0) 0 (fieldAt s (stopsFrom c + recordLength Stop * (c .stops - 1) + 22) 32)
 
--- a field of w bits that is absent has a one bit
-abbrev pub absentSet : Fields → ℕ → ℕ → Bool
-absentSet f o w = not (flag f o) && not (eqb (f (o + 1) w) 0)
+-- a field that is absent has a one bit
+abbrev pub absentSet : Fields → Field → Field → Bool
+absentSet f present x = not (flag f present) && not (eqb (read f x) 0)
 
 -- an id that is present is 0
-abbrev pub presentZero : Fields → ℕ → Bool
-presentZero f o = flag f o && eqb (f (o + 1) 32) 0
+abbrev pub presentZero : Fields → Field → Field → Bool
+presentZero f present x = flag f present && eqb (read f x) 0
 
 -- ---- kind 1, policy
 
 -- "8, strategy 3, .. or a one bit in an absent or unused field"; "Unused are ETD's sixth weight, SCAN's six"
 abbrev pub unusedWeights : Strategy → Fields → Bool
-unusedWeights Etd f = not (eqb (f 426 64) 0)
+unusedWeights Etd f = not (eqb (read f policyW5) 0)
 unusedWeights Rsr f = false
 unusedWeights Scan f =
-    not (eqb (f 106 64) 0)
-    || (not (eqb (f 170 64) 0)
-    || (not (eqb (f 234 64) 0)
-    || (not (eqb (f 298 64) 0)
-    || (not (eqb (f 362 64) 0)
-    || not (eqb (f 426 64) 0)))))
+    not (eqb (read f policyW0) 0)
+    || (not (eqb (read f policyW1) 0)
+    || (not (eqb (read f policyW2) 0)
+    || (not (eqb (read f policyW3) 0)
+    || (not (eqb (read f policyW4) 0)
+    || not (eqb (read f policyW5) 0)))))
 unusedWeights strategy.Unknown f = true
 
 unfoldable pub refusal8Policy : Fields → Bool
-refusal8Policy f = unusedWeights (strategyOf (f 22 2)) f
+refusal8Policy f = unusedWeights (strategyOf (read f policyStrategy)) f
 
 -- "11, a double outside: .. the six weights 0 to 1,000,000,000; .. tick rate 1 to 1,000,000"
 unfoldable pub refusal11Policy : Fields → Bool
 refusal11Policy f =
-    not (isTickRate (double f 40)
-    && (isMass (double f 106)
-    && (isMass (double f 170)
-    && (isMass (double f 234)
-    && (isMass (double f 298)
-    && (isMass (double f 362)
-    && isMass (double f 426)))))))
+    not (isTickRate (double f policyRate)
+    && (isMass (double f policyW0)
+    && (isMass (double f policyW1)
+    && (isMass (double f policyW2)
+    && (isMass (double f policyW3)
+    && (isMass (double f policyW4)
+    && isMass (double f policyW5)))))))
 
 -- "12, limit 0"
 unfoldable pub refusal12 : Fields → Bool
-refusal12 f = eqb (f 24 16) 0
+refusal12 f = eqb (read f policyLimit) 0
 
 -- "15, RSR with a load weight above 0"
 abbrev pub loadWeighed : Strategy → Fields → Bool
 loadWeighed Etd f = false
-loadWeighed Rsr f = lt zero (double f 298)
+loadWeighed Rsr f = lt zero (double f policyW3)
 loadWeighed Scan f = false
 loadWeighed strategy.Unknown f = false
 
 unfoldable pub refusal15 : Fields → Bool
-refusal15 f = loadWeighed (strategyOf (f 22 2)) f
+refusal15 f = loadWeighed (strategyOf (read f policyStrategy)) f
 
 -- ---- kind 2, stop
 
 -- "9, id 0 in any id field that is present and used, a stop id not above the last"
 unfoldable pub refusal9Stop : List ℕ → Counts → Fields → Bool
-refusal9Stop s c f = eqb (f 22 32) 0 || leb (f 22 32) (lastStop s c)
+refusal9Stop s c f = eqb (read f stopId) 0 || leb (read f stopId) (lastStop s c)
 
 -- "11, .. positions -1,000,000 to 1,000,000"
 unfoldable pub refusal11Stop : Fields → Bool
-refusal11Stop f = not (isPosition (double f 54))
+refusal11Stop f = not (isPosition (double f stopPosition))
 
 -- ---- kind 3, line
 
 -- "9, id 0 .., a line id of an earlier line"
 unfoldable pub refusal9Line : List ℕ → Counts → Fields → Bool
-refusal9Line s c f = eqb (f 22 32) 0 || hasLine s c (f 22 32)
+refusal9Line s c f = eqb (read f lineId) 0 || hasLine s c (read f lineId)
 
 -- "10, .. a mask bit past the stops"
 unfoldable pub refusal10Line : Counts → Fields → Bool
-refusal10Line c f = pastStops (f 54 64) (c .stops)
+refusal10Line c f = pastStops (read f lineServes) (c .stops)
 
 -- ---- kind 4, car
 
@@ -169,77 +170,77 @@ unusedStop Stopped set = set
 unusedStop phase.Unknown set = true
 
 abbrev pub phaseAt : Fields → Phase
-phaseAt f = phaseOf (f 86 3) (f 89 32)
+phaseAt f = phaseOf (read f carPhase) (read f carStop)
 
 -- "8, .. phase 7, or a one bit in an absent or unused field"
 unfoldable pub refusal8Car : Fields → Bool
-refusal8Car f = unusedStop (phaseAt f) (not (eqb (f 89 32) 0)) || (absentSet f 121 32 || (absentSet f 415 64 || absentSet f 480 64))
+refusal8Car f = unusedStop (phaseAt f) (not (eqb (read f carStop) 0)) || (absentSet f carHasTarget carTarget || (absentSet f carHasBypassUp carBypassUp || absentSet f carHasBypassDown carBypassDown))
 
 -- "9, id 0 in any id field that is present and used, .. a car id of an earlier car"
 unfoldable pub refusal9Car : List ℕ → Counts → Fields → Bool
 refusal9Car s c f =
-    eqb (f 22 32) 0
-    || (eqb (f 54 32) 0
-    || ((isMoving (phaseAt f) && eqb (f 89 32) 0)
-    || (presentZero f 121
-    || hasCar s c (f 22 32))))
+    eqb (read f carId) 0
+    || (eqb (read f carLine) 0
+    || ((isMoving (phaseAt f) && eqb (read f carStop) 0)
+    || (presentZero f carHasTarget carTarget
+    || hasCar s c (read f carId))))
 
 -- "10, no record for a car's line, .. a mask bit past the stops"
 unfoldable pub refusal10Car : List ℕ → Counts → Fields → Bool
-refusal10Car s c f = not (hasLine s c (f 54 32)) || (pastStops (f 609 64) (c .stops) || pastStops (f 673 64) (c .stops))
+refusal10Car s c f = not (hasLine s c (read f carLine)) || (pastStops (read f carRestricted) (c .stops) || pastStops (read f carCalls) (c .stops))
 
 -- "11, a double outside: positions ..; speed 0, or 1/1,024 to 1,000; capacity, load .. 0 to 1,000,000,000; thresholds 0 to 1,000"; an absent
 -- threshold is zero by then
 unfoldable pub refusal11Car : Fields → Bool
 refusal11Car f =
-    not (isPosition (double f 159)
-    && (isSpeed (double f 223)
-    && (isMass (double f 287)
-    && (isMass (double f 351)
-    && (isThreshold (double f 416)
-    && isThreshold (double f 481))))))
+    not (isPosition (double f carPosition)
+    && (isSpeed (double f carSpeed)
+    && (isMass (double f carCapacity)
+    && (isMass (double f carLoad)
+    && (isThreshold (double f carBypassUp)
+    && isThreshold (double f carBypassDown))))))
 
 -- "13, twice the transition ticks plus open ticks above 4,294,967,295"
 unfoldable pub refusal13 : Fields → Bool
-refusal13 f = ltb 4294967295 (2 * f 545 32 + f 577 32)
+refusal13 f = ltb 4294967295 (2 * read f carTransition + read f carDwell)
 
 -- ---- kind 5, aboard
 
 unfoldable pub refusal8Aboard : Fields → Bool
-refusal8Aboard f = absentSet f 54 32
+refusal8Aboard f = absentSet f aboardHasDestination aboardDestination
 
 unfoldable pub refusal9Aboard : Fields → Bool
-refusal9Aboard f = eqb (f 22 32) 0 || presentZero f 54
+refusal9Aboard f = eqb (read f aboardCar) 0 || presentZero f aboardHasDestination aboardDestination
 
 -- "10, no record for .. an aboard rider's car"
 unfoldable pub refusal10Aboard : List ℕ → Counts → Fields → Bool
-refusal10Aboard s c f = not (hasCar s c (f 22 32))
+refusal10Aboard s c f = not (hasCar s c (read f aboardCar))
 
 -- ---- kind 6, waiting
 
 unfoldable pub refusal8Waiting : Fields → Bool
-refusal8Waiting f = absentSet f 54 32 || absentSet f 87 32
+refusal8Waiting f = absentSet f waitingHasLine waitingLine || absentSet f waitingHasDestination waitingDestination
 
 unfoldable pub refusal9Waiting : Fields → Bool
-refusal9Waiting f = eqb (f 22 32) 0 || (presentZero f 54 || presentZero f 87)
+refusal9Waiting f = eqb (read f waitingStop) 0 || (presentZero f waitingHasLine waitingLine || presentZero f waitingHasDestination waitingDestination)
 
 -- "10, no record for .. the stop of kinds 6 and 7"
 unfoldable pub refusal10Waiting : List ℕ → Counts → Fields → Bool
-refusal10Waiting s c f = not (hasStop s c (f 22 32))
+refusal10Waiting s c f = not (hasStop s c (read f waitingStop))
 
 -- "11, .. rider weight .. 0 to 1,000,000,000"
 unfoldable pub refusal11Waiting : Fields → Bool
-refusal11Waiting f = not (isMass (double f 120))
+refusal11Waiting f = not (isMass (double f waitingWeight))
 
 -- "14, wait ticks above 9,007,199,254,740,992"
 unfoldable pub refusal14 : Fields → Bool
-refusal14 f = ltb 9007199254740992 (f 184 64)
+refusal14 f = ltb 9007199254740992 (read f waitingWait)
 
 -- ---- kind 7, demand
 
 -- "9, id 0 .., a second kind 7 for a stop"
 unfoldable pub refusal9Demand : List ℕ → Counts → Fields → Bool
-refusal9Demand s c f = eqb (f 22 32) 0 || hasDemand s c (f 22 32)
+refusal9Demand s c f = eqb (read f demandStop) 0 || hasDemand s c (read f demandStop)
 
 unfoldable pub refusal10Demand : List ℕ → Counts → Fields → Bool
-refusal10Demand s c f = not (hasStop s c (f 22 32))
+refusal10Demand s c f = not (hasStop s c (read f demandStop))

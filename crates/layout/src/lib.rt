@@ -8,6 +8,15 @@ ghost use Rattle.layout.specs.Offsets.{Small, bodyLength, isFull, next, 
 ghost use Rattle.layout.specs.Refusals.{refusal6};
 use components::Kind;
 
+// Document 01's table of records, a module for each kind.
+pub mod aboard;
+pub mod car;
+pub mod demand;
+pub mod line;
+pub mod policy;
+pub mod stop;
+pub mod waiting;
+
 // How many records of each kind.
 pub struct Counts {
     pub policies: u32,
@@ -47,42 +56,45 @@ impl Counts {
         requires { ⌜ Small self ⌝ }
         ensures { λ r. ⌜ r ≡ stopsFrom self ⌝ }
     {
-        24 + 490 * self.policies
+        24 + policy::BITS * self.policies
     }
 
     pub fn lines_from(self) -> u32
         requires { ⌜ Small self ⌝ }
         ensures { λ r. ⌜ r ≡ linesFrom self ⌝ }
     {
-        24 + 490 * self.policies + 118 * self.stops
+        24 + policy::BITS * self.policies + stop::BITS * self.stops
     }
 
     pub fn cars_from(self) -> u32
         requires { ⌜ Small self ⌝ }
         ensures { λ r. ⌜ r ≡ carsFrom self ⌝ }
     {
-        24 + 490 * self.policies + 118 * self.stops + 118 * self.lines
+        24 + policy::BITS * self.policies + stop::BITS * self.stops + line::BITS * self.lines
     }
 
     pub fn aboards_from(self) -> u32
         requires { ⌜ Small self ⌝ }
         ensures { λ r. ⌜ r ≡ aboardsFrom self ⌝ }
     {
-        self.cars_from() + 737 * self.cars
+        self.cars_from() + car::BITS * self.cars
     }
 
     pub fn waits_from(self) -> u32
         requires { ⌜ Small self ⌝ }
         ensures { λ r. ⌜ r ≡ waitsFrom self ⌝ }
     {
-        self.cars_from() + 737 * self.cars + 87 * self.aboards
+        self.cars_from() + car::BITS * self.cars + aboard::BITS * self.aboards
     }
 
     pub fn demands_from(self) -> u32
         requires { ⌜ Small self ⌝ }
         ensures { λ r. ⌜ r ≡ demandsFrom self ⌝ }
     {
-        self.cars_from() + 737 * self.cars + 87 * self.aboards + 248 * self.waits
+        self.cars_from()
+            + car::BITS * self.cars
+            + aboard::BITS * self.aboards
+            + waiting::BITS * self.waits
     }
 
     // Where the next record starts.
@@ -90,7 +102,7 @@ impl Counts {
         requires { ⌜ Small self ⌝ }
         ensures { λ r. ⌜ r ≡ endOf self ⌝ }
     {
-        self.demands_from() + 71 * self.demands
+        self.demands_from() + demand::BITS * self.demands
     }
 
     // The code of the last record's kind, 0 before the first.

@@ -18,6 +18,10 @@ ghost use Rattle.laws.specs.Tables.{tab};
 ghost use Rattle.pending.specs.Masks.{stopMask, HoldsNames, boundId, Boarded};
 use components::Line;
 use layout::Counts;
+use layout::aboard;
+use layout::car;
+use layout::demand;
+use layout::waiting;
 
 // The stops of a line, if all are wanted or it has the id.
 fn served_by(line: Line, every: bool, id: u32) -> u64
@@ -52,7 +56,16 @@ pub fn call_stops<'a>(s: &'a [u8], c: Counts, names: &'a [u32]) -> u64
 {
     let mut ids = [0u32; 64];
     let n = c.demands as usize;
-    columns::fill_guarded(s, c.demands_from(), 71, 22, 70, 1, n, &mut ids);
+    columns::fill_guarded(
+        s,
+        c.demands_from(),
+        demand::BITS,
+        demand::STOP,
+        demand::CALL,
+        1,
+        n,
+        &mut ids,
+    );
     columns::named_stops(&ids, n, names, c.stops as usize)
 }
 
@@ -63,7 +76,16 @@ fn ridden_stops<'a>(s: &'a [u8], c: Counts, names: &'a [u32]) -> u64
 {
     let mut ids = [0u32; 64];
     let n = c.demands as usize;
-    columns::fill_guarded(s, c.demands_from(), 71, 22, 54, 16, n, &mut ids);
+    columns::fill_guarded(
+        s,
+        c.demands_from(),
+        demand::BITS,
+        demand::STOP,
+        demand::RIDING,
+        16,
+        n,
+        &mut ids,
+    );
     columns::named_stops(&ids, n, names, c.stops as usize)
 }
 
@@ -74,7 +96,7 @@ fn waited_stops<'a>(s: &'a [u8], c: Counts, names: &'a [u32]) -> u64
 {
     let mut ids = [0u32; 512];
     let n = c.waits as usize;
-    columns::fill32(s, c.waits_from(), 248, 22, n, &mut ids);
+    columns::fill32(s, c.waits_from(), waiting::BITS, waiting::STOP, n, &mut ids);
     columns::named_stops(&ids, n, names, c.stops as usize)
 }
 
@@ -95,8 +117,8 @@ fn bound_at<'a>(s: &'a [u8], at: u32, idle: &'a [u32], n: usize) -> u32
     requires { ⌜ n ≤ length (now idle) ⌝ }
     ensures { λ r. ⌜ r ≡ boundId (now (s .entry)) (now (idle .entry)) n at ⌝ }
 {
-    if columns::contains(idle, n, bits::field32(s, at, 22)) {
-        bits::field32(s, at, 55)
+    if columns::contains(idle, n, bits::field32(s, at, aboard::CAR)) {
+        bits::field32(s, at, aboard::DESTINATION)
     } else {
         0
     }
@@ -108,7 +130,7 @@ fn fill_bound<'a>(s: &'a [u8], base: u32, k: usize, idle: &'a [u32], n: usize, o
 {
     let mut a: usize = 0;
     while a < k {
-        out[a] = bound_at(s, base + 87 * (a as u32), idle, n);
+        out[a] = bound_at(s, base + aboard::BITS * (a as u32), idle, n);
         a += 1;
     }
 }
@@ -122,7 +144,16 @@ fn bound_stops<'a>(s: &'a [u8], c: Counts, names: &'a [u32]) -> u64
     let mut ids = [0u32; 512];
     let n = c.cars as usize;
     let k = c.aboards as usize;
-    columns::fill_guarded(s, c.cars_from(), 737, 22, 154, 1, n, &mut idle);
+    columns::fill_guarded(
+        s,
+        c.cars_from(),
+        car::BITS,
+        car::ID,
+        car::LISTED,
+        1,
+        n,
+        &mut idle,
+    );
     fill_bound(s, c.aboards_from(), k, &idle, n, &mut ids);
     columns::named_stops(&ids, k, names, c.stops as usize)
 }

@@ -4,6 +4,7 @@ ghost use mathlib.Core.Bool.{cond};
 ghost use Prim.Native.Nat.{_+_};
 ghost use lib.Ieee.{ofBits, binary64};
 ghost use Rattle.bits.specs.Field.{fieldAt, flagAt};
+ghost use Rattle.layout.specs.Table.{field};
 ghost use Rattle.layout.specs.Records.{from, double, optional, policyOf, stopOf, lineOf, carOf, aboardOf, waitingOf, demandOf};
 use components::Aboard;
 use components::Car;
@@ -18,17 +19,24 @@ use components::Strategy;
 use components::Threshold;
 use components::Traffic;
 use components::Waiting;
+use layout::aboard;
+use layout::car;
+use layout::demand;
+use layout::line;
+use layout::policy;
+use layout::stop;
+use layout::waiting;
 
 // The double in the 64 bits at an offset.
 pub fn double_at(s: &[u8], at: u32, off: u32) -> f64
-    ensures { λ r. ⌜ r ≡ double (from (now (s .entry)) at) off ⌝ }
+    ensures { λ r. ⌜ r ≡ double (from (now (s .entry)) at) (field off 64) ⌝ }
 {
     fp::double(bits::field(s, at, off, 64))
 }
 
 // An optional double: its present bit, and where the double stands.
 fn threshold_at(s: &[u8], at: u32, present: u32, value: u32) -> Threshold
-    ensures { λ r. ⌜ r ≡ cond (flagAt (now (s .entry)) (at + present)) (Threshold.At (double (from (now (s .entry)) at) value)) Threshold.Absent ⌝ }
+    ensures { λ r. ⌜ r ≡ cond (flagAt (now (s .entry)) (at + present)) (Threshold.At (double (from (now (s .entry)) at) (field value 64))) Threshold.Absent ⌝ }
 {
     if bits::flag(s, at, present) {
         Threshold::At(double_at(s, at, value))
@@ -41,15 +49,15 @@ pub fn policy_at(s: &[u8], at: u32) -> Policy
     ensures { λ r. ⌜ r ≡ policyOf (from (now (s .entry)) at) ⌝ }
 {
     Policy {
-        strategy: Strategy::of_code(bits::field(s, at, 22, 2)),
-        rate: double_at(s, at, 40),
-        traffic: Traffic::of_code(bits::field(s, at, 104, 2)),
-        w0: double_at(s, at, 106),
-        w1: double_at(s, at, 170),
-        w2: double_at(s, at, 234),
-        w3: double_at(s, at, 298),
-        w4: double_at(s, at, 362),
-        w5: double_at(s, at, 426),
+        strategy: Strategy::of_code(bits::field(s, at, policy::STRATEGY, 2)),
+        rate: double_at(s, at, policy::RATE),
+        traffic: Traffic::of_code(bits::field(s, at, policy::TRAFFIC, 2)),
+        w0: double_at(s, at, policy::W0),
+        w1: double_at(s, at, policy::W1),
+        w2: double_at(s, at, policy::W2),
+        w3: double_at(s, at, policy::W3),
+        w4: double_at(s, at, policy::W4),
+        w5: double_at(s, at, policy::W5),
     }
 }
 
@@ -57,8 +65,8 @@ pub fn stop_at(s: &[u8], at: u32) -> Stop
     ensures { λ r. ⌜ r ≡ stopOf (from (now (s .entry)) at) ⌝ }
 {
     Stop {
-        id: bits::field32(s, at, 22),
-        position: double_at(s, at, 54),
+        id: bits::field32(s, at, stop::ID),
+        position: double_at(s, at, stop::POSITION),
     }
 }
 
@@ -66,8 +74,8 @@ pub fn line_at(s: &[u8], at: u32) -> Line
     ensures { λ r. ⌜ r ≡ lineOf (from (now (s .entry)) at) ⌝ }
 {
     Line {
-        id: bits::field32(s, at, 22),
-        serves: bits::field(s, at, 54, 64),
+        id: bits::field32(s, at, line::ID),
+        serves: bits::field(s, at, line::SERVES, 64),
     }
 }
 
@@ -75,25 +83,28 @@ pub fn car_at(s: &[u8], at: u32) -> Car
     ensures { λ r. ⌜ r ≡ carOf (from (now (s .entry)) at) ⌝ }
 {
     Car {
-        id: bits::field32(s, at, 22),
-        line: bits::field32(s, at, 54),
-        phase: Phase::of_code(bits::field(s, at, 86, 3), bits::field32(s, at, 89)),
-        target: bits::field32(s, at, 122),
-        listed: bits::flag(s, at, 154),
-        up: bits::flag(s, at, 155),
-        down: bits::flag(s, at, 156),
-        direction: Direction::of_bit(bits::flag(s, at, 157)),
-        mode: Mode::of_bit(bits::flag(s, at, 158)),
-        position: double_at(s, at, 159),
-        speed: double_at(s, at, 223),
-        capacity: double_at(s, at, 287),
-        load: double_at(s, at, 351),
-        bypassup: threshold_at(s, at, 415, 416),
-        bypassdown: threshold_at(s, at, 480, 481),
-        transition: bits::field32(s, at, 545),
-        dwell: bits::field32(s, at, 577),
-        restricted: bits::field(s, at, 609, 64),
-        calls: bits::field(s, at, 673, 64),
+        id: bits::field32(s, at, car::ID),
+        line: bits::field32(s, at, car::LINE),
+        phase: Phase::of_code(
+            bits::field(s, at, car::PHASE, 3),
+            bits::field32(s, at, car::STOP),
+        ),
+        target: bits::field32(s, at, car::TARGET),
+        listed: bits::flag(s, at, car::LISTED),
+        up: bits::flag(s, at, car::UP),
+        down: bits::flag(s, at, car::DOWN),
+        direction: Direction::of_bit(bits::flag(s, at, car::SWEEP)),
+        mode: Mode::of_bit(bits::flag(s, at, car::MODE)),
+        position: double_at(s, at, car::POSITION),
+        speed: double_at(s, at, car::SPEED),
+        capacity: double_at(s, at, car::CAPACITY),
+        load: double_at(s, at, car::LOAD),
+        bypassup: threshold_at(s, at, car::HAS_BYPASS_UP, car::BYPASS_UP),
+        bypassdown: threshold_at(s, at, car::HAS_BYPASS_DOWN, car::BYPASS_DOWN),
+        transition: bits::field32(s, at, car::TRANSITION),
+        dwell: bits::field32(s, at, car::DWELL),
+        restricted: bits::field(s, at, car::RESTRICTED, 64),
+        calls: bits::field(s, at, car::CALLS, 64),
     }
 }
 
@@ -101,8 +112,8 @@ pub fn aboard_at(s: &[u8], at: u32) -> Aboard
     ensures { λ r. ⌜ r ≡ aboardOf (from (now (s .entry)) at) ⌝ }
 {
     Aboard {
-        car: bits::field32(s, at, 22),
-        destination: bits::field32(s, at, 55),
+        car: bits::field32(s, at, aboard::CAR),
+        destination: bits::field32(s, at, aboard::DESTINATION),
     }
 }
 
@@ -110,21 +121,21 @@ pub fn waiting_at(s: &[u8], at: u32) -> Waiting
     ensures { λ r. ⌜ r ≡ waitingOf (from (now (s .entry)) at) ⌝ }
 {
     Waiting {
-        stop: bits::field32(s, at, 22),
-        line: bits::field32(s, at, 55),
-        destination: bits::field32(s, at, 88),
-        weight: double_at(s, at, 120),
-        wait: bits::field(s, at, 184, 64),
+        stop: bits::field32(s, at, waiting::STOP),
+        line: bits::field32(s, at, waiting::LINE),
+        destination: bits::field32(s, at, waiting::DESTINATION),
+        weight: double_at(s, at, waiting::WEIGHT),
+        wait: bits::field(s, at, waiting::WAIT, 64),
     }
 }
 
 pub fn demand_at(s: &[u8], at: u32) -> Demand
     ensures { λ r. ⌜ r ≡ demandOf (from (now (s .entry)) at) ⌝ }
 {
-    let riding = bits::field(s, at, 54, 16);
+    let riding = bits::field(s, at, demand::RIDING, 16);
     Demand {
-        stop: bits::field32(s, at, 22),
+        stop: bits::field32(s, at, demand::STOP),
         riding: riding as u16,
-        call: bits::flag(s, at, 70),
+        call: bits::flag(s, at, demand::CALL),
     }
 }

@@ -6,12 +6,16 @@ ghost use Rattle.layout.specs.Refusals.{unusedStop, phaseAt, refusal8Car, refus
 ghost use Rattle.layout.specs.Verdict.{carRefusal};
 use components::Phase;
 use layout::Counts;
+use layout::car;
 use refusals::pick;
 
 fn phase_at(s: &[u8], at: u32) -> Phase
     ensures { λ r. ⌜ r ≡ phaseAt (from (now (s .entry)) at) ⌝ }
 {
-    Phase::of_code(bits::field(s, at, 86, 3), bits::field32(s, at, 89))
+    Phase::of_code(
+        bits::field(s, at, car::PHASE, 3),
+        bits::field32(s, at, car::STOP),
+    )
 }
 
 // Whether the phase is unknown, or leaves a stop unused that is set.
@@ -34,11 +38,11 @@ fn unused_stop(phase: Phase, set: bool) -> bool
 fn unused_bits(s: &[u8], at: u32) -> bool
     ensures { λ r. ⌜ r ≡ refusal8Car (from (now (s .entry)) at) ⌝ }
 {
-    let stop = bits::field32(s, at, 89);
+    let stop = bits::field32(s, at, car::STOP);
     let phase = unused_stop(phase_at(s, at), stop != 0);
-    let target = refusals::absent_set(s, at, 121, 122, 32);
-    let up = refusals::absent_set(s, at, 415, 416, 64);
-    let down = refusals::absent_set(s, at, 480, 481, 64);
+    let target = refusals::absent_set(s, at, car::HAS_TARGET, car::TARGET, 32);
+    let up = refusals::absent_set(s, at, car::HAS_BYPASS_UP, car::BYPASS_UP, 64);
+    let down = refusals::absent_set(s, at, car::HAS_BYPASS_DOWN, car::BYPASS_DOWN, 64);
     phase | (target | (up | down))
 }
 
@@ -48,11 +52,11 @@ fn bad_ids(s: &[u8], c: Counts) -> bool
     ensures { λ r. ⌜ r ≡ refusal9Car (now (s .entry)) c (from (now (s .entry)) (endOf c)) ⌝ }
 {
     let at = c.end_of();
-    let id = bits::field32(s, at, 22);
-    let line = bits::field32(s, at, 54);
-    let stop = bits::field32(s, at, 89);
+    let id = bits::field32(s, at, car::ID);
+    let line = bits::field32(s, at, car::LINE);
+    let stop = bits::field32(s, at, car::STOP);
     let moving = phase_at(s, at).is_moving();
-    let target = refusals::present_zero(s, at, 121, 122);
+    let target = refusals::present_zero(s, at, car::HAS_TARGET, car::TARGET);
     let again = refusals::has_car(s, c, id);
     (id == 0) | ((line == 0) | ((moving & (stop == 0)) | (target | again)))
 }
@@ -63,11 +67,11 @@ fn unknown_records(s: &[u8], c: Counts) -> bool
     ensures { λ r. ⌜ r ≡ refusal10Car (now (s .entry)) c (from (now (s .entry)) (endOf c)) ⌝ }
 {
     let at = c.end_of();
-    let known = refusals::has_line(s, c, bits::field32(s, at, 54));
+    let known = refusals::has_line(s, c, bits::field32(s, at, car::LINE));
     let n = c.stops;
     let stops = n as usize;
-    let restricted = mask::past_stops(bits::field(s, at, 609, 64), stops);
-    let calls = mask::past_stops(bits::field(s, at, 673, 64), stops);
+    let restricted = mask::past_stops(bits::field(s, at, car::RESTRICTED, 64), stops);
+    let calls = mask::past_stops(bits::field(s, at, car::CALLS, 64), stops);
     !known | (restricted | calls)
 }
 
@@ -75,12 +79,12 @@ fn unknown_records(s: &[u8], c: Counts) -> bool
 fn out_of_range(s: &[u8], at: u32) -> bool
     ensures { λ r. ⌜ r ≡ refusal11Car (from (now (s .entry)) at) ⌝ }
 {
-    let position = fp::is_position(records::double_at(s, at, 159));
-    let speed = fp::is_speed(records::double_at(s, at, 223));
-    let capacity = refusals::mass_at(s, at, 287);
-    let load = refusals::mass_at(s, at, 351);
-    let up = fp::is_threshold(records::double_at(s, at, 416));
-    let down = fp::is_threshold(records::double_at(s, at, 481));
+    let position = fp::is_position(records::double_at(s, at, car::POSITION));
+    let speed = fp::is_speed(records::double_at(s, at, car::SPEED));
+    let capacity = refusals::mass_at(s, at, car::CAPACITY);
+    let load = refusals::mass_at(s, at, car::LOAD);
+    let up = fp::is_threshold(records::double_at(s, at, car::BYPASS_UP));
+    let down = fp::is_threshold(records::double_at(s, at, car::BYPASS_DOWN));
     !(position & (speed & (capacity & (load & (up & down)))))
 }
 
@@ -88,8 +92,8 @@ fn out_of_range(s: &[u8], at: u32) -> bool
 fn long_doors(s: &[u8], at: u32) -> bool
     ensures { λ r. ⌜ r ≡ refusal13 (from (now (s .entry)) at) ⌝ }
 {
-    let transition = bits::field(s, at, 545, 32);
-    let dwell = bits::field(s, at, 577, 32);
+    let transition = bits::field(s, at, car::TRANSITION, 32);
+    let dwell = bits::field(s, at, car::DWELL, 32);
     4_294_967_295 < 2 * transition + dwell
 }
 

@@ -7,18 +7,19 @@ ghost use Rattle.layout.specs.Refusals.{unusedWeights, loadWeighed, refusal8Pol
 ghost use Rattle.layout.specs.Verdict.{policyRefusal};
 use components::Strategy;
 use layout::Counts;
+use layout::policy;
 use refusals::pick;
 
 // Whether one of the six weights has a one bit.
 fn any_weight(s: &[u8], at: u32) -> bool
     ensures { λ r. ⌜ r ≡ unusedWeights Strategy.Scan (from (now (s .entry)) at) ⌝ }
 {
-    let w0 = bits::field(s, at, 106, 64);
-    let w1 = bits::field(s, at, 170, 64);
-    let w2 = bits::field(s, at, 234, 64);
-    let w3 = bits::field(s, at, 298, 64);
-    let w4 = bits::field(s, at, 362, 64);
-    let w5 = bits::field(s, at, 426, 64);
+    let w0 = bits::field(s, at, policy::W0, 64);
+    let w1 = bits::field(s, at, policy::W1, 64);
+    let w2 = bits::field(s, at, policy::W2, 64);
+    let w3 = bits::field(s, at, policy::W3, 64);
+    let w4 = bits::field(s, at, policy::W4, 64);
+    let w5 = bits::field(s, at, policy::W5, 64);
     (w0 != 0) | ((w1 != 0) | ((w2 != 0) | ((w3 != 0) | ((w4 != 0) | (w5 != 0)))))
 }
 
@@ -26,9 +27,9 @@ fn any_weight(s: &[u8], at: u32) -> bool
 fn unused_weights(s: &[u8], at: u32) -> bool
     ensures { λ r. ⌜ r ≡ refusal8Policy (from (now (s .entry)) at) ⌝ }
 {
-    let strategy = Strategy::of_code(bits::field(s, at, 22, 2));
+    let strategy = Strategy::of_code(bits::field(s, at, policy::STRATEGY, 2));
     match strategy {
-        Strategy::Etd => bits::field(s, at, 426, 64) != 0,
+        Strategy::Etd => bits::field(s, at, policy::W5, 64) != 0,
         Strategy::Rsr => false,
         Strategy::Scan => any_weight(s, at),
         Strategy::Unknown => true,
@@ -39,13 +40,13 @@ fn unused_weights(s: &[u8], at: u32) -> bool
 fn out_of_range(s: &[u8], at: u32) -> bool
     ensures { λ r. ⌜ r ≡ refusal11Policy (from (now (s .entry)) at) ⌝ }
 {
-    let rate = fp::is_tick_rate(records::double_at(s, at, 40));
-    let w0 = refusals::mass_at(s, at, 106);
-    let w1 = refusals::mass_at(s, at, 170);
-    let w2 = refusals::mass_at(s, at, 234);
-    let w3 = refusals::mass_at(s, at, 298);
-    let w4 = refusals::mass_at(s, at, 362);
-    let w5 = refusals::mass_at(s, at, 426);
+    let rate = fp::is_tick_rate(records::double_at(s, at, policy::RATE));
+    let w0 = refusals::mass_at(s, at, policy::W0);
+    let w1 = refusals::mass_at(s, at, policy::W1);
+    let w2 = refusals::mass_at(s, at, policy::W2);
+    let w3 = refusals::mass_at(s, at, policy::W3);
+    let w4 = refusals::mass_at(s, at, policy::W4);
+    let w5 = refusals::mass_at(s, at, policy::W5);
     !(rate & (w0 & (w1 & (w2 & (w3 & (w4 & w5))))))
 }
 
@@ -53,8 +54,8 @@ fn out_of_range(s: &[u8], at: u32) -> bool
 fn load_weighed(s: &[u8], at: u32) -> bool
     ensures { λ r. ⌜ r ≡ refusal15 (from (now (s .entry)) at) ⌝ }
 {
-    let strategy = Strategy::of_code(bits::field(s, at, 22, 2));
-    let load = records::double_at(s, at, 298);
+    let strategy = Strategy::of_code(bits::field(s, at, policy::STRATEGY, 2));
+    let load = records::double_at(s, at, policy::W3);
     match strategy {
         Strategy::Etd => false,
         Strategy::Rsr => 0.0 < load,
@@ -69,7 +70,7 @@ pub fn policy_refusal(s: &[u8], c: Counts) -> u32
     ensures { λ r. ⌜ r ≡ policyRefusal (now (s .entry)) c (from (now (s .entry)) (endOf c)) ⌝ }
 {
     let at = c.end_of();
-    let none = bits::field(s, at, 24, 16) == 0;
+    let none = bits::field(s, at, policy::LIMIT, 16) == 0;
     let late = pick(none, 12, pick(load_weighed(s, at), 15, 0));
     pick(
         unused_weights(s, at),

@@ -15,6 +15,13 @@ use components::Stop;
 use components::Waiting;
 use layout::Counts;
 use layout::Reading;
+use layout::aboard;
+use layout::car;
+use layout::demand;
+use layout::line;
+use layout::policy;
+use layout::stop;
+use layout::waiting;
 use refusals::pick;
 
 // Whether bit e lies past the end.
@@ -170,7 +177,7 @@ pub fn stop_at(s: &[u8], c: Counts, i: u32) -> Stop
     requires { ⌜ Small c × (i < c .stops) ⌝ }
     ensures { λ r. ⌜ r ≡ sheetOf (now (s .entry)) c .stop i ⌝ }
 {
-    records::stop_at(s, c.stops_from() + 118 * i)
+    records::stop_at(s, c.stops_from() + stop::BITS * i)
 }
 
 // Line record i.
@@ -178,7 +185,7 @@ pub fn line_at(s: &[u8], c: Counts, i: u32) -> Line
     requires { ⌜ Small c × (i < c .lines) ⌝ }
     ensures { λ r. ⌜ r ≡ sheetOf (now (s .entry)) c .line i ⌝ }
 {
-    records::line_at(s, c.lines_from() + 118 * i)
+    records::line_at(s, c.lines_from() + line::BITS * i)
 }
 
 // Car record i.
@@ -186,7 +193,7 @@ pub fn car_at(s: &[u8], c: Counts, i: u32) -> Car
     requires { ⌜ Small c × (i < c .cars) ⌝ }
     ensures { λ r. ⌜ r ≡ sheetOf (now (s .entry)) c .car i ⌝ }
 {
-    records::car_at(s, c.cars_from() + 737 * i)
+    records::car_at(s, c.cars_from() + car::BITS * i)
 }
 
 // Aboard record i.
@@ -194,7 +201,7 @@ pub fn aboard_at(s: &[u8], c: Counts, i: u32) -> Aboard
     requires { ⌜ Small c × (i < c .aboards) ⌝ }
     ensures { λ r. ⌜ r ≡ sheetOf (now (s .entry)) c .aboard i ⌝ }
 {
-    records::aboard_at(s, c.aboards_from() + 87 * i)
+    records::aboard_at(s, c.aboards_from() + aboard::BITS * i)
 }
 
 // Waiting record i.
@@ -202,7 +209,7 @@ pub fn waiting_at(s: &[u8], c: Counts, i: u32) -> Waiting
     requires { ⌜ Small c × (i < c .waits) ⌝ }
     ensures { λ r. ⌜ r ≡ sheetOf (now (s .entry)) c .waiting i ⌝ }
 {
-    records::waiting_at(s, c.waits_from() + 248 * i)
+    records::waiting_at(s, c.waits_from() + waiting::BITS * i)
 }
 
 // Demand record i.
@@ -210,5 +217,5 @@ pub fn demand_at(s: &[u8], c: Counts, i: u32) -> Demand
     requires { ⌜ Small c × (i < c .demands) ⌝ }
     ensures { λ r. ⌜ r ≡ sheetOf (now (s .entry)) c .demand i ⌝ }
 {
-    records::demand_at(s, c.demands_from() + 71 * i)
+    records::demand_at(s, c.demands_from() + demand::BITS * i)
 }

@@ -1,6 +1,7 @@
 -- records::car_at meets its contract.
 use Rattle.bits.specs.Field.{flagAt}
 use Rattle.components.specs.Codes.{phaseOf, directionOf, modeOf}
+use Rattle.layout.specs.Table.{carCapacity, carLoad}
 use Rattle.layout.specs.Records.{from, double, carOf}
 use borrow.Author.Needs.{needs}
 use mathlib.Core.Path.{_≡_, ap, ap₂, _∙_}
@@ -16,8 +17,8 @@ returns c =
     let d4 = d3 .before .before .before .before in
     let d5 = d4 .before .before .before .before in
     let a = d5 .before .before .before .before .args in
-    let capacity : d1 .before .before .before .double-at3 .result ≡ double (from (a .s .now) (a .at)) 287 = d1 .before .before .before .double-at3 .ensures in
-    let load : d1 .before .before .double-at4 .result ≡ double (from (a .s .now) (a .at)) 351 = d1 .before .before .double-at4 .ensures in
+    let capacity : d1 .before .before .before .double-at3 .result ≡ double (from (a .s .now) (a .at)) carCapacity = d1 .before .before .before .double-at3 .ensures in
+    let load : d1 .before .before .double-at4 .result ≡ double (from (a .s .now) (a .at)) carLoad = d1 .before .before .double-at4 .ensures in
     λ i. record {
       id = d5 .before .before .field32 .ensures i;
       line = d5 .before .field322 .ensures i;

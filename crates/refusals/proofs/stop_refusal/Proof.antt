@@ -3,6 +3,7 @@ use Prim.Native.Nat.{ℕ, _+_}
 use Rattle.bits.specs.Field.{fieldAt}
 use Rattle.fp.specs.Ranges.{isPosition}
 use Rattle.layout.specs.Offsets.{endOf}
+use Rattle.layout.specs.Table.{stopPosition}
 use Rattle.layout.specs.Records.{from, double}
 use Rattle.layout.specs.Refusals.{lastStop, refusal9Stop, refusal11Stop}
 use Rattle.layout.specs.Verdict.{pick, stopRefusal}
@@ -21,7 +22,7 @@ by-number : (s : List ℕ) (c : Counts) {at id last r11 r9 : ℕ} {position : Fl
     at ≡ endOf c →
     id ≡ fieldAt s (at + 22) 32 →
     last ≡ lastStop s c →
-    position ≡ double (from s at) 54 →
+    position ≡ double (from s at) stopPosition →
     placed ≡ isPosition position →
     r11 ≡ pick (not placed) 11 0 →
     r9 ≡ pick (eqb id 0 || leb id last) 9 r11 →

@@ -3,6 +3,7 @@ use Prim.Native.Nat.{ℕ, _+_}
 use Rattle.bits.specs.Field.{fieldAt}
 use Rattle.fp.specs.Ranges.{isMass}
 use Rattle.layout.specs.Offsets.{endOf}
+use Rattle.layout.specs.Table.{waitingWeight}
 use Rattle.layout.specs.Records.{from, double}
 use Rattle.layout.specs.Refusals.{hasStop, refusal8Waiting, refusal9Waiting, refusal10Waiting, refusal11Waiting, refusal14}
 use Rattle.layout.specs.Verdict.{pick, waitingRefusal}
@@ -20,7 +21,7 @@ by-number : (s : List ℕ) (c : Counts) {at stop wait r14 r11 r10 r9 r8 : ℕ} {
     at ≡ endOf c →
     stop ≡ fieldAt s (at + 22) 32 →
     known ≡ hasStop s c stop →
-    light ≡ isMass (double (from s at) 120) →
+    light ≡ isMass (double (from s at) waitingWeight) →
     wait ≡ fieldAt s (at + 184) 64 →
     unused ≡ refusal8Waiting (from s at) →
     zero ≡ refusal9Waiting (from s at) →

@@ -1,7 +1,7 @@
 -- refusals_car::long_doors meets its contract.
 use Prim.Native.Nat.{ℕ, _+_, _*_}
-use Rattle.bits.specs.Field.{fieldAt}
-use Rattle.layout.specs.Records.{from}
+use Rattle.layout.specs.Table.{carTransition, carDwell}
+use Rattle.layout.specs.Records.{from, read}
 use Rattle.layout.specs.Refusals.{refusal13}
 use borrow.Author.Needs.{needs}
 use lib.Dec.{ltb}
@@ -11,8 +11,8 @@ use Rattle.refusals_car.proofs.long_doors.Statement.{statement}
 use Rattle.refusals_car.proofs.long_doors.Tie as tie
 
 as-read : (s : List ℕ) (at : ℕ) {transition dwell : ℕ} →
-    transition ≡ fieldAt s (at + 545) 32 →
-    dwell ≡ fieldAt s (at + 577) 32 →
+    transition ≡ read (from s at) carTransition →
+    dwell ≡ read (from s at) carDwell →
     ltb 4294967295 (2 * transition + dwell) ≡ refusal13 (from s at)
 unfolding refusal13
 as-read s at transition-is dwell-is = rw (transition-is, dwell-is)

@@ -1,8 +1,8 @@
 -- refusals_car::unknown_records meets its contract.
-use Prim.Native.Nat.{ℕ, _+_}
-use Rattle.bits.specs.Field.{fieldAt}
+use Prim.Native.Nat.{ℕ}
 use Rattle.layout.specs.Offsets.{endOf}
-use Rattle.layout.specs.Records.{from}
+use Rattle.layout.specs.Table.{carLine, carRestricted, carCalls}
+use Rattle.layout.specs.Records.{from, read}
 use Rattle.layout.specs.Refusals.{hasLine, refusal10Car}
 use Rattle.layout.specs.declared.Counts.{Counts}
 use Rattle.mask.specs.Mask.{pastStops}
@@ -15,11 +15,11 @@ use Rattle.refusals_car.proofs.unknown_records.Tie as tie
 
 as-read : (s : List ℕ) (c : Counts) {at line restricted calls : ℕ} {known restricted-past calls-past : Bool} →
     at ≡ endOf c →
-    line ≡ fieldAt s (at + 54) 32 →
+    line ≡ read (from s at) carLine →
     known ≡ hasLine s c line →
-    restricted ≡ fieldAt s (at + 609) 64 →
+    restricted ≡ read (from s at) carRestricted →
     restricted-past ≡ pastStops restricted (c .stops) →
-    calls ≡ fieldAt s (at + 673) 64 →
+    calls ≡ read (from s at) carCalls →
     calls-past ≡ pastStops calls (c .stops) →
     (not known || (restricted-past || calls-past)) ≡ refusal10Car s c (from s (endOf c))
 unfolding refusal10Car

@@ -1,0 +1,9 @@
+// Kind 5, aboard: the bit where each field starts, counted from the record's first; 22 bits of kind and length come before.
+pub const CAR: u32 = 22;
+
+pub const HAS_DESTINATION: u32 = CAR + 32;
+
+pub const DESTINATION: u32 = HAS_DESTINATION + 1;
+
+// The record's length.
+pub const BITS: u32 = DESTINATION + 32;
