@@ -22,17 +22,18 @@ use Rattle.components.specs.declared.Phase.{Phase}
 use Rattle.components.specs.declared.Phase.the-variants.{Idle, MovingToStop, Repositioning, DoorOpening, Loading, DoorClosing, Stopped}
 use Rattle.components.specs.declared.Phase.the-variants as phases
 use Rattle.components.specs.declared.Threshold.the-variants.{Absent, At}
-use Rattle.components.specs.Codes.{kindOf, phaseOf}
+use Rattle.components.specs.Codes.{kindOf, phaseOf, by-code, by-kind, strategyCode, phaseCode}
 use Rattle.components.specs.Cars.{isMoving, movingTarget}
 use Rattle.components.specs.declared.Kind.the-variants as kind
 use Rattle.layout.specs.declared.Counts.{Counts}
 use Rattle.layout.specs.declared.Reading.{Reading}
 use Rattle.layout.specs.declared.Reading.the-variants.{Refused, Accepted}
-use Rattle.layout.specs.Offsets.{stopAt, lineAt, carAt, aboardAt, waitingAt, demandAt, recordLength, isFull, none, next, endOf, lastKind, stopsFrom, linesFrom, carsFrom, aboardsFrom, waitsFrom, demandsFrom, Small}
-use Rattle.layout.specs.Table.{carHasBypassUp, carHasBypassDown, carBypassDown, policyLimit, policyRate, policyW0, policyW1, policyW2, policyW3, policyW4, stopId, lineId, lineServes, carId, carLine, carStop, carHasTarget, carTarget, carPosition, carSpeed, carCapacity, carLoad, carBypassUp, carBypassDown, carTransition, carDwell, carRestricted, carCalls, aboardCar, waitingStop, waitingWeight, waitingWait, demandStop}
+use Rattle.layout.specs.Offsets.{headLength, stopAt, lineAt, carAt, aboardAt, waitingAt, demandAt, recordLength, none, next, endOf, lastKind, stopsFrom, linesFrom, carsFrom, aboardsFrom, waitsFrom, demandsFrom, Small}
+use Rattle.layout.specs.Table.{carHasBypassUp, carHasBypassDown, carBypassDown, policyLimit, policyRate, policyW0, policyW1, policyW2, policyW3, policyW4, stopId, lineId, lineServes, carId, carLine, carPhase, carStop, carHasTarget, carTarget, carPosition, carSpeed, carCapacity, carLoad, carBypassUp, carBypassDown, carTransition, carDwell, carRestricted, carCalls, aboardCar, waitingStop, waitingWeight, waitingWait, demandStop, first}
 use Rattle.layout.specs.Records.{Fields, from, flag, double, policyOf, stopOf, lineOf, carOf, aboardOf, waitingOf, demandOf, sheetOf, limitOf, read}
-use Rattle.layout.specs.Refusals.{kindAt, refusal6, isUnknown, seen, hasStop, hasLine, hasCar, hasDemand, lastStop, presentZero, unusedWeights, loadWeighed, unusedStop, phaseAt, refusal8Policy, refusal11Policy, refusal12, refusal15, refusal9Stop, refusal11Stop, refusal9Line, refusal10Line, refusal8Car, refusal9Car, refusal10Car, refusal11Car, refusal13, refusal8Aboard, refusal9Aboard, refusal10Aboard, refusal8Waiting, refusal9Waiting, refusal10Waiting, refusal11Waiting, refusal14, refusal9Demand, refusal10Demand}
-use Rattle.layout.specs.Verdict.{policyRefusal, stopRefusal, lineRefusal, carRefusal, aboardRefusal, waitingRefusal, demandRefusal, bodyRefusal, recordRefusal, tailFits, tailVerdict, recordsVerdict, verdict}
+use Rattle.layout.specs.Refusals.{recordCount, kindAt, pastEnd, refusal2Head, refusal3, refusal6Empty, refusal16, tailFits, refusal6, refusal4, refusal7, seen, hasStop, hasLine, hasCar, hasDemand, lastStop, presentZero, strategyAt, loadWeighed, phaseAt, refusal8Policy, refusal11Policy, refusal12, refusal15, refusal9Stop, refusal11Stop, refusal9Line, refusal10Line, refusal8Car, refusal9Car, refusal10Car, refusal11Car, refusal13, refusal8Aboard, refusal9Aboard, refusal10Aboard, refusal8Waiting, refusal9Waiting, refusal10Waiting, refusal11Waiting, refusal14, refusal9Demand, refusal10Demand}
+use Rattle.layout.specs.Verdict.{bodyRefusal, recordRefusal, headRules, tailRules, given, tailVerdict, recordsVerdict, verdict, firstOf}
+use Rattle.layout.specs.Readings.{refused≢accepted, same-counts}
 use Rattle.layout.specs.VerdictLaws.{pick-none, Clean, clean}
 use Rattle.accepted.specs.Sound.{Found, Distinct, isThresholdOr, SoundPolicy, SoundStop, SoundLine, SoundCar, SoundWaiting, SoundSheet, Sound}
 
@@ -43,7 +44,7 @@ counts p s l k a w d = record { policies = p; stops = s; lines = l; cars = k; ab
 
 -- of the record of kind k after those counted, no condition from 7 on holds
 pub record Read (s : List ℕ) (c : Counts) (k : Kind) : Type 0 where
-  pub has-room : isFull c k ≡ false
+  pub has-room : refusal7 c k ≡ false
   pub body : bodyRefusal s c k (from s (endOf c)) ≡ 0
 
 -- each record with the counts before it: those of its kind that stand before, and all of the lower kinds
@@ -57,23 +58,6 @@ pub record Records (s : List ℕ) (c : Counts) : Type 0 where
   pub demands : (i : ℕ) → i < c .demands → Read s (counts (c .policies) (c .stops) (c .lines) (c .cars) (c .aboards) (c .waits) i) Demand
 
 -- ---- one record more
-
--- a code that is given a kind is that kind's
-by-code : {A : Type 0} (P : A → Type 0) (n m : ℕ) (k rest : A) → (n ≡ m → P k) → P rest → P (cond (eqb n m) k rest)
-by-code P n m k rest here there =
-    ⊎-elim (λ (e : eqb n m ≡ true). rw e (here (eqb-true n m e))) (λ (e : eqb n m ≡ false). rw e there) (which (eqb n m))
-
-pub by-kind : (P : Kind → Type 0) (n : ℕ) → (n ≡ 1 → P Policy) → (n ≡ 2 → P Stop) → (n ≡ 3 → P Line) → (n ≡ 4 → P Car) → (n ≡ 5 → P Aboard)
-    → (n ≡ 6 → P Waiting) → (n ≡ 7 → P Demand) → P Unknown → P (kindOf n)
-unfolding kindOf
-by-kind P n p s l k a w d u =
-    by-code P n 1 Policy _ p
-    (by-code P n 2 Stop _ s
-    (by-code P n 3 Line _ l
-    (by-code P n 4 Car _ k
-    (by-code P n 5 Aboard _ a
-    (by-code P n 6 Waiting _ w
-    (by-code P n 7 Demand _ d u))))))
 
 -- the kind of the last record bounds which kinds there are
 peel : (x v rest m : ℕ) → cond (ltb 0 x) v rest ≤ m → m < v → (x ≡ 0) × (rest ≤ m)
@@ -118,9 +102,9 @@ above-zero n e = let h = eqb-false n 0 e in ⊎-elim (λ (l : 0 < n). l) (λ (l 
 gone : {n i : ℕ} → n ≡ 0 → i < n → ⊥
 gone e l = absurd (omega arith)
 
-same-counts : {p s l k a w d p′ s′ l′ k′ a′ w′ d′ : ℕ} → p ≡ p′ → s ≡ s′ → l ≡ l′ → k ≡ k′ → a ≡ a′ → w ≡ w′ → d ≡ d′
+agree-counts : {p s l k a w d p′ s′ l′ k′ a′ w′ d′ : ℕ} → p ≡ p′ → s ≡ s′ → l ≡ l′ → k ≡ k′ → a ≡ a′ → w ≡ w′ → d ≡ d′
     → counts p s l k a w d ≡ counts p′ s′ l′ k′ a′ w′ d′
-same-counts e1 e2 e3 e4 e5 e6 e7 = cc
+agree-counts e1 e2 e3 e4 e5 e6 e7 = cc
 
 module _ (s : List ℕ) (c : Counts) (m : ℕ) (h : Records s c) (e : Last c m) where
   with-policy : m ≡ 1 → Read s c Policy → Records s (next c Policy)
@@ -133,7 +117,7 @@ module _ (s : List ℕ) (c : Counts) (m : ℕ) (h : Records s c) (e : Last c m) 
       let w0 = e .waits (omega arith) in
       let d0 = e .demands (omega arith) in
       record {
-        policies = grown (h .policies) (subst (λ x. Read s x Policy) (same-counts refl s0 l0 k0 a0 w0 d0) r);
+        policies = grown (h .policies) (subst (λ x. Read s x Policy) (agree-counts refl s0 l0 k0 a0 w0 d0) r);
         stops = λ i l. absurd (gone s0 l);
         lines = λ i l. absurd (gone l0 l);
         cars = λ i l. absurd (gone k0 l);
@@ -151,7 +135,7 @@ module _ (s : List ℕ) (c : Counts) (m : ℕ) (h : Records s c) (e : Last c m) 
       let d0 = e .demands (omega arith) in
       record {
         policies = h .policies;
-        stops = grown (h .stops) (subst (λ x. Read s x Stop) (same-counts refl refl l0 k0 a0 w0 d0) r);
+        stops = grown (h .stops) (subst (λ x. Read s x Stop) (agree-counts refl refl l0 k0 a0 w0 d0) r);
         lines = λ i l. absurd (gone l0 l);
         cars = λ i l. absurd (gone k0 l);
         aboards = λ i l. absurd (gone a0 l);
@@ -168,7 +152,7 @@ module _ (s : List ℕ) (c : Counts) (m : ℕ) (h : Records s c) (e : Last c m) 
       record {
         policies = h .policies;
         stops = h .stops;
-        lines = grown (h .lines) (subst (λ x. Read s x Line) (same-counts refl refl refl k0 a0 w0 d0) r);
+        lines = grown (h .lines) (subst (λ x. Read s x Line) (agree-counts refl refl refl k0 a0 w0 d0) r);
         cars = λ i l. absurd (gone k0 l);
         aboards = λ i l. absurd (gone a0 l);
         waits = λ i l. absurd (gone w0 l);
@@ -184,7 +168,7 @@ module _ (s : List ℕ) (c : Counts) (m : ℕ) (h : Records s c) (e : Last c m) 
         policies = h .policies;
         stops = h .stops;
         lines = h .lines;
-        cars = grown (h .cars) (subst (λ x. Read s x Car) (same-counts refl refl refl refl a0 w0 d0) r);
+        cars = grown (h .cars) (subst (λ x. Read s x Car) (agree-counts refl refl refl refl a0 w0 d0) r);
         aboards = λ i l. absurd (gone a0 l);
         waits = λ i l. absurd (gone w0 l);
         demands = λ i l. absurd (gone d0 l);
@@ -199,7 +183,7 @@ module _ (s : List ℕ) (c : Counts) (m : ℕ) (h : Records s c) (e : Last c m) 
         stops = h .stops;
         lines = h .lines;
         cars = h .cars;
-        aboards = grown (h .aboards) (subst (λ x. Read s x Aboard) (same-counts refl refl refl refl refl w0 d0) r);
+        aboards = grown (h .aboards) (subst (λ x. Read s x Aboard) (agree-counts refl refl refl refl refl w0 d0) r);
         waits = λ i l. absurd (gone w0 l);
         demands = λ i l. absurd (gone d0 l);
       }
@@ -213,7 +197,7 @@ module _ (s : List ℕ) (c : Counts) (m : ℕ) (h : Records s c) (e : Last c m) 
         lines = h .lines;
         cars = h .cars;
         aboards = h .aboards;
-        waits = grown (h .waits) (subst (λ x. Read s x Waiting) (same-counts refl refl refl refl refl refl d0) r);
+        waits = grown (h .waits) (subst (λ x. Read s x Waiting) (agree-counts refl refl refl refl refl refl d0) r);
         demands = λ i l. absurd (gone d0 l);
       }
 
@@ -250,7 +234,7 @@ with-first s c r =
     (λ (t : eqb (c .policies) 0 ≡ true). absurd (not-both (rw (t, ne-eqb m 1 ne)) z))
     (λ (t : eqb (c .policies) 0 ≡ false). above-zero (c .policies) t)
     (which (eqb (c .policies) 0)) in
-    by-kind (λ k. isUnknown k ≡ false → 0 < next c k .policies) m
+    by-kind (λ k. refusal4 k ≡ false → 0 < next c k .policies) m
     (λ q _. omega arith)
     (λ q _. other (λ x. absurd (omega arith)))
     (λ q _. other (λ x. absurd (omega arith)))
@@ -268,44 +252,37 @@ pub record Whole (s : List ℕ) (c : Counts) : Type 0 where
   pub first : 0 < c .policies
   pub tail : tailFits s c ≡ true
 
-accepts : Reading → Bool
-accepts (Refused n o) = false
-accepts (Accepted c) = true
-
-refused≢accepted : {n o : ℕ} {c : Counts} → Refused n o ≡ Accepted c → ⊥
-unfolding accepts
-refused≢accepted e = true≢false (sym (ap accepts e))
-
-accepted-inj : {c d : Counts} → Accepted c ≡ Accepted d → c ≡ d
-accepted-inj e = cc
-
-tail-end : (s : List ℕ) (c d : Counts) → tailVerdict s c ≡ Accepted d → (tailFits s c ≡ true) × (c ≡ d)
-unfolding tailVerdict
-tail-end s c d e =
-    let r : Bool → Reading = λ b. cond b (Accepted c) (Refused 16 (endOf c)) in
+-- a place where no rule holds
+not-given : (n at : ℕ) (rest : Reading) (c : Counts) → given n at rest ≡ Accepted c → (n ≡ 0) × (rest ≡ Accepted c)
+not-given n at rest c e =
+    let r : Bool → Reading = λ b. cond b rest (Refused n at) in
     ⊎-elim
-    (λ (t : tailFits s c ≡ true). (t, accepted-inj (sym (ap r t) ∙ e)))
-    (λ (t : tailFits s c ≡ false). absurd (refused≢accepted (sym (ap r t) ∙ e)))
-    (which (tailFits s c))
+    (λ (t : eqb n 0 ≡ true). (eqb-true n 0 t, sym (ap r t) ∙ e))
+    (λ (t : eqb n 0 ≡ false). absurd (refused≢accepted (sym (ap r t) ∙ e)))
+    (which (eqb n 0))
+
+tail-end : (s : List ℕ) (c d : Counts) → tailVerdict s c ≡ Accepted d → (refusal6Empty s ≡ false) × (tailFits s c ≡ true) × (c ≡ d)
+unfolding tailVerdict firstOf refusal16
+tail-end s c d e =
+    let a = not-given (firstOf (tailRules s c)) (endOf c) (Accepted c) d e in
+    let b = pick-none (refusal6Empty s) 6 _ (omega arith) (a .0) in
+    let g = pick-none (refusal16 s c) 16 0 (omega arith) (b .1) in
+    (b .0, not-false (tailFits s c) (g .0), same-counts (a .1))
 
 -- no record is left
 pub at-end : (s : List ℕ) (c d : Counts) → recordsVerdict s 0 c ≡ Accepted d → c ≡ d
 unfolding recordsVerdict
-at-end s c d e = tail-end s c d e .1
+at-end s c d e = tail-end s c d e .2
 
 at-tail : (s : List ℕ) (c d : Counts) → Records s c → 0 < c .policies → tailVerdict s c ≡ Accepted d → Whole s d
-at-tail s c d h f e = let r = tail-end s c d e in subst (Whole s) (r .1) (record { records = h; first = f; tail = r .0 })
+at-tail s c d h f e = let r = tail-end s c d e in subst (Whole s) (r .2) (record { records = h; first = f; tail = r .1 })
 
 -- no record was refused
 pub on : (s : List ℕ) (n : ℕ) (c d : Counts) → recordsVerdict s (suc n) c ≡ Accepted d
     → Clean s c × (recordsVerdict s n (next c (kindOf (kindAt s c))) ≡ Accepted d)
 unfolding recordsVerdict
 on s n c d e =
-    let r : Bool → Reading = λ b. cond b (recordsVerdict s n (next c (kindOf (kindAt s c)))) (Refused (recordRefusal s c) (endOf c)) in
-    ⊎-elim
-    (λ (t : eqb (recordRefusal s c) 0 ≡ true). (clean s c (eqb-true (recordRefusal s c) 0 t), sym (ap r t) ∙ e))
-    (λ (t : eqb (recordRefusal s c) 0 ≡ false). absurd (refused≢accepted (sym (ap r t) ∙ e)))
-    (which (eqb (recordRefusal s c) 0))
+    let a = not-given (recordRefusal s c) (endOf c) (recordsVerdict s n (next c (kindOf (kindAt s c)))) d e in (clean s c (a .0), a .1)
 
 from-here : (s : List ℕ) (n : ℕ) (c d : Counts) → Records s c → (0 < c .policies) ⊎ (0 < n) → recordsVerdict s n c ≡ Accepted d → Whole s d
 unfolding recordsVerdict
@@ -316,23 +293,21 @@ from-here s (suc n) c d h f e =
 
 pub record Headed (s : List ℕ) (c : Counts) : Type 0 where
   pub three : 3 ≤ length s
-  pub some : 0 < fieldAt s 8 16
-  pub rest : recordsVerdict s (fieldAt s 8 16) none ≡ Accepted c
-
-choice : {A : Type 0} (b : Bool) (x y z : A) → cond b x y ≡ z → (x ≡ z → ⊥) → (b ≡ false) × (y ≡ z)
-choice true x y z e h = absurd (h e)
-choice false x y z e h = (refl, e)
+  pub some : 0 < recordCount s
+  pub rest : recordsVerdict s (recordCount s) none ≡ Accepted c
 
 pub headed : (s : List ℕ) (c : Counts) → verdict s ≡ Accepted c → Headed s c
-unfolding verdict
+unfolding verdict firstOf recordsVerdict refusal2Head refusal6Empty
 headed s c e =
-    let a = choice (ltb (length s) 3) _ _ (Accepted c) e refused≢accepted in
-    let b = choice (not (eqb (fieldAt s 0 8) 1)) _ _ (Accepted c) (a .1) refused≢accepted in
-    let d = choice (eqb (fieldAt s 8 16) 0) _ _ (Accepted c) (b .1) refused≢accepted in
+    let a = not-given (firstOf (headRules s)) 0 (recordsVerdict s (recordCount s) none) c e in
+    let b = pick-none (refusal2Head s) 2 _ (omega arith) (a .0) in
+    let long = ltb-false (8 * length s) headLength (b .0) in
+    let some : recordCount s ≡ 0 → ⊥ = λ z.
+    not-both (eq-eqb (recordCount s) 0 z) (tail-end s none c (subst (λ n. recordsVerdict s n none ≡ Accepted c) z (a .1)) .0) in
     record {
-      three = ltb-false (length s) 3 (a .0);
-      some = above-zero (fieldAt s 8 16) (d .0);
-      rest = d .1;
+      three = omega arith;
+      some = ⊎-elim (λ (l : 0 < recordCount s). l) (λ (l : recordCount s ≤ 0). absurd (some (omega arith))) (less? 0 (recordCount s));
+      rest = a .1;
     }
 
 pub no-records : (s : List ℕ) → Records s none
@@ -348,13 +323,13 @@ no-records s =
     }
 
 pub whole : (s : List ℕ) (c : Counts) → verdict s ≡ Accepted c → Whole s c
-whole s c e = let h = headed s c e in from-here s (fieldAt s 8 16) none c (no-records s) (inr (h .some)) (h .rest)
+whole s c e = let h = headed s c e in from-here s (recordCount s) none c (no-records s) (inr (h .some)) (h .rest)
 
 -- ---- what the conditions leave of each record
 
 module _ (f : Fields) where
-  sound-policy : (s : List ℕ) (c : Counts) → policyRefusal s c f ≡ 0 → SoundPolicy (policyOf f) × (0 < read f policyLimit)
-  unfolding policyRefusal refusal8Policy refusal11Policy refusal12 refusal15 policyOf
+  sound-policy : (s : List ℕ) (c : Counts) → bodyRefusal s c kind.Policy f ≡ 0 → SoundPolicy (policyOf f) × (0 < read f policyLimit)
+  unfolding firstOf refusal8Policy refusal11Policy refusal12 refusal15 policyOf
   sound-policy s c e =
       let a = pick-none (refusal8Policy f) 8 _ (omega arith) e in
       let b = pick-none (refusal11Policy f) 11 _ (omega arith) (a .1) in
@@ -367,7 +342,7 @@ module _ (f : Fields) where
       let r4 = both-right (isMass (double f policyW2)) _ r3 in
       let r5 = both-right (isMass (double f policyW3)) _ r4 in (
         record {
-          strategy = λ q. not-both (ap (λ k. unusedWeights k f) q) (a .0);
+          strategy = λ q. not-both (ap (λ k. eqb (strategyCode k) 3) q) (neither-left (eqb (strategyCode (strategyAt f)) 3) _ (a .0));
           rate = both-left (isTickRate (double f policyRate)) _ r0;
           w0 = both-left (isMass (double f policyW0)) _ r1;
           w1 = both-left (isMass (double f policyW1)) _ r2;
@@ -384,8 +359,8 @@ module _ (f : Fields) where
     pub sound : SoundStop (stopOf f)
     pub above : lastStop s c < read f stopId
 
-  stop-facts : (s : List ℕ) (c : Counts) → stopRefusal s c f ≡ 0 → StopFacts s c
-  unfolding stopRefusal refusal9Stop refusal11Stop stopOf
+  stop-facts : (s : List ℕ) (c : Counts) → bodyRefusal s c kind.Stop f ≡ 0 → StopFacts s c
+  unfolding firstOf refusal9Stop refusal11Stop stopOf
   stop-facts s c e =
       let a = pick-none (refusal9Stop s c f) 9 _ (omega arith) e in
       let b = pick-none (refusal11Stop f) 11 0 (omega arith) (a .1) in
@@ -402,8 +377,8 @@ module _ (f : Fields) where
     pub fresh : hasLine s c (read f lineId) ≡ false
     pub serves : pastStops (read f lineServes) (c .stops) ≡ false
 
-  line-facts : (s : List ℕ) (c : Counts) → lineRefusal s c f ≡ 0 → LineFacts s c
-  unfolding lineRefusal refusal9Line refusal10Line
+  line-facts : (s : List ℕ) (c : Counts) → bodyRefusal s c kind.Line f ≡ 0 → LineFacts s c
+  unfolding firstOf refusal9Line refusal10Line
   line-facts s c e =
       let a = pick-none (refusal9Line s c f) 9 _ (omega arith) e in
       let b = pick-none (refusal10Line c f) 10 0 (omega arith) (a .1) in
@@ -417,7 +392,7 @@ module _ (f : Fields) where
     pub id : 0 < read f carId
     pub fresh : hasCar s c (read f carId) ≡ false
     pub line : hasLine s c (read f carLine) ≡ true
-    pub phase : unusedStop (phaseAt f) (not (eqb (read f carStop) 0)) ≡ false
+    pub phase : eqb (phaseCode (phaseAt f)) 7 ≡ false
     pub moving : (isMoving (phaseAt f) && eqb (read f carStop) 0) ≡ false
     pub position : isPosition (double f carPosition) ≡ true
     pub speed : isSpeed (double f carSpeed) ≡ true
@@ -429,8 +404,8 @@ module _ (f : Fields) where
     pub restricted : pastStops (read f carRestricted) (c .stops) ≡ false
     pub calls : pastStops (read f carCalls) (c .stops) ≡ false
 
-  car-facts : (s : List ℕ) (c : Counts) → carRefusal s c f ≡ 0 → CarFacts s c
-  unfolding carRefusal refusal8Car refusal9Car refusal10Car refusal11Car refusal13
+  car-facts : (s : List ℕ) (c : Counts) → bodyRefusal s c kind.Car f ≡ 0 → CarFacts s c
+  unfolding firstOf refusal8Car refusal9Car refusal10Car refusal11Car refusal13
   car-facts s c e =
       let r8 = pick-none (refusal8Car f) 8 _ (omega arith) e in
       let r9 = pick-none (refusal9Car s c f) 9 _ (omega arith) (r8 .1) in
@@ -450,7 +425,7 @@ module _ (f : Fields) where
         id = above-zero (read f carId) (neither-left (eqb (read f carId) 0) _ (r9 .0));
         fresh = neither-right (presentZero f carHasTarget carTarget) _ i3;
         line = not-false _ (neither-left (not (hasLine s c (read f carLine))) _ (r10 .0));
-        phase = neither-left (unusedStop (phaseAt f) (not (eqb (read f carStop) 0))) _ (r8 .0);
+        phase = neither-left (eqb (phaseCode (phaseAt f)) 7) _ (r8 .0);
         moving = neither-left (isMoving (phaseAt f) && eqb (read f carStop) 0) _ i2;
         position = both-left (isPosition (double f carPosition)) _ d0;
         speed = both-left (isSpeed (double f carSpeed)) _ d1;
@@ -463,8 +438,8 @@ module _ (f : Fields) where
         calls = neither-right (pastStops (read f carRestricted) (c .stops)) _ m;
       }
 
-  aboard-car : (s : List ℕ) (c : Counts) → aboardRefusal s c f ≡ 0 → hasCar s c (read f aboardCar) ≡ true
-  unfolding aboardRefusal refusal10Aboard
+  aboard-car : (s : List ℕ) (c : Counts) → bodyRefusal s c kind.Aboard f ≡ 0 → hasCar s c (read f aboardCar) ≡ true
+  unfolding firstOf refusal10Aboard
   aboard-car s c e =
       let a = pick-none (refusal8Aboard f) 8 _ (omega arith) e in
       let b = pick-none (refusal9Aboard f) 9 _ (omega arith) (a .1) in
@@ -475,8 +450,8 @@ module _ (f : Fields) where
     pub weight : isMass (double f waitingWeight) ≡ true
     pub wait : read f waitingWait ≤ 9007199254740992
 
-  waiting-facts : (s : List ℕ) (c : Counts) → waitingRefusal s c f ≡ 0 → WaitingFacts s c
-  unfolding waitingRefusal refusal10Waiting refusal11Waiting refusal14
+  waiting-facts : (s : List ℕ) (c : Counts) → bodyRefusal s c kind.Waiting f ≡ 0 → WaitingFacts s c
+  unfolding firstOf refusal10Waiting refusal11Waiting refusal14
   waiting-facts s c e =
       let a = pick-none (refusal8Waiting f) 8 _ (omega arith) e in
       let b = pick-none (refusal9Waiting f) 9 _ (omega arith) (a .1) in
@@ -489,8 +464,8 @@ module _ (f : Fields) where
     pub fresh : hasDemand s c (read f demandStop) ≡ false
     pub stop : hasStop s c (read f demandStop) ≡ true
 
-  demand-facts : (s : List ℕ) (c : Counts) → demandRefusal s c f ≡ 0 → DemandFacts s c
-  unfolding demandRefusal refusal9Demand refusal10Demand
+  demand-facts : (s : List ℕ) (c : Counts) → bodyRefusal s c kind.Demand f ≡ 0 → DemandFacts s c
+  unfolding firstOf refusal9Demand refusal10Demand
   demand-facts s c e =
       let a = pick-none (refusal9Demand s c f) 9 _ (omega arith) e in
       let b = pick-none (refusal10Demand s c f) 10 0 (omega arith) (a .1) in
@@ -498,10 +473,10 @@ module _ (f : Fields) where
 
 -- ---- ids
 
-found : (s : List ℕ) (base len n id : ℕ) → seen s base len n id ≡ true → Found (λ i. fieldAt s (base + len * i + 22) 32) n id
+found : (s : List ℕ) (base len n id : ℕ) → seen s base len n id ≡ true → Found (λ i. read (from s (base + len * i)) (first 32)) n id
 unfolding seen
 found s base len n id h =
-    let (k, l, q) = any-some (λ i. eqb (fieldAt s (base + len * i + 22) 32) id) n h in (k, l, eqb-true (fieldAt s (base + len * k + 22) 32) id q)
+    let (k, l, q) = any-some (λ i. eqb (read (from s (base + len * i)) (first 32)) id) n h in (k, l, eqb-true (read (from s (base + len * k)) (first 32)) id q)
 
 -- ids that were fresh, each of those before it, are distinct
 distinct : (ids : ℕ → ℕ) (n : ℕ) → ((i : ℕ) → i < n → any (λ k. eqb (ids k) (ids i)) i ≡ false) → Distinct ids n
@@ -579,7 +554,7 @@ module _ (s : List ℕ) (c : Counts) (h : Records s c) where
       let at = carAt c i in
       car-facts (from s at) s (counts (c .policies) (c .stops) (c .lines) i 0 0 0) (body-at (h .cars i l) at (omega arith))
 
-  the-aboard : (i : ℕ) → i < c .aboards → hasCar s c (from s (aboardAt c i) 22 32) ≡ true
+  the-aboard : (i : ℕ) → i < c .aboards → hasCar s c (read (from s (aboardAt c i)) aboardCar) ≡ true
   the-aboard i l =
       let at = aboardAt c i in
       aboard-car (from s at) s (counts (c .policies) (c .stops) (c .lines) (c .cars) i 0 0) (body-at (h .aboards i l) at (omega arith))
@@ -598,16 +573,16 @@ module _ (s : List ℕ) (c : Counts) (h : Records s c) where
       (body-at (h .demands i l) at (omega arith))
 
   abbrev stop-ids : ℕ → ℕ
-  stop-ids j = fieldAt s (stopAt c j + 22) 32
+  stop-ids j = read (from s (stopAt c j)) stopId
 
   abbrev line-ids : ℕ → ℕ
-  line-ids i = fieldAt s (lineAt c i + 22) 32
+  line-ids i = read (from s (lineAt c i)) lineId
 
   abbrev car-ids : ℕ → ℕ
-  car-ids i = fieldAt s (carAt c i + 22) 32
+  car-ids i = read (from s (carAt c i)) carId
 
   abbrev demand-ids : ℕ → ℕ
-  demand-ids i = fieldAt s (demandAt c i + 22) 32
+  demand-ids i = read (from s (demandAt c i)) demandStop
 
   stops-rise : (i : ℕ) → suc i < c .stops → stop-ids i < stop-ids (suc i)
   unfolding lastStop
@@ -659,11 +634,11 @@ module _ (s : List ℕ) (c : Counts) (h : Records s c) where
       let f = the-car i l in
       record {
         id = f .id;
-        line = found s (linesFrom c) (recordLength kind.Line) (c .lines) (g 54 32) (f .line);
-        phase = λ q. not-both (ap (λ k. unusedStop k (not (eqb (g 89 32) 0))) q) (f .phase);
+        line = found s (linesFrom c) (recordLength kind.Line) (c .lines) (read g carLine) (f .line);
+        phase = λ q. not-both (ap (λ k. eqb (phaseCode k) 7) q) (f .phase);
         moving = λ q.
             above-zero (movingTarget (phaseAt g))
-            (ap (λ x. eqb x 0) (moving-target (g 86 3) (g 89 32) q) ∙ sym (ap (λ b. b && eqb (g 89 32) 0) q) ∙ f .moving);
+            (ap (λ x. eqb x 0) (moving-target (read g carPhase) (read g carStop) q) ∙ sym (ap (λ b. b && eqb (read g carStop) 0) q) ∙ f .moving);
         position = f .position;
         speed = f .speed;
         capacity = f .capacity;
@@ -680,12 +655,12 @@ module _ (s : List ℕ) (c : Counts) (h : Records s c) where
   sound-waiting r l =
       let f = the-waiting r l in
       record {
-        stop = found s (stopsFrom c) (recordLength kind.Stop) (c .stops) (from s (waitingAt c r) 22 32) (f .stop);
+        stop = found s (stopsFrom c) (recordLength kind.Stop) (c .stops) (read (from s (waitingAt c r)) waitingStop) (f .stop);
         weight = f .weight;
         wait = f .wait;
       }
 
-  sound-sheet : SoundPolicy (policyOf (from s 24)) → SoundSheet (sheetOf s c)
+  sound-sheet : SoundPolicy (policyOf (from s headLength)) → SoundSheet (sheetOf s c)
   unfolding sheetOf stopOf lineOf carOf aboardOf waitingOf demandOf
   sound-sheet p =
       let m = small in
@@ -703,22 +678,30 @@ module _ (s : List ℕ) (c : Counts) (h : Records s c) where
         line-ids = distinct-lines;
         car = sound-car;
         car-ids = distinct-cars;
-        aboard = λ r l. found s (carsFrom c) (recordLength kind.Car) (c .cars) (from s (aboardAt c r) 22 32) (the-aboard r l);
+        aboard = λ r l. found s (carsFrom c) (recordLength kind.Car) (c .cars) (read (from s (aboardAt c r)) aboardCar) (the-aboard r l);
         waiting = sound-waiting;
         demand = demand-found;
         demand-stops = distinct-demands;
       }
 
+-- the bytes end with the byte where the last record ends
+tail-length : (s : List ℕ) (c : Counts) → tailFits s c ≡ true → length s ≡ (endOf c + 7) / 8
+unfolding tailFits
+tail-length s c h =
+    let a = ltb-false (8 * length s) (endOf c) (not-true (pastEnd s (endOf c)) (both-left (not (pastEnd s (endOf c))) _ h)) in
+    let b = ltb-true (8 * length s - endOf c) 8 (both-left (ltb (8 * length s - endOf c) 8) _ (both-right (not (pastEnd s (endOf c))) _ h)) in
+    omega arith
+
 pub accepted : (s : List ℕ) (c : Counts) → verdict s ≡ Accepted c → Sound s c
-unfolding limitOf tailFits
+unfolding limitOf
 accepted s c e =
     let w = whole s c e in
-    let p = sound-policy (from s 24) s (counts 0 0 0 0 0 0 0) (w .records .policies 0 (w .first) .body) in
+    let p = sound-policy (from s headLength) s (counts 0 0 0 0 0 0 0) (w .records .policies 0 (w .first) .body) in
     let m = small s c (w .records) in
     record {
       small = m;
       one-policy = let f = w .first in let g = m .policies in omega arith;
       limit = p .1;
-      whole = eqb-true (length s) ((endOf c + 7) / 8) (both-left _ _ (w .tail));
+      whole = tail-length s c (w .tail);
       sheet = sound-sheet s c (w .records) (p .0);
     }

@@ -18,26 +18,26 @@ use Rattle.components.specs.declared.Kind.the-variants.{Policy, Stop, Line, Car
 use Rattle.components.specs.declared.Strategy.{Strategy}
 use Rattle.components.specs.declared.Strategy.the-variants.{Etd, Rsr, Scan}
 use Rattle.components.specs.declared.Strategy.the-variants as strategy
-use Rattle.components.specs.Codes.{kindOf, strategyOf}
+use Rattle.components.specs.Codes.{kindOf, strategyOf, strategyCode}
 use Rattle.components.specs.declared.Kind.the-variants as kind
 use Rattle.layout.specs.declared.Counts.{Counts}
 use Rattle.layout.specs.declared.Reading.{Reading}
 use Rattle.layout.specs.declared.Reading.the-variants.{Refused, Accepted}
-use Rattle.layout.specs.Offsets.{stopAt, recordLength, none, next, endOf, isFull, stopsFrom, linesFrom, carsFrom, demandsFrom}
-use Rattle.layout.specs.Table.{policyStrategy, lineId, carId, carLine, aboardCar, waitingStop, demandStop}
+use Rattle.layout.specs.Offsets.{headLength, stopAt, recordLength, none, next, endOf, stopsFrom, linesFrom, carsFrom, demandsFrom, bodyFrom}
+use Rattle.layout.specs.Table.{policyStrategy, lineId, carId, carLine, aboardCar, waitingStop, demandStop, first, stopId}
 use Rattle.layout.specs.Records.{Fields, from, double, read}
-use Rattle.layout.specs.Refusals.{kindAt, lengthAt, seen, hasStop, hasLine, hasCar, hasDemand, lastStop, isUnknown, unusedWeights, loadWeighed, refusal2, refusal5, refusal6, refusal8Policy, refusal11Policy, refusal12, refusal15, refusal9Stop, refusal11Stop, refusal9Line, refusal10Line, refusal8Car, refusal9Car, refusal10Car, refusal11Car, refusal13, refusal8Aboard, refusal9Aboard, refusal10Aboard, refusal8Waiting, refusal9Waiting, refusal10Waiting, refusal11Waiting, refusal14, refusal9Demand, refusal10Demand}
-use Rattle.layout.specs.Verdict.{pick, policyRefusal, stopRefusal, lineRefusal, carRefusal, aboardRefusal, waitingRefusal, demandRefusal, bodyRefusal, recordRefusal, tailFits, tailVerdict, recordsVerdict, verdict}
+use Rattle.layout.specs.Refusals.{recordCount, kindAt, lengthAt, refusal2Head, refusal3, refusal6Empty, refusal16, tailFits, strategyAt, refusal7, seen, hasStop, hasLine, hasCar, hasDemand, lastStop, refusal4, unusedWeights, loadWeighed, refusal2, refusal5, refusal6, refusal8Policy, refusal11Policy, refusal12, refusal15, refusal9Stop, refusal11Stop, refusal9Line, refusal10Line, refusal8Car, refusal9Car, refusal10Car, refusal11Car, refusal13, refusal8Aboard, refusal9Aboard, refusal10Aboard, refusal8Waiting, refusal9Waiting, refusal10Waiting, refusal11Waiting, refusal14, refusal9Demand, refusal10Demand}
+use Rattle.layout.specs.Verdict.{pick, bodyRefusal, recordRefusal, tailVerdict, recordsVerdict, verdict, firstOf}
 use Rattle.layout.specs.VerdictLaws.{clean}
 use Rattle.accepted.specs.Accepted.{Records, one-more, small, few-demands, no-records}
 
--- ---- a record is read within its 737 bits
+-- ---- a record is read within the bits of the longest, a car
 
 abbrev clip : Fields → Fields
-clip f o w = cond (leb (o + w) 737) (f o w) 0
+clip f o w = cond (leb (o + w) (recordLength kind.Car)) (f o w) 0
 
-clip-same : (f g : Fields) → ((o w : ℕ) → o + w ≤ 737 → f o w ≡ g o w) → clip f ≡ clip g
-clip-same f g h = fun-ext λ o. fun-ext λ w. by-test (leb (o + w) 737) (f o w) (g o w) (λ e. h o w (leb-true (o + w) 737 e))
+clip-same : (f g : Fields) → ((o w : ℕ) → o + w ≤ recordLength kind.Car → f o w ≡ g o w) → clip f ≡ clip g
+clip-same f g h = fun-ext λ o. fun-ext λ w. by-test (leb (o + w) (recordLength kind.Car)) (f o w) (g o w) (λ e. h o w (leb-true (o + w) (recordLength kind.Car) e))
   where
     by-test : (b : Bool) (x y : ℕ) → (b ≡ true → x ≡ y) → cond b x 0 ≡ cond b y 0
     by-test true x y h = h refl
@@ -56,34 +56,34 @@ module _ (s : List ℕ) (c : Counts) (f : Fields) where
   load-clip Scan = refl
   load-clip strategy.Unknown = refl
 
-  policy-clip : policyRefusal s c f ≡ policyRefusal s c (clip f)
-  unfolding policyRefusal refusal8Policy refusal11Policy refusal12 refusal15
+  policy-clip : bodyRefusal s c kind.Policy f ≡ bodyRefusal s c kind.Policy (clip f)
+  unfolding firstOf refusal8Policy refusal11Policy refusal12 refusal15
   policy-clip =
-      ap₂ (λ (a b : Bool). pick a 8 (pick (refusal11Policy f) 11 (pick (refusal12 f) 12 (pick b 15 0))))
-      (unused-clip (strategyOf (read f policyStrategy))) (load-clip (strategyOf (read f policyStrategy)))
+      ap₂ (λ (a b : Bool). pick (eqb (strategyCode (strategyAt f)) 3 || a) 8 (pick (refusal11Policy f) 11 (pick (refusal12 f) 12 (pick b 15 0))))
+      (unused-clip (strategyAt f)) (load-clip (strategyAt f))
 
-  stop-clip : stopRefusal s c f ≡ stopRefusal s c (clip f)
-  unfolding stopRefusal refusal9Stop refusal11Stop
+  stop-clip : bodyRefusal s c kind.Stop f ≡ bodyRefusal s c kind.Stop (clip f)
+  unfolding firstOf refusal9Stop refusal11Stop
   stop-clip = refl
 
-  line-clip : lineRefusal s c f ≡ lineRefusal s c (clip f)
-  unfolding lineRefusal refusal9Line refusal10Line
+  line-clip : bodyRefusal s c kind.Line f ≡ bodyRefusal s c kind.Line (clip f)
+  unfolding firstOf refusal9Line refusal10Line
   line-clip = refl
 
-  car-clip : carRefusal s c f ≡ carRefusal s c (clip f)
-  unfolding carRefusal refusal8Car refusal9Car refusal10Car refusal11Car refusal13
+  car-clip : bodyRefusal s c kind.Car f ≡ bodyRefusal s c kind.Car (clip f)
+  unfolding firstOf refusal8Car refusal9Car refusal10Car refusal11Car refusal13
   car-clip = refl
 
-  aboard-clip : aboardRefusal s c f ≡ aboardRefusal s c (clip f)
-  unfolding aboardRefusal refusal8Aboard refusal9Aboard refusal10Aboard
+  aboard-clip : bodyRefusal s c kind.Aboard f ≡ bodyRefusal s c kind.Aboard (clip f)
+  unfolding firstOf refusal8Aboard refusal9Aboard refusal10Aboard
   aboard-clip = refl
 
-  waiting-clip : waitingRefusal s c f ≡ waitingRefusal s c (clip f)
-  unfolding waitingRefusal refusal8Waiting refusal9Waiting refusal10Waiting refusal11Waiting refusal14
+  waiting-clip : bodyRefusal s c kind.Waiting f ≡ bodyRefusal s c kind.Waiting (clip f)
+  unfolding firstOf refusal8Waiting refusal9Waiting refusal10Waiting refusal11Waiting refusal14
   waiting-clip = refl
 
-  demand-clip : demandRefusal s c f ≡ demandRefusal s c (clip f)
-  unfolding demandRefusal refusal9Demand refusal10Demand
+  demand-clip : bodyRefusal s c kind.Demand f ≡ bodyRefusal s c kind.Demand (clip f)
+  unfolding firstOf refusal9Demand refusal10Demand
   demand-clip = refl
 
   body-clip : (k : Kind) → bodyRefusal s c k f ≡ bodyRefusal s c k (clip f)
@@ -108,11 +108,14 @@ module _ (s : List ℕ) (long : 65536 < length s) where
   field-same : (at w : ℕ) → at + w ≤ 524288 → fieldAt s at w ≡ fieldAt start at w
   field-same at w h = sym (field-take s 65536 at w (omega arith))
 
-  seen-same : (base len n id : ℕ) → ((i : ℕ) → i < n → base + len * i + 22 + 32 ≤ 524288) → seen s base len n id ≡ seen start base len n id
+  count-same : recordCount s ≡ recordCount start
+  count-same = field-same (0 + 8) 16 (omega arith)
+
+  seen-same : (base len n id : ℕ) → ((i : ℕ) → i < n → base + len * i + bodyFrom + 32 ≤ 524288) → seen s base len n id ≡ seen start base len n id
   unfolding seen
   seen-same base len n id h =
-      any-cong (λ i. eqb (fieldAt s (base + len * i + 22) 32) id) (λ i. eqb (fieldAt start (base + len * i + 22) 32) id) n
-      (λ i l. ap (λ x. eqb x id) (field-same (base + len * i + 22) 32 (h i l)))
+      any-cong (λ i. eqb (read (from s (base + len * i)) (first 32)) id) (λ i. eqb (read (from start (base + len * i)) (first 32)) id) n
+      (λ i l. ap (λ x. eqb x id) (field-same (base + len * i + bodyFrom) 32 (h i l)))
 
   -- what was read so far ends by bit 208,658
   module _ (c : Counts) (near : endOf c ≤ 208658) where
@@ -130,35 +133,35 @@ module _ (s : List ℕ) (long : 65536 < length s) where
 
     last-same : lastStop s c ≡ lastStop start c
     unfolding lastStop
-    last-same = ap (λ x. cond (eqb (c .stops) 0) 0 x) (field-same (stopAt c (c .stops - 1) + 22) 32 (omega arith))
+    last-same = ap (λ x. cond (eqb (c .stops) 0) 0 x) (field-same (stopAt c (c .stops - 1) + stopId .start) 32 (omega arith))
 
     module _ (f : Fields) where
-      policy-look : policyRefusal s c f ≡ policyRefusal start c f
-      unfolding policyRefusal
+      policy-look : bodyRefusal s c kind.Policy f ≡ bodyRefusal start c kind.Policy f
+      unfolding firstOf
       policy-look = refl
 
-      stop-look : stopRefusal s c f ≡ stopRefusal start c f
-      unfolding stopRefusal refusal9Stop
+      stop-look : bodyRefusal s c kind.Stop f ≡ bodyRefusal start c kind.Stop f
+      unfolding firstOf refusal9Stop
       stop-look = rw last-same
 
-      line-look : lineRefusal s c f ≡ lineRefusal start c f
-      unfolding lineRefusal refusal9Line
+      line-look : bodyRefusal s c kind.Line f ≡ bodyRefusal start c kind.Line f
+      unfolding firstOf refusal9Line
       line-look = rw (lines-same (read f lineId))
 
-      car-look : carRefusal s c f ≡ carRefusal start c f
-      unfolding carRefusal refusal9Car refusal10Car
+      car-look : bodyRefusal s c kind.Car f ≡ bodyRefusal start c kind.Car f
+      unfolding firstOf refusal9Car refusal10Car
       car-look = rw (cars-same (read f carId), lines-same (read f carLine))
 
-      aboard-look : aboardRefusal s c f ≡ aboardRefusal start c f
-      unfolding aboardRefusal refusal10Aboard
+      aboard-look : bodyRefusal s c kind.Aboard f ≡ bodyRefusal start c kind.Aboard f
+      unfolding firstOf refusal10Aboard
       aboard-look = rw (cars-same (read f aboardCar))
 
-      waiting-look : waitingRefusal s c f ≡ waitingRefusal start c f
-      unfolding waitingRefusal refusal10Waiting
+      waiting-look : bodyRefusal s c kind.Waiting f ≡ bodyRefusal start c kind.Waiting f
+      unfolding firstOf refusal10Waiting
       waiting-look = rw (stops-same (read f waitingStop))
 
-      demand-look : demandRefusal s c f ≡ demandRefusal start c f
-      unfolding demandRefusal refusal9Demand refusal10Demand
+      demand-look : bodyRefusal s c kind.Demand f ≡ bodyRefusal start c kind.Demand f
+      unfolding firstOf refusal9Demand refusal10Demand
       demand-look = rw (demands-same (read f demandStop), stops-same (read f demandStop))
 
       body-look : (k : Kind) → bodyRefusal s c k f ≡ bodyRefusal start c k f
@@ -194,14 +197,20 @@ module _ (s : List ℕ) (long : 65536 < length s) where
         ∙ sym (le-ltb (8 * length start) (endOf c + 22 + lengthAt start c) (omega arith))
 
     record-same : recordRefusal s c ≡ recordRefusal start c
-    unfolding recordRefusal
+    unfolding recordRefusal firstOf
     record-same = rw (end-same, length-same, kind-same, body-same (kindOf (kindAt start c)))
 
     tail-same : tailVerdict s c ≡ tailVerdict start c
-    unfolding tailVerdict tailFits
+    unfolding tailVerdict firstOf refusal6Empty refusal16 tailFits
     tail-same =
         let e = start-length in
-        rw (ne-eqb (length s) ((endOf c + 7) / 8) (λ q. absurd (omega arith)), ne-eqb (length start) ((endOf c + 7) / 8) (λ q. absurd (omega arith)))
+        rw (
+          count-same,
+          le-ltb (8 * length s) (endOf c) (omega arith),
+          le-ltb (8 * length start) (endOf c) (omega arith),
+          le-ltb (8 * length s - endOf c) 8 (omega arith),
+          le-ltb (8 * length start - endOf c) 8 (omega arith),
+        )
 
   ends-near : (c : Counts) → Records s c → endOf c ≤ 208658
   ends-near c h = let m = small s c h in let d = few-demands s c h in omega arith
@@ -219,15 +228,15 @@ module _ (s : List ℕ) (long : 65536 < length s) where
       (which (eqb (recordRefusal s c) 0))
 
   long-same : verdict s ≡ verdict start
-  unfolding verdict
+  unfolding verdict firstOf refusal2Head refusal3
   long-same =
       let e = start-length in
       rw (
-        le-ltb (length s) 3 (omega arith),
-        le-ltb (length start) 3 (omega arith),
-        field-same 0 8 (omega arith),
-        field-same 8 16 (omega arith),
-        records-same (fieldAt start 8 16) none (no-records s),
+        le-ltb (8 * length s) headLength (omega arith),
+        le-ltb (8 * length start) headLength (omega arith),
+        field-same (0 + 0) 8 (omega arith),
+        count-same,
+        records-same (recordCount start) none (no-records s),
       )
 
 pub first-bytes : (s : List ℕ) → verdict s ≡ verdict (take 65536 s)

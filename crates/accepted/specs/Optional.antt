@@ -8,13 +8,15 @@ use native.Mathlib.Omega.{arith}
 use lib.Dec.{eqb}
 use Rattle.laws.specs.Bools.{never, neither-left, neither-right}
 use Rattle.components.specs.Cars.{isMoving}
+use Rattle.components.specs.declared.Kind.the-variants as kind
+use Rattle.components.specs.Codes.{phaseCode}
 use Rattle.layout.specs.declared.Counts.{Counts}
 use Rattle.layout.specs.declared.Reading.the-variants.{Accepted}
 use Rattle.layout.specs.Offsets.{carAt, aboardAt, waitingAt, carsFrom, aboardsFrom, waitsFrom}
 use Rattle.layout.specs.Table.{carId, carLine, carStop, carHasTarget, carTarget, aboardCar, aboardHasDestination, aboardDestination, waitingStop, waitingHasLine, waitingLine, waitingHasDestination, waitingDestination}
 use Rattle.layout.specs.Records.{Fields, from, flag, carOf, aboardOf, waitingOf, sheetOf, read}
 use Rattle.layout.specs.Refusals.{absentSet, presentZero, unusedStop, phaseAt, refusal8Car, refusal9Car, refusal8Aboard, refusal9Aboard, refusal8Waiting, refusal9Waiting}
-use Rattle.layout.specs.Verdict.{carRefusal, aboardRefusal, waitingRefusal, verdict}
+use Rattle.layout.specs.Verdict.{verdict, firstOf, bodyRefusal}
 use Rattle.layout.specs.VerdictLaws.{pick-none}
 use Rattle.accepted.specs.Accepted.{whole, body-at}
 
@@ -26,25 +28,26 @@ exact false true a b = refl
 exact false false a b = never (sym a)
 
 module _ (s : List ℕ) (c : Counts) (f : Fields) where
-  target-exact : carRefusal s c f ≡ 0 → flag f carHasTarget ≡ not (eqb (read f carTarget) 0)
-  unfolding carRefusal refusal8Car refusal9Car
+  target-exact : bodyRefusal s c kind.Car f ≡ 0 → flag f carHasTarget ≡ not (eqb (read f carTarget) 0)
+  unfolding firstOf refusal8Car refusal9Car
   target-exact e =
       let a = pick-none (refusal8Car f) 8 _ (omega arith) e in
       let b = pick-none (refusal9Car s c f) 9 _ (omega arith) (a .1) in
-      let g = neither-right (unusedStop (phaseAt f) (not (eqb (read f carStop) 0))) _ (a .0) in
+      let p = neither-right (eqb (phaseCode (phaseAt f)) 7) _ (a .0) in
+      let g = neither-right (unusedStop (phaseAt f) (not (eqb (read f carStop) 0))) _ p in
       let h = neither-right (eqb (read f carLine) 0) _ (neither-right (eqb (read f carId) 0) _ (b .0)) in
       let k = neither-right (isMoving (phaseAt f) && eqb (read f carStop) 0) _ h in
       exact (flag f carHasTarget) (eqb (read f carTarget) 0) (neither-left (absentSet f carHasTarget carTarget) _ g) (neither-left (presentZero f carHasTarget carTarget) _ k)
 
-  aboard-exact : aboardRefusal s c f ≡ 0 → flag f aboardHasDestination ≡ not (eqb (read f aboardDestination) 0)
-  unfolding aboardRefusal refusal8Aboard refusal9Aboard
+  aboard-exact : bodyRefusal s c kind.Aboard f ≡ 0 → flag f aboardHasDestination ≡ not (eqb (read f aboardDestination) 0)
+  unfolding firstOf refusal8Aboard refusal9Aboard
   aboard-exact e =
       let a = pick-none (refusal8Aboard f) 8 _ (omega arith) e in
       let b = pick-none (refusal9Aboard f) 9 _ (omega arith) (a .1) in
       exact (flag f aboardHasDestination) (eqb (read f aboardDestination) 0) (a .0) (neither-right (eqb (read f aboardCar) 0) _ (b .0))
 
-  waiting-exact : waitingRefusal s c f ≡ 0 → (flag f waitingHasLine ≡ not (eqb (read f waitingLine) 0)) × (flag f waitingHasDestination ≡ not (eqb (read f waitingDestination) 0))
-  unfolding waitingRefusal refusal8Waiting refusal9Waiting
+  waiting-exact : bodyRefusal s c kind.Waiting f ≡ 0 → (flag f waitingHasLine ≡ not (eqb (read f waitingLine) 0)) × (flag f waitingHasDestination ≡ not (eqb (read f waitingDestination) 0))
+  unfolding firstOf refusal8Waiting refusal9Waiting
   waiting-exact e =
       let a = pick-none (refusal8Waiting f) 8 _ (omega arith) e in
       let b = pick-none (refusal9Waiting f) 9 _ (omega arith) (a .1) in

@@ -10,9 +10,10 @@ use Rattle.bits.specs.Field.{fieldAt, field-ext}
 use Rattle.components.specs.Codes.{kindOf}
 use Rattle.layout.specs.declared.Counts.{Counts}
 use Rattle.layout.specs.declared.Reading.the-variants.{Accepted}
-use Rattle.layout.specs.Offsets.{stopAt, lineAt, carAt, aboardAt, waitingAt, demandAt, none, next, endOf, stopsFrom, linesFrom, carsFrom, aboardsFrom, waitsFrom, demandsFrom}
+use Rattle.layout.specs.Table.{headCount, policyStrategy, policyRate, policyTraffic, policyW0, policyW1, policyW2, policyW3, policyW4, policyW5}
+use Rattle.layout.specs.Offsets.{headLength, stopAt, lineAt, carAt, aboardAt, waitingAt, demandAt, none, next, endOf, stopsFrom, linesFrom, carsFrom, aboardsFrom, waitsFrom, demandsFrom}
 use Rattle.layout.specs.Records.{from, policyOf, stopOf, lineOf, carOf, aboardOf, waitingOf, demandOf, sheetOf}
-use Rattle.layout.specs.Refusals.{kindAt}
+use Rattle.layout.specs.Refusals.{recordCount, kindAt}
 use Rattle.layout.specs.Verdict.{recordsVerdict, verdict}
 use Rattle.accepted.specs.Accepted.{on, headed, at-end, accepted}
 
@@ -49,22 +50,22 @@ module _ (s t : List ℕ) (agree : AgreeButLimit s t) where
 
   pub counts-same : (c d : Counts) → verdict s ≡ Accepted c → verdict t ≡ Accepted d → c ≡ d
   counts-same c d p q =
-      counts-from (fieldAt s 8 16) none c d (headed s c p .rest)
-      (subst (λ n. recordsVerdict t n none ≡ Accepted d) (sym (early 8 16 (omega arith))) (headed t d q .rest))
+      counts-from (recordCount s) none c d (headed s c p .rest)
+      (subst (λ n. recordsVerdict t n none ≡ Accepted d) (sym (early (headCount .start) (headCount .width) (omega arith))) (headed t d q .rest))
 
-  policy-same : policyOf (from s 24) ≡ policyOf (from t 24)
+  policy-same : policyOf (from s headLength) ≡ policyOf (from t headLength)
   unfolding policyOf
   policy-same =
       cc (
-        early 46 2 (omega arith),
-        late 64 64 (omega arith),
-        late 128 2 (omega arith),
-        late 130 64 (omega arith),
-        late 194 64 (omega arith),
-        late 258 64 (omega arith),
-        late 322 64 (omega arith),
-        late 386 64 (omega arith),
-        late 450 64 (omega arith),
+        early (headLength + policyStrategy .start) (policyStrategy .width) (omega arith),
+        late (headLength + policyRate .start) (policyRate .width) (omega arith),
+        late (headLength + policyTraffic .start) (policyTraffic .width) (omega arith),
+        late (headLength + policyW0 .start) (policyW0 .width) (omega arith),
+        late (headLength + policyW1 .start) (policyW1 .width) (omega arith),
+        late (headLength + policyW2 .start) (policyW2 .width) (omega arith),
+        late (headLength + policyW3 .start) (policyW3 .width) (omega arith),
+        late (headLength + policyW4 .start) (policyW4 .width) (omega arith),
+        late (headLength + policyW5 .start) (policyW5 .width) (omega arith),
       )
 
   by-counts : (c : Counts) → c .policies ≡ 1 → sheetOf s c ≡ sheetOf t c

@@ -1,8 +1,13 @@
 -- Document 01's codes of each enum, and the enum of each code. Assumes nothing.
-use mathlib.Core.Path.{_≡_, refl}
+use Prim.Native.Nat.{ℕ, suc, _≤_}
+use mathlib.Core.Path.{_≡_, refl, ap, _∙_}
 use mathlib.Core.Bool.{Bool, true, false, cond}
-use Prim.Native.Nat.{ℕ, _<_}
+use mathlib.Core.Logic.{⊎-elim}
+use native.Mathlib.Omega.{arith}
 use lib.Dec.{eqb}
+use borrow.Author.Tests.{eqb-true}
+use Rattle.laws.specs.Bools.{which}
+use Rattle.laws.specs.Folds.{every, every-at}
 use Rattle.components.specs.declared.Kind.{Kind}
 use Rattle.components.specs.declared.Kind.the-variants as kind
 use Rattle.components.specs.declared.Strategy.{Strategy}
@@ -18,7 +23,7 @@ use Rattle.components.specs.declared.Mode.the-variants as mode
 
 -- ---- the enum of a code; the last case takes what document 01 gives no meaning
 
--- "1 policy, 2 stop, 3 line, 4 car, 5 aboard, 6 waiting, 7 demand"
+-- the table's column "Kind"
 unfoldable pub kindOf : ℕ → Kind
 kindOf n =
     cond (eqb n 1) kind.Policy
@@ -57,8 +62,9 @@ directionOf b = cond b direction.Down direction.Up
 unfoldable pub modeOf : Bool → Mode
 modeOf b = cond b mode.Lenient mode.Strict
 
--- ---- the code of each case
+-- ---- document 01's number of each case
 
+-- 0 is no kind's
 abbrev pub kindCode : Kind → ℕ
 kindCode kind.Policy = 1
 kindCode kind.Stop = 2
@@ -69,6 +75,7 @@ kindCode kind.Waiting = 6
 kindCode kind.Demand = 7
 kindCode kind.Unknown = 0
 
+-- "strategy 3" is refused (8)
 abbrev pub strategyCode : Strategy → ℕ
 strategyCode strategy.Etd = 0
 strategyCode strategy.Rsr = 1
@@ -81,6 +88,7 @@ trafficCode traffic.UpPeak = 1
 trafficCode traffic.InterFloor = 2
 trafficCode traffic.DownPeak = 3
 
+-- "phase 7" is refused (8)
 abbrev pub phaseCode : Phase → ℕ
 phaseCode phase.Idle = 0
 phaseCode (phase.MovingToStop s) = 1
@@ -99,29 +107,50 @@ abbrev pub modeCode : Mode → ℕ
 modeCode mode.Strict = 0
 modeCode mode.Lenient = 1
 
--- ---- a code that is given back is the one that was read
+-- ---- both ways
 
-pub kind-code : (k : Kind) → kindOf (kindCode k) ≡ k
+-- x is the case of the code n, and n, where it is at most `most`, is the number of x
+pub record HasCode {A : Type 0} (of : ℕ → A) (code : A → ℕ) (most n : ℕ) (x : A) : Type 0 where
+  pub is : x ≡ of n
+  pub number : n ≤ most → code x ≡ n
+
+pub has-code : {A : Type 0} {of : ℕ → A} {code : A → ℕ} {most n : ℕ} {x : A} → every (λ m. eqb (code (of m)) m) (suc most) ≡ true → x ≡ of n
+    → HasCode of code most n x
+has-code {A} {of} {code} {most} {n} {x} all e = record {
+  is = e;
+  number = λ l. ap code e ∙ eqb-true (code (of n)) n (every-at (λ m. eqb (code (of m)) m) (suc most) n all (omega arith));
+}
+
+pub kind-codes : every (λ m. eqb (kindCode (kindOf m)) m) 8 ≡ true
+unfolding every kindOf
+kind-codes = refl
+
+pub strategy-codes : every (λ m. eqb (strategyCode (strategyOf m)) m) 4 ≡ true
+unfolding every strategyOf
+strategy-codes = refl
+
+pub traffic-codes : every (λ m. eqb (trafficCode (trafficOf m)) m) 4 ≡ true
+unfolding every trafficOf
+traffic-codes = refl
+
+pub phase-codes : (stop : ℕ) → every (λ m. eqb (phaseCode (phaseOf m stop)) m) 8 ≡ true
+unfolding every phaseOf
+phase-codes stop = refl
+
+-- ---- what holds of the kind of a code
+
+pub by-code : {A : Type 0} (P : A → Type 0) (n m : ℕ) (k rest : A) → (n ≡ m → P k) → P rest → P (cond (eqb n m) k rest)
+by-code P n m k rest here there =
+    ⊎-elim (λ (e : eqb n m ≡ true). rw e (here (eqb-true n m e))) (λ (e : eqb n m ≡ false). rw e there) (which (eqb n m))
+
+pub by-kind : (P : Kind → Type 0) (n : ℕ) → (n ≡ 1 → P kind.Policy) → (n ≡ 2 → P kind.Stop) → (n ≡ 3 → P kind.Line) → (n ≡ 4 → P kind.Car)
+    → (n ≡ 5 → P kind.Aboard) → (n ≡ 6 → P kind.Waiting) → (n ≡ 7 → P kind.Demand) → P kind.Unknown → P (kindOf n)
 unfolding kindOf
-kind-code kind.Policy = refl
-kind-code kind.Stop = refl
-kind-code kind.Line = refl
-kind-code kind.Car = refl
-kind-code kind.Aboard = refl
-kind-code kind.Waiting = refl
-kind-code kind.Demand = refl
-kind-code kind.Unknown = refl
-
-pub strategy-code : (s : Strategy) → strategyOf (strategyCode s) ≡ s
-unfolding strategyOf
-strategy-code strategy.Etd = refl
-strategy-code strategy.Rsr = refl
-strategy-code strategy.Scan = refl
-strategy-code strategy.Unknown = refl
-
-pub traffic-code : (t : Traffic) → trafficOf (trafficCode t) ≡ t
-unfolding trafficOf
-traffic-code traffic.Idle = refl
-traffic-code traffic.UpPeak = refl
-traffic-code traffic.InterFloor = refl
-traffic-code traffic.DownPeak = refl
+by-kind P n p s l k a w d u =
+    by-code P n 1 kind.Policy _ p
+    (by-code P n 2 kind.Stop _ s
+    (by-code P n 3 kind.Line _ l
+    (by-code P n 4 kind.Car _ k
+    (by-code P n 5 kind.Aboard _ a
+    (by-code P n 6 kind.Waiting _ w
+    (by-code P n 7 kind.Demand _ d u))))))

@@ -1,7 +1,8 @@
 // The records of a sheet, by value: of elevator.rs, rider.rs, route.rs, stop.rs and line.rs the fields that the sheet holds. A code becomes
 // an enum by a match whose last range takes the codes that stand for nothing. An id of 0 is none: no accepted sheet has a record with id 0.
 ghost use mathlib.Core.Path.{_≡_};
-ghost use Rattle.components.specs.Codes.{strategyOf, trafficOf, phaseOf, kindOf, directionOf, modeOf};
+ghost use Rattle.components.specs.Codes.{HasCode, kindOf, kindCode, strategyOf, strategyCode, trafficOf, trafficCode, phaseOf, phaseCode, directionOf, directionCode, modeOf, modeCode};
+ghost use Rattle.laws.specs.Bools.{bit};
 ghost use Rattle.components.specs.Cars.{movingTarget, isMoving, isIdle, servicing, remaining};
 
 // The kinds of records.
@@ -144,7 +145,7 @@ pub struct Demand {
 
 impl Kind {
     pub fn of_code(code: u64) -> Self
-        ensures { λ r. ⌜ r ≡ kindOf code ⌝ }
+        ensures { λ r. ⌜ HasCode kindOf kindCode 7 code r ⌝ }
     {
         match code {
             0 => Kind::Unknown,
@@ -162,7 +163,7 @@ impl Kind {
 
 impl Strategy {
     pub fn of_code(code: u64) -> Self
-        ensures { λ r. ⌜ r ≡ strategyOf code ⌝ }
+        ensures { λ r. ⌜ HasCode strategyOf strategyCode 3 code r ⌝ }
     {
         match code {
             0 => Strategy::Etd,
@@ -175,7 +176,7 @@ impl Strategy {
 
 impl Traffic {
     pub fn of_code(code: u64) -> Self
-        ensures { λ r. ⌜ r ≡ trafficOf code ⌝ }
+        ensures { λ r. ⌜ HasCode trafficOf trafficCode 3 code r ⌝ }
     {
         match code {
             0 => Traffic::Idle,
@@ -189,7 +190,7 @@ impl Traffic {
 impl Phase {
     // The phase of a code, with the id of the stop that a moving phase holds.
     pub fn of_code(code: u64, stop: u32) -> Self
-        ensures { λ r. ⌜ r ≡ phaseOf code stop ⌝ }
+        ensures { λ r. ⌜ HasCode (λ n. phaseOf n stop) phaseCode 7 code r ⌝ }
     {
         match code {
             0 => Phase::Idle,
@@ -268,7 +269,7 @@ impl Phase {
 
 impl Direction {
     pub fn of_bit(down: bool) -> Self
-        ensures { λ r. ⌜ r ≡ directionOf down ⌝ }
+        ensures { λ r. ⌜ (r ≡ directionOf down) × (directionCode r ≡ bit down) ⌝ }
     {
         if down { Direction::Down } else { Direction::Up }
     }
@@ -276,7 +277,7 @@ impl Direction {
 
 impl Mode {
     pub fn of_bit(lenient: bool) -> Self
-        ensures { λ r. ⌜ r ≡ modeOf lenient ⌝ }
+        ensures { λ r. ⌜ (r ≡ modeOf lenient) × (modeCode r ≡ bit lenient) ⌝ }
     {
         if lenient { Mode::Lenient } else { Mode::Strict }
     }

@@ -1,4 +1,5 @@
 // The covered stops of a sheet: its columns, and is_covered for each stop that is asked for.
+ghost use Rattle.components.specs.declared.Kind.the-variants.{Car};
 ghost use mathlib.Core.Path.{_≡_};
 ghost use mathlib.Core.Bool.{_&&_, cond};
 ghost use mathlib.Core.List.{_++_};
@@ -7,7 +8,7 @@ ghost use lib.ListN.{length, getD, drop};
 ghost use Rattle.laws.specs.Tables.{tab};
 ghost use Rattle.mask.specs.Mask.{has, built};
 ghost use Rattle.components.specs.Cars.{servicing, remaining};
-ghost use Rattle.layout.specs.Offsets.{Small, carsFrom};
+ghost use Rattle.layout.specs.Offsets.{Small, carsFrom, recordLength};
 ghost use Rattle.layout.specs.Records.{from, carOf, sheetOf};
 ghost use Rattle.assignment.specs.Pending.{covered};
 ghost use Rattle.coverage.specs.Coverage.{coveredBy};
@@ -15,14 +16,20 @@ ghost use Rattle.covered.specs.Columns.{servedTarget, HoldsIds};
 ghost use Rattle.covered.specs.Same.{coveredIn, HoldsCars};
 use components::Phase;
 use layout::Counts;
+use layout::car;
+use layout::line;
+use layout::waiting;
 
 // The target of a car that serves it, else 0.
 fn target_at(s: &[u8], at: u32) -> u32
     ensures { λ r. ⌜ r ≡ servedTarget (carOf (from (now (s .entry)) at)) ⌝ }
 {
-    let phase = Phase::of_code(bits::field(s, at, 86, 3), bits::field32(s, at, 89));
+    let phase = Phase::of_code(
+        bits::field(s, at, car::PHASE, 3),
+        bits::field32(s, at, car::STOP),
+    );
     if phase.servicing() {
-        bits::field32(s, at, 122)
+        bits::field32(s, at, car::TARGET)
     } else {
         0
     }
@@ -32,27 +39,27 @@ fn target_at(s: &[u8], at: u32) -> u32
 fn room_at(s: &[u8], at: u32) -> f64
     ensures { λ r. ⌜ r ≡ remaining (carOf (from (now (s .entry)) at)) ⌝ }
 {
-    records::double_at(s, at, 287) - records::double_at(s, at, 351)
+    records::double_at(s, at, car::CAPACITY) - records::double_at(s, at, car::LOAD)
 }
 
 fn fill_targets(s: &[u8], base: u32, n: usize, out: &mut [u32])
     requires { ⌜ (base < 2 ^ 31) × (n ≤ 32) × (length (now out) ≡ 32) ⌝ }
-    ensures { λ _. ⌜ (length (now (out .exit)) ≡ length (now (out .entry))) × (now (out .exit) ≡ tab (λ i. servedTarget (carOf (from (now (s .entry)) (base + 737 * i)))) n ++ drop n (now (out .entry))) ⌝ }
+    ensures { λ _. ⌜ (length (now (out .exit)) ≡ length (now (out .entry))) × (now (out .exit) ≡ tab (λ i. servedTarget (carOf (from (now (s .entry)) (base + recordLength Car * i)))) n ++ drop n (now (out .entry))) ⌝ }
 {
     let mut i: usize = 0;
     while i < n {
-        out[i] = target_at(s, base + 737 * (i as u32));
+        out[i] = target_at(s, base + car::BITS * (i as u32));
         i += 1;
     }
 }
 
 fn fill_rooms(s: &[u8], base: u32, n: usize, out: &mut [f64])
     requires { ⌜ (base < 2 ^ 31) × (n ≤ 32) × (length (now out) ≡ 32) ⌝ }
-    ensures { λ _. ⌜ (length (now (out .exit)) ≡ length (now (out .entry))) × (now (out .exit) ≡ tab (λ i. remaining (carOf (from (now (s .entry)) (base + 737 * i)))) n ++ drop n (now (out .entry))) ⌝ }
+    ensures { λ _. ⌜ (length (now (out .exit)) ≡ length (now (out .entry))) × (now (out .exit) ≡ tab (λ i. remaining (carOf (from (now (s .entry)) (base + recordLength Car * i)))) n ++ drop n (now (out .entry))) ⌝ }
 {
     let mut i: usize = 0;
     while i < n {
-        out[i] = room_at(s, base + 737 * (i as u32));
+        out[i] = room_at(s, base + car::BITS * (i as u32));
         i += 1;
     }
 }
@@ -160,9 +167,9 @@ fn covered_waits<'a>(
     let mut weights = [0.0f64; 512];
     let n = c.waits as usize;
     let at = c.waits_from();
-    columns::fill32(s, at, 248, 22, n, &mut stops);
-    columns::fill32(s, at, 248, 55, n, &mut required);
-    columns::fill_doubles(s, at, 248, 120, n, &mut weights);
+    columns::fill32(s, at, waiting::BITS, waiting::STOP, n, &mut stops);
+    columns::fill32(s, at, waiting::BITS, waiting::LINE, n, &mut required);
+    columns::fill_doubles(s, at, waiting::BITS, waiting::WEIGHT, n, &mut weights);
     covered_mask(
         targets,
         lines,
@@ -191,8 +198,15 @@ pub fn covered_stops<'a>(s: &'a [u8], c: Counts, asked: u64, names: &'a [u32]) -
     let n = c.cars as usize;
     let at = c.cars_from();
     fill_targets(s, at, n, &mut targets);
-    columns::fill32(s, at, 737, 54, n, &mut lines);
+    columns::fill32(s, at, car::BITS, car::LINE, n, &mut lines);
     fill_rooms(s, at, n, &mut rooms);
-    columns::fill32(s, c.lines_from(), 118, 22, c.lines as usize, &mut ids);
+    columns::fill32(
+        s,
+        c.lines_from(),
+        line::BITS,
+        line::ID,
+        c.lines as usize,
+        &mut ids,
+    );
     covered_waits(s, c, &targets, &lines, &rooms, &ids, asked, names)
 }

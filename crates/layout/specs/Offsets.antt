@@ -1,10 +1,11 @@
 -- Where records stand. Document 01: "Each record: kind 6 bits, body length in bits 16 bits, body." Every kind has one length and kinds never fall, so
 -- the counts fix where each record starts. Assumes nothing.
 use Prim.Native.Nat.{ℕ, _+_, _*_, _≤_}
-use mathlib.Core.Bool.{Bool, true, false, cond}
-use lib.Dec.{eqb, ltb, leb}
+use mathlib.Core.Bool.{cond}
+use lib.Dec.{ltb}
 use Rattle.components.specs.declared.Kind.{Kind}
 use Rattle.components.specs.declared.Kind.the-variants.{Policy, Stop, Line, Car, Aboard, Waiting, Demand, Unknown}
+use Rattle.components.specs.Codes.{kindCode}
 use Rattle.layout.specs.declared.Counts.{Counts}
 
 -- the column "Bits": the length of a kind's body
@@ -17,17 +18,6 @@ bodyLength Aboard = 65
 bodyLength Waiting = 226
 bodyLength Demand = 49
 bodyLength Unknown = 0
-
--- the column "At most": whether a kind has all the records that it may have; "one a stop" of kind 7 is refusal 9's
-abbrev pub isFull : Counts → Kind → Bool
-isFull c Policy = leb 1 (c .policies)
-isFull c Stop = leb 64 (c .stops)
-isFull c Line = leb 8 (c .lines)
-isFull c Car = leb 32 (c .cars)
-isFull c Aboard = leb 512 (c .aboards)
-isFull c Waiting = leb 512 (c .waits)
-isFull c Demand = false
-isFull c Unknown = false
 
 -- the counts within the table; of demands there is one a stop, but a bound by the record count is all that offsets need
 pub record Small (c : Counts) : Type 0 where
@@ -61,13 +51,21 @@ next c Demand =
     record { policies = c .policies; stops = c .stops; lines = c .lines; cars = c .cars; aboards = c .aboards; waits = c .waits; demands = c .demands + 1 }
 next c Unknown = c
 
--- a record's length: "kind 6 bits, body length in bits 16 bits, body"
-abbrev pub recordLength : Kind → ℕ
-recordLength k = 22 + bodyLength k
+-- "Head: edition 8 bits (1), record count 16 bits."
+abbrev pub headLength : ℕ
+headLength = 24
 
--- where the records of each kind start, after the head's 24 bits
+-- "Each record: kind 6 bits, body length in bits 16 bits, body.": what stands before the body
+abbrev pub bodyFrom : ℕ
+bodyFrom = 22
+
+-- a record's length
+abbrev pub recordLength : Kind → ℕ
+recordLength k = bodyFrom + bodyLength k
+
+-- where the records of each kind start: the policy after the head, each further kind after the one before it
 abbrev pub stopsFrom : Counts → ℕ
-stopsFrom c = 24 + recordLength Policy * c .policies
+stopsFrom c = headLength + recordLength Policy * c .policies
 
 abbrev pub linesFrom : Counts → ℕ
 linesFrom c = stopsFrom c + recordLength Stop * c .stops
@@ -110,11 +108,11 @@ endOf c = demandsFrom c + recordLength Demand * c .demands
 -- the code of the last record's kind, 0 before the first
 unfoldable pub lastKind : Counts → ℕ
 lastKind c =
-    cond (ltb 0 (c .demands)) 7
-    (cond (ltb 0 (c .waits)) 6
-    (cond (ltb 0 (c .aboards)) 5
-    (cond (ltb 0 (c .cars)) 4
-    (cond (ltb 0 (c .lines)) 3
-    (cond (ltb 0 (c .stops)) 2
-    (cond (ltb 0 (c .policies)) 1
+    cond (ltb 0 (c .demands)) (kindCode Demand)
+    (cond (ltb 0 (c .waits)) (kindCode Waiting)
+    (cond (ltb 0 (c .aboards)) (kindCode Aboard)
+    (cond (ltb 0 (c .cars)) (kindCode Car)
+    (cond (ltb 0 (c .lines)) (kindCode Line)
+    (cond (ltb 0 (c .stops)) (kindCode Stop)
+    (cond (ltb 0 (c .policies)) (kindCode Policy)
     0))))))

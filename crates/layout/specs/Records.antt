@@ -1,5 +1,5 @@
 -- The records of a sheet from its bytes. Document 01: "Fields are packed bits, most significant first"; "A double is its 64 IEEE bits"; "\"Opt\" is a
--- present bit, then the field". A record is read through a function of an offset in it and a width; its body starts at offset 22. An optional id
+-- present bit, then the field". A record is read through a function of an offset in it and a width; its fields are those of Table. An optional id
 -- is the field itself: absent it is zero (refusal 8), and present it is not (refusal 9). Assumes nothing.
 use Prim.Native.Nat.{ℕ, _+_, _*_}
 use mathlib.Core.Bool.{Bool, cond}
@@ -19,8 +19,8 @@ use Rattle.components.specs.declared.Threshold.the-variants as threshold
 use Rattle.components.specs.Codes.{strategyOf, trafficOf, phaseOf, directionOf, modeOf}
 use Rattle.components.specs.Sheet.{Sheet}
 use Rattle.layout.specs.declared.Counts.{Counts}
-use Rattle.layout.specs.Table.{Field, policyStrategy, policyRate, policyTraffic, policyW0, policyW1, policyW2, policyW3, policyW4, policyW5, stopId, stopPosition, lineId, lineServes, carId, carLine, carPhase, carStop, carTarget, carListed, carUp, carDown, carSweep, carMode, carPosition, carSpeed, carCapacity, carLoad, carHasBypassUp, carBypassUp, carHasBypassDown, carBypassDown, carTransition, carDwell, carRestricted, carCalls, aboardCar, aboardDestination, waitingStop, waitingLine, waitingDestination, waitingWeight, waitingWait, demandStop, demandRiding, demandCall}
-use Rattle.layout.specs.Offsets.{stopAt, lineAt, carAt, aboardAt, waitingAt, demandAt}
+use Rattle.layout.specs.Table.{Field, policyStrategy, policyLimit, policyRate, policyTraffic, policyW0, policyW1, policyW2, policyW3, policyW4, policyW5, stopId, stopPosition, lineId, lineServes, carId, carLine, carPhase, carStop, carTarget, carListed, carUp, carDown, carSweep, carMode, carPosition, carSpeed, carCapacity, carLoad, carHasBypassUp, carBypassUp, carHasBypassDown, carBypassDown, carTransition, carDwell, carRestricted, carCalls, aboardCar, aboardDestination, waitingStop, waitingLine, waitingDestination, waitingWeight, waitingWait, demandStop, demandRiding, demandCall}
+use Rattle.layout.specs.Offsets.{headLength, stopAt, lineAt, carAt, aboardAt, waitingAt, demandAt}
 
 -- what stands at an offset of a record, with a width
 abbrev pub Fields : Type 0
@@ -43,7 +43,7 @@ double f x = ofBits binary64 (read f x)
 abbrev pub optional : Fields → Field → Field → Threshold
 optional f present x = cond (flag f present) (threshold.At (double f x)) threshold.Absent
 
--- "1 policy: strategy 2; limit 16; tick rate; traffic 2; six weights". The limit stands apart: the sheet is without it
+-- kind 1, policy. The limit stands apart: the sheet is without it
 unfoldable pub policyOf : Fields → Policy
 policyOf f =
     record {
@@ -58,16 +58,15 @@ policyOf f =
       w5 = double f policyW5;
     }
 
--- "2 stop: id, rising; position"
+-- kind 2, stop
 unfoldable pub stopOf : Fields → Stop
 stopOf f = record { id = read f stopId; position = double f stopPosition }
 
--- "3 line: id; stops served, mask 64"
+-- kind 3, line
 unfoldable pub lineOf : Fields → Line
 lineOf f = record { id = read f lineId; serves = read f lineServes }
 
--- "4 car: id; line; phase 3; stop of phases 1 and 2, 32; opt target stop 32; five single bits: idle-listed, going up, going down, sweep, mode;
--- position; max speed; capacity; load; opt up threshold; opt down threshold; transition ticks 32; open ticks 32; restricted mask 64; car-call mask 64"
+-- kind 4, car
 unfoldable pub carOf : Fields → Car
 carOf f =
     record {
@@ -92,15 +91,15 @@ carOf f =
       calls = read f carCalls;
     }
 
--- "5 aboard: car; opt destination 32"
+-- kind 5, aboard
 unfoldable pub aboardOf : Fields → Aboard
 aboardOf f = record { car = read f aboardCar; destination = read f aboardDestination }
 
--- "6 waiting: stop; opt required line 32; opt destination 32; weight; wait ticks 64"
+-- kind 6, waiting
 unfoldable pub waitingOf : Fields → Waiting
 waitingOf f = record { stop = read f waitingStop; line = read f waitingLine; destination = read f waitingDestination; weight = double f waitingWeight; wait = read f waitingWait }
 
--- "7 demand: stop; riding count 16; 1 if a hall call there has no pending rider"
+-- kind 7, demand
 unfoldable pub demandOf : Fields → Demand
 demandOf f = record { stop = read f demandStop; riding = read f demandRiding; call = flag f demandCall }
 
@@ -108,7 +107,7 @@ demandOf f = record { stop = read f demandStop; riding = read f demandRiding; ca
 unfoldable pub sheetOf : List ℕ → Counts → Sheet
 sheetOf s c =
     record {
-      policy = policyOf (from s 24);
+      policy = policyOf (from s headLength);
       stops = c .stops;
       stop = λ i. stopOf (from s (stopAt c i));
       lines = c .lines;
@@ -125,4 +124,4 @@ sheetOf s c =
 
 -- the candidate limit: bits 48 to 63, so bytes 6 and 7
 unfoldable pub limitOf : List ℕ → ℕ
-limitOf s = fieldAt s 48 16
+limitOf s = read (from s headLength) policyLimit

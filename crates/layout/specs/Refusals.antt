@@ -1,5 +1,5 @@
 -- Each refusal's condition, named by its number and kind, beside the sentence of document 01 that it says. f reads the record, c counts the records
--- before it. Numbers 1, 3 and 16 and the head are in Verdict.antt. Assumes nothing.
+-- before it. Number 1 is the host's and not of the bytes (outcome: Outcome). Assumes nothing.
 use Prim.Native.Nat.{ℕ, _+_, _-_, _*_}
 use mathlib.Core.Bool.{Bool, true, false, not, _&&_, _||_, cond}
 use mathlib.Core.List.{List}
@@ -10,7 +10,6 @@ use Rattle.laws.specs.Folds.{any}
 use Rattle.fp.specs.Num.{zero}
 use Rattle.fp.specs.Ranges.{isPosition, isSpeed, isMass, isThreshold, isTickRate}
 use Rattle.mask.specs.Mask.{pastStops}
-use Rattle.bits.specs.Field.{fieldAt}
 use Rattle.components.specs.declared.Kind.{Kind}
 use Rattle.components.specs.declared.Kind.the-variants.{Policy, Stop, Line, Car, Aboard, Waiting, Demand, Unknown}
 use Rattle.components.specs.declared.Strategy.{Strategy}
@@ -19,39 +18,60 @@ use Rattle.components.specs.declared.Strategy.the-variants as strategy
 use Rattle.components.specs.declared.Phase.{Phase}
 use Rattle.components.specs.declared.Phase.the-variants.{Idle, MovingToStop, Repositioning, DoorOpening, Loading, DoorClosing, Stopped}
 use Rattle.components.specs.declared.Phase.the-variants as phase
-use Rattle.components.specs.Codes.{kindOf, strategyOf, phaseOf}
+use Rattle.components.specs.Codes.{kindCode, strategyOf, strategyCode, phaseOf, phaseCode}
 use Rattle.components.specs.Cars.{isMoving}
 use Rattle.layout.specs.declared.Counts.{Counts}
-use Rattle.layout.specs.Offsets.{bodyLength, recordLength, isFull, lastKind, stopsFrom, linesFrom, carsFrom, demandsFrom, endOf}
-use Rattle.layout.specs.Table.{Field, recordKind, recordStates, policyStrategy, policyLimit, policyRate, policyW0, policyW1, policyW2, policyW3, policyW4, policyW5, stopId, stopPosition, lineId, lineServes, carId, carLine, carPhase, carStop, carHasTarget, carTarget, carPosition, carSpeed, carCapacity, carLoad, carHasBypassUp, carBypassUp, carHasBypassDown, carBypassDown, carTransition, carDwell, carRestricted, carCalls, aboardCar, aboardHasDestination, aboardDestination, waitingStop, waitingHasLine, waitingLine, waitingHasDestination, waitingDestination, waitingWeight, waitingWait, demandStop}
+use Rattle.layout.specs.Offsets.{headLength, bodyFrom, bodyLength, recordLength, lastKind, stopsFrom, linesFrom, carsFrom, demandsFrom, stopAt, endOf}
+use Rattle.layout.specs.Table.{Field, headEdition, headCount, recordKind, recordStated, first, policyStrategy, policyLimit, policyRate, policyW0, policyW1, policyW2, policyW3, policyW4, policyW5, stopId, stopPosition, lineId, lineServes, carId, carLine, carPhase, carStop, carHasTarget, carTarget, carPosition, carSpeed, carCapacity, carLoad, carHasBypassUp, carBypassUp, carHasBypassDown, carBypassDown, carTransition, carDwell, carRestricted, carCalls, aboardCar, aboardHasDestination, aboardDestination, waitingStop, waitingHasLine, waitingLine, waitingHasDestination, waitingDestination, waitingWeight, waitingWait, demandStop}
 use Rattle.layout.specs.Records.{Fields, from, read, flag, double}
 
--- ---- the record's head
+-- ---- the head
 
-abbrev pub kindAt : List ℕ → Counts → ℕ
-kindAt s c = read (from s (endOf c)) recordKind
+abbrev pub edition : List ℕ → ℕ
+edition s = read (from s 0) headEdition
 
-abbrev pub lengthAt : List ℕ → Counts → ℕ
-lengthAt s c = read (from s (endOf c)) recordStates
+abbrev pub recordCount : List ℕ → ℕ
+recordCount s = read (from s 0) headCount
 
 -- bit e lies past the end
 abbrev pub pastEnd : List ℕ → ℕ → Bool
 pastEnd s e = ltb (8 * length s) e
 
--- "2, the head, a record's 22 bits or its stated body passes the end": where the 22 bits do, so does a body of any length
+-- "2, the head .. passes the end"
+unfoldable pub refusal2Head : List ℕ → Bool
+refusal2Head s = pastEnd s headLength
+
+-- "3, edition not 1"
+unfoldable pub refusal3 : List ℕ → Bool
+refusal3 s = not (eqb (edition s) 1)
+
+-- "6, .. no kind 1 first", where the count is 0 and so no record is first: "24 for an empty count"
+unfoldable pub refusal6Empty : List ℕ → Bool
+refusal6Empty s = eqb (recordCount s) 0
+
+-- ---- every record
+
+abbrev pub kindAt : List ℕ → Counts → ℕ
+kindAt s c = read (from s (endOf c)) recordKind
+
+-- the stated length of its body
+abbrev pub lengthAt : List ℕ → Counts → ℕ
+lengthAt s c = read (from s (endOf c)) recordStated
+
+-- "2, .. a record's 22 bits or its stated body passes the end": where the 22 bits do, so does a body of any length
 unfoldable pub refusal2 : List ℕ → Counts → Bool
-refusal2 s c = pastEnd s (endOf c + 22 + lengthAt s c)
+refusal2 s c = pastEnd s (endOf c + bodyFrom + lengthAt s c)
 
 -- "4, kind not 1 to 7"
-abbrev pub isUnknown : Kind → Bool
-isUnknown Policy = false
-isUnknown Stop = false
-isUnknown Line = false
-isUnknown Car = false
-isUnknown Aboard = false
-isUnknown Waiting = false
-isUnknown Demand = false
-isUnknown Unknown = true
+abbrev pub refusal4 : Kind → Bool
+refusal4 Policy = false
+refusal4 Stop = false
+refusal4 Line = false
+refusal4 Car = false
+refusal4 Aboard = false
+refusal4 Waiting = false
+refusal4 Demand = false
+refusal4 Unknown = true
 
 -- "5, length not the kind's"
 unfoldable pub refusal5 : Kind → ℕ → Bool
@@ -59,15 +79,34 @@ refusal5 k n = not (eqb n (bodyLength k))
 
 -- "6, kinds out of order, or no kind 1 first"
 unfoldable pub refusal6 : Counts → ℕ → Bool
-refusal6 c k = ltb k (lastKind c) || (eqb (c .policies) 0 && not (eqb k 1))
+refusal6 c k = ltb k (lastKind c) || (eqb (c .policies) 0 && not (eqb k (kindCode Policy)))
 
--- "7, more records of kinds 1 to 6 than the table allows" is isFull of Offsets
+-- "7, more records of kinds 1 to 6 than the table allows": the column "At most". "one a stop" of kind 7 is 9's
+abbrev pub refusal7 : Counts → Kind → Bool
+refusal7 c Policy = leb 1 (c .policies)
+refusal7 c Stop = leb 64 (c .stops)
+refusal7 c Line = leb 8 (c .lines)
+refusal7 c Car = leb 32 (c .cars)
+refusal7 c Aboard = leb 512 (c .aboards)
+refusal7 c Waiting = leb 512 (c .waits)
+refusal7 c Demand = false
+refusal7 c Unknown = false
+
+-- ---- the tail
+
+-- "After the last record come 0 to 7 zero bits up to the byte's end, then nothing.": fewer than 8 bits are left, and they are zero
+unfoldable pub tailFits : List ℕ → Counts → Bool
+tailFits s c = not (pastEnd s (endOf c)) && (ltb (8 * length s - endOf c) 8 && eqb (from s (endOf c) 0 (8 * length s - endOf c)) 0)
+
+-- "16, the tail isn't as above."
+unfoldable pub refusal16 : List ℕ → Counts → Bool
+refusal16 s c = not (tailFits s c)
 
 -- ---- looking back
 
 -- one of the first n records of a kind, len bits each from base, has this id in its first field
 unfoldable pub seen : List ℕ → ℕ → ℕ → ℕ → ℕ → Bool
-seen s base len n id = any (λ i. eqb (fieldAt s (base + len * i + 22) 32) id) n
+seen s base len n id = any (λ i. eqb (read (from s (base + len * i)) (first 32)) id) n
 
 abbrev pub hasStop : List ℕ → Counts → ℕ → Bool
 hasStop s c id = seen s (stopsFrom c) (recordLength Stop) (c .stops) id
@@ -83,7 +122,7 @@ hasDemand s c id = seen s (demandsFrom c) (recordLength Demand) (c .demands) id
 
 -- the id of the last stop record, 0 before the first
 unfoldable pub lastStop : List ℕ → Counts → ℕ
-lastStop s c = cond (eqb (c .stops) 0) 0 (fieldAt s (stopsFrom c + recordLength Stop * (c .stops - 1) + 22) 32)
+lastStop s c = cond (eqb (c .stops) 0) 0 (read (from s (stopAt c (c .stops - 1))) stopId)
 
 -- a field that is absent has a one bit
 abbrev pub absentSet : Fields → Field → Field → Bool
@@ -95,7 +134,10 @@ presentZero f present x = flag f present && eqb (read f x) 0
 
 -- ---- kind 1, policy
 
--- "8, strategy 3, .. or a one bit in an absent or unused field"; "Unused are ETD's sixth weight, SCAN's six"
+abbrev pub strategyAt : Fields → Strategy
+strategyAt f = strategyOf (read f policyStrategy)
+
+-- "Unused are ETD's sixth weight, SCAN's six": one of them has a one bit
 abbrev pub unusedWeights : Strategy → Fields → Bool
 unusedWeights Etd f = not (eqb (read f policyW5) 0)
 unusedWeights Rsr f = false
@@ -106,10 +148,11 @@ unusedWeights Scan f =
     || (not (eqb (read f policyW3) 0)
     || (not (eqb (read f policyW4) 0)
     || not (eqb (read f policyW5) 0)))))
-unusedWeights strategy.Unknown f = true
+unusedWeights strategy.Unknown f = false
 
+-- "8, strategy 3, .. or a one bit in an absent or unused field"
 unfoldable pub refusal8Policy : Fields → Bool
-refusal8Policy f = unusedWeights (strategyOf (read f policyStrategy)) f
+refusal8Policy f = eqb (strategyCode (strategyAt f)) 3 || unusedWeights (strategyAt f) f
 
 -- "11, a double outside: .. the six weights 0 to 1,000,000,000; .. tick rate 1 to 1,000,000"
 unfoldable pub refusal11Policy : Fields → Bool
@@ -134,7 +177,7 @@ loadWeighed Scan f = false
 loadWeighed strategy.Unknown f = false
 
 unfoldable pub refusal15 : Fields → Bool
-refusal15 f = loadWeighed (strategyOf (read f policyStrategy)) f
+refusal15 f = loadWeighed (strategyAt f) f
 
 -- ---- kind 2, stop
 
@@ -158,7 +201,10 @@ refusal10Line c f = pastStops (read f lineServes) (c .stops)
 
 -- ---- kind 4, car
 
--- "Unused are .. the stop of any phase but 1 and 2"; phase 7 is refused whatever its stop
+abbrev pub phaseAt : Fields → Phase
+phaseAt f = phaseOf (read f carPhase) (read f carStop)
+
+-- "Unused are .. the stop of any phase but 1 and 2": it has a one bit
 abbrev pub unusedStop : Phase → Bool → Bool
 unusedStop Idle set = set
 unusedStop (MovingToStop id) set = false
@@ -167,14 +213,16 @@ unusedStop DoorOpening set = set
 unusedStop Loading set = set
 unusedStop DoorClosing set = set
 unusedStop Stopped set = set
-unusedStop phase.Unknown set = true
-
-abbrev pub phaseAt : Fields → Phase
-phaseAt f = phaseOf (read f carPhase) (read f carStop)
+unusedStop phase.Unknown set = false
 
 -- "8, .. phase 7, or a one bit in an absent or unused field"
 unfoldable pub refusal8Car : Fields → Bool
-refusal8Car f = unusedStop (phaseAt f) (not (eqb (read f carStop) 0)) || (absentSet f carHasTarget carTarget || (absentSet f carHasBypassUp carBypassUp || absentSet f carHasBypassDown carBypassDown))
+refusal8Car f =
+    eqb (phaseCode (phaseAt f)) 7
+    || (unusedStop (phaseAt f) (not (eqb (read f carStop) 0))
+    || (absentSet f carHasTarget carTarget
+    || (absentSet f carHasBypassUp carBypassUp
+    || absentSet f carHasBypassDown carBypassDown)))
 
 -- "9, id 0 in any id field that is present and used, .. a car id of an earlier car"
 unfoldable pub refusal9Car : List ℕ → Counts → Fields → Bool
@@ -206,9 +254,11 @@ refusal13 f = ltb 4294967295 (2 * read f carTransition + read f carDwell)
 
 -- ---- kind 5, aboard
 
+-- "8, .. a one bit in an absent or unused field"
 unfoldable pub refusal8Aboard : Fields → Bool
 refusal8Aboard f = absentSet f aboardHasDestination aboardDestination
 
+-- "9, id 0 in any id field that is present and used"
 unfoldable pub refusal9Aboard : Fields → Bool
 refusal9Aboard f = eqb (read f aboardCar) 0 || presentZero f aboardHasDestination aboardDestination
 
@@ -218,9 +268,11 @@ refusal10Aboard s c f = not (hasCar s c (read f aboardCar))
 
 -- ---- kind 6, waiting
 
+-- "8, .. a one bit in an absent or unused field"
 unfoldable pub refusal8Waiting : Fields → Bool
 refusal8Waiting f = absentSet f waitingHasLine waitingLine || absentSet f waitingHasDestination waitingDestination
 
+-- "9, id 0 in any id field that is present and used"
 unfoldable pub refusal9Waiting : Fields → Bool
 refusal9Waiting f = eqb (read f waitingStop) 0 || (presentZero f waitingHasLine waitingLine || presentZero f waitingHasDestination waitingDestination)
 
@@ -242,5 +294,6 @@ refusal14 f = ltb 9007199254740992 (read f waitingWait)
 unfoldable pub refusal9Demand : List ℕ → Counts → Fields → Bool
 refusal9Demand s c f = eqb (read f demandStop) 0 || hasDemand s c (read f demandStop)
 
+-- "10, no record for .. the stop of kinds 6 and 7"
 unfoldable pub refusal10Demand : List ℕ → Counts → Fields → Bool
 refusal10Demand s c f = not (hasStop s c (read f demandStop))

@@ -13,10 +13,10 @@ use Rattle.components.specs.Codes.{kindOf}
 use Rattle.layout.specs.declared.Counts.{Counts}
 use Rattle.layout.specs.declared.Reading.{Reading}
 use Rattle.layout.specs.declared.Reading.the-variants.{Refused, Accepted}
-use Rattle.layout.specs.Offsets.{Small, isFull, next, endOf}
+use Rattle.layout.specs.Offsets.{Small, next, endOf}
 use Rattle.layout.specs.Records.{from}
-use Rattle.layout.specs.Refusals.{kindAt, lengthAt, refusal2, isUnknown, refusal5, refusal6}
-use Rattle.layout.specs.Verdict.{pick, bodyRefusal, recordRefusal, tailVerdict, recordsVerdict}
+use Rattle.layout.specs.Refusals.{kindAt, lengthAt, refusal2, refusal4, refusal5, refusal6, refusal7}
+use Rattle.layout.specs.Verdict.{pick, firstOf, bodyRefusal, recordRefusal, tailVerdict, recordsVerdict}
 
 -- ---- no number was picked
 
@@ -28,25 +28,25 @@ pick-none false n rest h e = (refl, e)
 -- a record without a refusal: no condition holds
 pub record Clean (s : List ℕ) (c : Counts) : Type 0 where
   pub whole : refusal2 s c ≡ false
-  pub known : isUnknown (kindOf (kindAt s c)) ≡ false
+  pub known : refusal4 (kindOf (kindAt s c)) ≡ false
   pub its-length : refusal5 (kindOf (kindAt s c)) (lengthAt s c) ≡ false
   pub in-order : refusal6 c (kindAt s c) ≡ false
-  pub has-room : isFull c (kindOf (kindAt s c)) ≡ false
+  pub has-room : refusal7 c (kindOf (kindAt s c)) ≡ false
   pub body : bodyRefusal s c (kindOf (kindAt s c)) (from s (endOf c)) ≡ 0
 
 pub clean : (s : List ℕ) (c : Counts) → recordRefusal s c ≡ 0 → Clean s c
-unfolding recordRefusal
+unfolding recordRefusal firstOf
 clean s c e =
     let a = pick-none (refusal2 s c) 2 _ (omega arith) e in
-    let b = pick-none (isUnknown (kindOf (kindAt s c))) 4 _ (omega arith) (a .1) in
+    let b = pick-none (refusal4 (kindOf (kindAt s c))) 4 _ (omega arith) (a .1) in
     let d = pick-none (refusal5 (kindOf (kindAt s c)) (lengthAt s c)) 5 _ (omega arith) (b .1) in
     let f = pick-none (refusal6 c (kindAt s c)) 6 _ (omega arith) (d .1) in
-    let g = pick-none (isFull c (kindOf (kindAt s c))) 7 _ (omega arith) (f .1) in
+    let g = pick-none (refusal7 c (kindOf (kindAt s c))) 7 _ (omega arith) (f .1) in
     record { whole = a .0; known = b .0; its-length = d .0; in-order = f .0; has-room = g .0; body = g .1 }
 
 -- ---- one record more
 
-pub next-small : (c : Counts) (k : Kind) → Small c → isFull c k ≡ false → c .demands < 65535 → Small (next c k)
+pub next-small : (c : Counts) (k : Kind) → Small c → refusal7 c k ≡ false → c .demands < 65535 → Small (next c k)
 next-small c Policy h e d = let l = leb-false 1 (c .policies) e in record { policies = omega arith; stops = h .stops; lines = h .lines; cars = h .cars; aboards = h .aboards; waits = h .waits; demands = h .demands }
 next-small c Stop h e d = let l = leb-false 64 (c .stops) e in record { policies = h .policies; stops = omega arith; lines = h .lines; cars = h .cars; aboards = h .aboards; waits = h .waits; demands = h .demands }
 next-small c Line h e d = let l = leb-false 8 (c .lines) e in record { policies = h .policies; stops = h .stops; lines = omega arith; cars = h .cars; aboards = h .aboards; waits = h .waits; demands = h .demands }

@@ -1,5 +1,5 @@
-// Kind 5, aboard: the bit where each field starts, counted from the record's first; 22 bits of kind and length come before.
-pub const CAR: u32 = 22;
+// Kind 5, aboard: the bit where each field starts, counted from the record's first.
+pub const CAR: u32 = crate::record::BODY;
 
 pub const HAS_DESTINATION: u32 = CAR + 32;
 

@@ -1,5 +1,5 @@
-// Kind 7, demand: the bit where each field starts, counted from the record's first; 22 bits of kind and length come before.
-pub const STOP: u32 = 22;
+// Kind 7, demand: the bit where each field starts, counted from the record's first.
+pub const STOP: u32 = crate::record::BODY;
 
 pub const RIDING: u32 = STOP + 32;
 

@@ -4,16 +4,18 @@
 ghost use mathlib.Core.Path.{_≡_};
 ghost use mathlib.Core.Bool.{_||_};
 ghost use Prim.Native.Nat.{_<_, _≤_};
-ghost use Rattle.layout.specs.Offsets.{Small, bodyLength, isFull, next, stopsFrom, linesFrom, carsFrom, aboardsFrom, waitsFrom, demandsFrom, endOf, lastKind};
-ghost use Rattle.layout.specs.Refusals.{refusal6};
+ghost use Rattle.layout.specs.Offsets.{Small, bodyLength, next, stopsFrom, linesFrom, carsFrom, aboardsFrom, waitsFrom, demandsFrom, endOf, lastKind};
+ghost use Rattle.layout.specs.Refusals.{refusal6, refusal7};
 use components::Kind;
 
-// Document 01's table of records, a module for each kind.
+// Document 01's table of records: the head, what stands before every body, and a module for each kind.
 pub mod aboard;
 pub mod car;
 pub mod demand;
+pub mod head;
 pub mod line;
 pub mod policy;
+pub mod record;
 pub mod stop;
 pub mod waiting;
 
@@ -39,13 +41,13 @@ pub fn body_length(kind: Kind) -> u64
     ensures { λ r. ⌜ r ≡ bodyLength kind ⌝ }
 {
     match kind {
-        Kind::Policy => 468,
-        Kind::Stop => 96,
-        Kind::Line => 96,
-        Kind::Car => 715,
-        Kind::Aboard => 65,
-        Kind::Waiting => 226,
-        Kind::Demand => 49,
+        Kind::Policy => (policy::BITS - record::BODY) as u64,
+        Kind::Stop => (stop::BITS - record::BODY) as u64,
+        Kind::Line => (line::BITS - record::BODY) as u64,
+        Kind::Car => (car::BITS - record::BODY) as u64,
+        Kind::Aboard => (aboard::BITS - record::BODY) as u64,
+        Kind::Waiting => (waiting::BITS - record::BODY) as u64,
+        Kind::Demand => (demand::BITS - record::BODY) as u64,
         Kind::Unknown => 0,
     }
 }
@@ -56,21 +58,24 @@ impl Counts {
         requires { ⌜ Small self ⌝ }
         ensures { λ r. ⌜ r ≡ stopsFrom self ⌝ }
     {
-        24 + policy::BITS * self.policies
+        head::BITS + policy::BITS * self.policies
     }
 
     pub fn lines_from(self) -> u32
         requires { ⌜ Small self ⌝ }
         ensures { λ r. ⌜ r ≡ linesFrom self ⌝ }
     {
-        24 + policy::BITS * self.policies + stop::BITS * self.stops
+        head::BITS + policy::BITS * self.policies + stop::BITS * self.stops
     }
 
     pub fn cars_from(self) -> u32
         requires { ⌜ Small self ⌝ }
         ensures { λ r. ⌜ r ≡ carsFrom self ⌝ }
     {
-        24 + policy::BITS * self.policies + stop::BITS * self.stops + line::BITS * self.lines
+        head::BITS
+            + policy::BITS * self.policies
+            + stop::BITS * self.stops
+            + line::BITS * self.lines
     }
 
     pub fn aboards_from(self) -> u32
@@ -139,7 +144,7 @@ impl Counts {
 
     // 7: the kind has all the records that it may have.
     pub fn is_full(self, kind: Kind) -> bool
-        ensures { λ r. ⌜ r ≡ isFull self kind ⌝ }
+        ensures { λ r. ⌜ r ≡ refusal7 self kind ⌝ }
     {
         match kind {
             Kind::Policy => 1 <= self.policies,

@@ -1,5 +1,5 @@
-// Kind 1, policy: the bit where each field starts, counted from the record's first; 22 bits of kind and length come before.
-pub const STRATEGY: u32 = 22;
+// Kind 1, policy: the bit where each field starts, counted from the record's first.
+pub const STRATEGY: u32 = crate::record::BODY;
 
 pub const LIMIT: u32 = STRATEGY + 2;
 

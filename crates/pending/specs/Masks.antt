@@ -1,4 +1,6 @@
 -- Masks of a sheet's stops, each of stops with a record only. Assumes nothing.
+use Rattle.layout.specs.Records.{from, read}
+use Rattle.layout.specs.Table.{aboardCar, aboardDestination}
 use Prim.Native.Nat.{ℕ, _+_, _<_}
 use mathlib.Core.Path.{_≡_}
 use mathlib.Core.Bool.{Bool, _&&_, _||_, cond}
@@ -27,7 +29,7 @@ pub record HoldsNames (s : Sheet) (names : List ℕ) : Type 0 where
 
 -- the destination of the aboard record at a bit, where its car is among the first n ids, else 0
 unfoldable pub boundId : List ℕ → List ℕ → ℕ → ℕ → ℕ
-boundId b idle n at = cond (contains idle n (fieldAt b (at + 22) 32)) (fieldAt b (at + 55) 32) 0
+boundId b idle n at = cond (contains idle n (read (from b at) aboardCar)) (read (from b at) aboardDestination) 0
 
 -- every aboard rider names a car
 pub record Boarded (s : Sheet) : Type 0 where

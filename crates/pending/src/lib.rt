@@ -1,9 +1,10 @@
 // The pending stops of a sheet: pending_stops_minus_covered of assignment.rs.
+ghost use Rattle.components.specs.declared.Kind.the-variants.{Aboard};
 ghost use mathlib.Core.Path.{_≡_};
 ghost use mathlib.Core.Bool.{cond, _||_};
 ghost use Prim.Native.Nat.{_<_, _≤_};
 ghost use lib.Dec.{eqb};
-ghost use Rattle.layout.specs.Offsets.{Small};
+ghost use Rattle.layout.specs.Offsets.{Small, recordLength};
 ghost use Rattle.layout.specs.Records.{sheetOf};
 ghost use Rattle.mask.specs.Mask.{built};
 ghost use Rattle.pending.specs.Masks.{lineStop};
@@ -126,7 +127,7 @@ fn bound_at<'a>(s: &'a [u8], at: u32, idle: &'a [u32], n: usize) -> u32
 
 fn fill_bound<'a>(s: &'a [u8], base: u32, k: usize, idle: &'a [u32], n: usize, out: &mut [u32])
     requires { ⌜ (base < 2 ^ 31) × (k ≤ 512) × (length (now out) ≡ 512) × (n ≤ length (now idle)) ⌝ }
-    ensures { λ _. ⌜ (length (now (out .exit)) ≡ length (now (out .entry))) × (now (out .exit) ≡ tab (λ a. boundId (now (s .entry)) (now (idle .entry)) n (base + 87 * a)) k ++ drop k (now (out .entry))) ⌝ }
+    ensures { λ _. ⌜ (length (now (out .exit)) ≡ length (now (out .entry))) × (now (out .exit) ≡ tab (λ a. boundId (now (s .entry)) (now (idle .entry)) n (base + recordLength Aboard * a)) k ++ drop k (now (out .entry))) ⌝ }
 {
     let mut a: usize = 0;
     while a < k {

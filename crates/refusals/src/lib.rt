@@ -3,16 +3,18 @@
 ghost use mathlib.Core.Path.{_≡_};
 ghost use Prim.Native.Nat.{_+_, _*_, _<_, _≤_, _^_};
 ghost use Rattle.fp.specs.Ranges.{isMass};
+ghost use Rattle.components.specs.declared.Kind.the-variants.{Stop, Line, Aboard, Waiting, Demand};
 ghost use Rattle.layout.specs.Offsets.{Small, endOf};
 ghost use Rattle.layout.specs.Table.{field};
 ghost use Rattle.layout.specs.Records.{from, double};
 ghost use Rattle.layout.specs.Refusals.{absentSet, presentZero, seen, hasStop, hasLine, hasCar, hasDemand, lastStop, refusal8Waiting, refusal9Waiting};
-ghost use Rattle.layout.specs.Verdict.{pick, stopRefusal, lineRefusal, aboardRefusal, waitingRefusal, demandRefusal};
+ghost use Rattle.layout.specs.Verdict.{pick, bodyRefusal};
 use layout::Counts;
 use layout::aboard;
 use layout::car;
 use layout::demand;
 use layout::line;
+use layout::record;
 use layout::stop;
 use layout::waiting;
 
@@ -30,7 +32,7 @@ fn seen(s: &[u8], base: u32, len: u32, n: u32, id: u32) -> bool
 {
     let mut i: u32 = 0;
     while i < n {
-        if bits::field32(s, base + len * i, 22) == id {
+        if bits::field32(s, base + len * i, record::BODY) == id {
             return true;
         }
         i += 1;
@@ -107,7 +109,7 @@ pub fn mass_at(s: &[u8], at: u32, off: u32) -> bool
 // Kind 2: 9, 11.
 pub fn stop_refusal(s: &[u8], c: Counts) -> u32
     requires { ⌜ Small c ⌝ }
-    ensures { λ r. ⌜ r ≡ stopRefusal (now (s .entry)) c (from (now (s .entry)) (endOf c)) ⌝ }
+    ensures { λ r. ⌜ r ≡ bodyRefusal (now (s .entry)) c Stop (from (now (s .entry)) (endOf c)) ⌝ }
 {
     let at = c.end_of();
     let id = bits::field32(s, at, stop::ID);
@@ -119,7 +121,7 @@ pub fn stop_refusal(s: &[u8], c: Counts) -> u32
 // Kind 3: 9, 10.
 pub fn line_refusal(s: &[u8], c: Counts) -> u32
     requires { ⌜ Small c ⌝ }
-    ensures { λ r. ⌜ r ≡ lineRefusal (now (s .entry)) c (from (now (s .entry)) (endOf c)) ⌝ }
+    ensures { λ r. ⌜ r ≡ bodyRefusal (now (s .entry)) c Line (from (now (s .entry)) (endOf c)) ⌝ }
 {
     let at = c.end_of();
     let id = bits::field32(s, at, line::ID);
@@ -132,7 +134,7 @@ pub fn line_refusal(s: &[u8], c: Counts) -> u32
 // Kind 5: 8, 9, 10.
 pub fn aboard_refusal(s: &[u8], c: Counts) -> u32
     requires { ⌜ Small c ⌝ }
-    ensures { λ r. ⌜ r ≡ aboardRefusal (now (s .entry)) c (from (now (s .entry)) (endOf c)) ⌝ }
+    ensures { λ r. ⌜ r ≡ bodyRefusal (now (s .entry)) c Aboard (from (now (s .entry)) (endOf c)) ⌝ }
 {
     let at = c.end_of();
     let car = bits::field32(s, at, aboard::CAR);
@@ -169,7 +171,7 @@ fn waiting_zero(s: &[u8], at: u32) -> bool
 // Kind 6: 8, 9, 10, 11, 14.
 pub fn waiting_refusal(s: &[u8], c: Counts) -> u32
     requires { ⌜ Small c ⌝ }
-    ensures { λ r. ⌜ r ≡ waitingRefusal (now (s .entry)) c (from (now (s .entry)) (endOf c)) ⌝ }
+    ensures { λ r. ⌜ r ≡ bodyRefusal (now (s .entry)) c Waiting (from (now (s .entry)) (endOf c)) ⌝ }
 {
     let at = c.end_of();
     let known = has_stop(s, c, bits::field32(s, at, waiting::STOP));
@@ -182,7 +184,7 @@ pub fn waiting_refusal(s: &[u8], c: Counts) -> u32
 // Kind 7: 9, 10.
 pub fn demand_refusal(s: &[u8], c: Counts) -> u32
     requires { ⌜ Small c ⌝ }
-    ensures { λ r. ⌜ r ≡ demandRefusal (now (s .entry)) c (from (now (s .entry)) (endOf c)) ⌝ }
+    ensures { λ r. ⌜ r ≡ bodyRefusal (now (s .entry)) c Demand (from (now (s .entry)) (endOf c)) ⌝ }
 {
     let at = c.end_of();
     let stop = bits::field32(s, at, demand::STOP);

@@ -1,9 +1,12 @@
 // The refusals of a car record: 8, 9, 10, 11, 13.
 ghost use mathlib.Core.Path.{_≡_};
+ghost use lib.Dec.{eqb};
+ghost use Rattle.components.specs.Codes.{phaseCode};
+ghost use Rattle.components.specs.declared.Kind.the-variants.{Car};
 ghost use Rattle.layout.specs.Offsets.{endOf, Small};
 ghost use Rattle.layout.specs.Records.{from};
 ghost use Rattle.layout.specs.Refusals.{unusedStop, phaseAt, refusal8Car, refusal9Car, refusal10Car, refusal11Car, refusal13};
-ghost use Rattle.layout.specs.Verdict.{carRefusal};
+ghost use Rattle.layout.specs.Verdict.{bodyRefusal};
 use components::Phase;
 use layout::Counts;
 use layout::car;
@@ -18,7 +21,23 @@ fn phase_at(s: &[u8], at: u32) -> Phase
     )
 }
 
-// Whether the phase is unknown, or leaves a stop unused that is set.
+// Whether the phase is 7.
+fn unknown_phase(phase: Phase) -> bool
+    ensures { λ r. ⌜ r ≡ eqb (phaseCode phase) 7 ⌝ }
+{
+    match phase {
+        Phase::Idle => false,
+        Phase::MovingToStop(_) => false,
+        Phase::Repositioning(_) => false,
+        Phase::DoorOpening => false,
+        Phase::Loading => false,
+        Phase::DoorClosing => false,
+        Phase::Stopped => false,
+        Phase::Unknown => true,
+    }
+}
+
+// Whether the phase leaves its stop unused, and the stop is set.
 fn unused_stop(phase: Phase, set: bool) -> bool
     ensures { λ r. ⌜ r ≡ unusedStop phase set ⌝ }
 {
@@ -30,7 +49,7 @@ fn unused_stop(phase: Phase, set: bool) -> bool
         Phase::Loading => set,
         Phase::DoorClosing => set,
         Phase::Stopped => set,
-        Phase::Unknown => true,
+        Phase::Unknown => false,
     }
 }
 
@@ -39,11 +58,12 @@ fn unused_bits(s: &[u8], at: u32) -> bool
     ensures { λ r. ⌜ r ≡ refusal8Car (from (now (s .entry)) at) ⌝ }
 {
     let stop = bits::field32(s, at, car::STOP);
-    let phase = unused_stop(phase_at(s, at), stop != 0);
+    let phase = phase_at(s, at);
+    let unused = unused_stop(phase, stop != 0);
     let target = refusals::absent_set(s, at, car::HAS_TARGET, car::TARGET, 32);
     let up = refusals::absent_set(s, at, car::HAS_BYPASS_UP, car::BYPASS_UP, 64);
     let down = refusals::absent_set(s, at, car::HAS_BYPASS_DOWN, car::BYPASS_DOWN, 64);
-    phase | (target | (up | down))
+    unknown_phase(phase) | (unused | (target | (up | down)))
 }
 
 // 9: id 0 in an id field that is present and used, or the id of an earlier car.
@@ -100,7 +120,7 @@ fn long_doors(s: &[u8], at: u32) -> bool
 // Kind 4: 8, 9, 10, 11, 13.
 pub fn car_refusal(s: &[u8], c: Counts) -> u32
     requires { ⌜ Small c ⌝ }
-    ensures { λ r. ⌜ r ≡ carRefusal (now (s .entry)) c (from (now (s .entry)) (endOf c)) ⌝ }
+    ensures { λ r. ⌜ r ≡ bodyRefusal (now (s .entry)) c Car (from (now (s .entry)) (endOf c)) ⌝ }
 {
     let at = c.end_of();
     let late = pick(out_of_range(s, at), 11, pick(long_doors(s, at), 13, 0));

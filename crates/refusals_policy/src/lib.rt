@@ -1,10 +1,11 @@
 // The refusals of a policy record: 8, 11, 12, 15.
 ghost use mathlib.Core.Path.{_≡_};
 ghost use mathlib.Core.Bool.{_||_};
+ghost use Rattle.components.specs.declared.Kind.the-variants.{Policy};
 ghost use Rattle.layout.specs.Offsets.{endOf, Small};
 ghost use Rattle.layout.specs.Records.{from};
 ghost use Rattle.layout.specs.Refusals.{unusedWeights, loadWeighed, refusal8Policy, refusal11Policy, refusal15};
-ghost use Rattle.layout.specs.Verdict.{policyRefusal};
+ghost use Rattle.layout.specs.Verdict.{bodyRefusal};
 use components::Strategy;
 use layout::Counts;
 use layout::policy;
@@ -67,7 +68,7 @@ fn load_weighed(s: &[u8], at: u32) -> bool
 // Kind 1: 8, 11, 12, 15.
 pub fn policy_refusal(s: &[u8], c: Counts) -> u32
     requires { ⌜ Small c ⌝ }
-    ensures { λ r. ⌜ r ≡ policyRefusal (now (s .entry)) c (from (now (s .entry)) (endOf c)) ⌝ }
+    ensures { λ r. ⌜ r ≡ bodyRefusal (now (s .entry)) c Policy (from (now (s .entry)) (endOf c)) ⌝ }
 {
     let at = c.end_of();
     let none = bits::field(s, at, policy::LIMIT, 16) == 0;

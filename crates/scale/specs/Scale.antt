@@ -50,7 +50,7 @@ scaleCost-le x = by (finite x) (lt x zero)
     by true false = omega (arith, whole-le (times x million))
     by false b = omega arith
 
--- a cost that is finite and not below zero is below it, "so any real rank always beats unavailable"
+-- a cost that is finite and not below zero is below it, in assignment.rs's words "so any real rank always beats unavailable"
 pub scaleCost-lt : (x : Float) → finite x ≡ true → lt x zero ≡ false → scaleCost x < sentinel
 unfolding scaleCost
 scaleCost-lt x f n = rw (f, n) (omega (arith, whole-le (times x million)))

@@ -1,10 +1,11 @@
 // The reader: every byte string is a sheet or one numbered refusal. An accepted sheet is its bytes and its counts; a record is decoded in place.
 ghost use mathlib.Core.Path.{_≡_};
 ghost use Prim.Native.Nat.{_≤_, _<_};
+ghost use Rattle.layout.specs.declared.Reading.the-variants.{Accepted};
 ghost use Rattle.layout.specs.Offsets.{Small, none, endOf};
 ghost use Rattle.layout.specs.Records.{from, sheetOf, limitOf};
-ghost use Rattle.layout.specs.Refusals.{pastEnd, isUnknown};
-ghost use Rattle.layout.specs.Verdict.{bodyRefusal, recordRefusal, tailVerdict, recordsVerdict, verdict};
+ghost use Rattle.layout.specs.Refusals.{pastEnd, refusal4, tailFits};
+ghost use Rattle.layout.specs.Verdict.{headRules, firstOf, given, bodyRefusal, recordRefusal, tailVerdict, recordsVerdict, verdict};
 use components::Aboard;
 use components::Car;
 use components::Demand;
@@ -18,8 +19,10 @@ use layout::Reading;
 use layout::aboard;
 use layout::car;
 use layout::demand;
+use layout::head;
 use layout::line;
 use layout::policy;
+use layout::record;
 use layout::stop;
 use layout::waiting;
 use refusals::pick;
@@ -48,8 +51,9 @@ fn body_refusal(s: &[u8], c: Counts, kind: Kind) -> u32
     }
 }
 
+// 4: kind not 1 to 7.
 fn is_unknown(kind: Kind) -> bool
-    ensures { λ r. ⌜ r ≡ isUnknown kind ⌝ }
+    ensures { λ r. ⌜ r ≡ refusal4 kind ⌝ }
 {
     match kind {
         Kind::Policy => false,
@@ -69,10 +73,10 @@ fn record_refusal(s: &[u8], c: Counts) -> u32
     ensures { λ r. ⌜ r ≡ recordRefusal (now (s .entry)) c ⌝ }
 {
     let at = c.end_of();
-    let code = bits::field(s, at, 0, 6);
-    let len = bits::field(s, at, 6, 16);
+    let code = bits::field(s, at, record::KIND, 6);
+    let len = bits::field(s, at, record::STATED, 16);
     let kind = Kind::of_code(code);
-    let short = past_end(s, at + 22 + len as u32);
+    let short = past_end(s, at + record::BODY + len as u32);
     let wrong = len != layout::body_length(kind);
     let late = pick(
         c.out_of_order(code),
@@ -82,24 +86,40 @@ fn record_refusal(s: &[u8], c: Counts) -> u32
     pick(short, 2, pick(is_unknown(kind), 4, pick(wrong, 5, late)))
 }
 
-// What is left after the last record: 16, or the sheet is accepted.
+// Whether fewer than 8 bits are left after the last record, and they are zero.
+fn tail_fits(s: &[u8], c: Counts) -> bool
+    requires { ⌜ Small c ⌝ }
+    ensures { λ r. ⌜ r ≡ tailFits (now (s .entry)) c ⌝ }
+{
+    let at = c.end_of();
+    if s.len() != bits::bytes_for(at) {
+        return false;
+    }
+    bits::field(s, at, 0, bits::padding(at)) == 0
+}
+
+// Refused with a number at a bit, or the sheet is accepted.
+fn given(number: u32, at: u32, c: Counts) -> Reading
+    ensures { λ r. ⌜ r ≡ given number at (Accepted c) ⌝ }
+{
+    if number == 0 {
+        Reading::Accepted(c)
+    } else {
+        Reading::Refused {
+            number,
+            offset: at as u64,
+        }
+    }
+}
+
+// The tail, after the last record: 6 where there is no record, 16.
 fn tail(s: &[u8], c: Counts) -> Reading
     requires { ⌜ Small c ⌝ }
     ensures { λ r. ⌜ r ≡ tailVerdict (now (s .entry)) c ⌝ }
 {
-    let at = c.end_of();
-    let refused = Reading::Refused {
-        number: 16,
-        offset: at as u64,
-    };
-    if s.len() != bits::bytes_for(at) {
-        return refused;
-    }
-    if bits::field(s, at, 0, bits::padding(at)) == 0 {
-        Reading::Accepted(c)
-    } else {
-        refused
-    }
+    let none = bits::field(s, 0, head::COUNT, 16) == 0;
+    let number = pick(none, 6, pick(!tail_fits(s, c), 16, 0));
+    given(number, c.end_of(), c)
 }
 
 // The records in turn: the first refusal, or the tail.
@@ -126,35 +146,29 @@ fn records(s: &[u8], count: u32) -> Reading
                 offset: at as u64,
             };
         }
-        c = c.next(Kind::of_code(bits::field(s, at, 0, 6)));
+        c = c.next(Kind::of_code(bits::field(s, at, record::KIND, 6)));
         left -= 1;
     }
     tail(s, c)
+}
+
+// The refusal of the head: 2 before 3.
+fn head_refusal(s: &[u8]) -> u32
+    ensures { λ r. ⌜ r ≡ firstOf (headRules (now (s .entry))) ⌝ }
+{
+    let other = bits::field(s, 0, head::EDITION, 8) != 1;
+    pick(past_end(s, head::BITS), 2, pick(other, 3, 0))
 }
 
 // The verdict on a byte string.
 pub fn read(s: &[u8]) -> Reading
     ensures { λ r. ⌜ r ≡ verdict (now (s .entry)) ⌝ }
 {
-    if s.len() < 3 {
-        return Reading::Refused {
-            number: 2,
-            offset: 0,
-        };
+    let number = head_refusal(s);
+    if number != 0 {
+        return Reading::Refused { number, offset: 0 };
     }
-    if bits::field(s, 0, 0, 8) != 1 {
-        return Reading::Refused {
-            number: 3,
-            offset: 0,
-        };
-    }
-    let count = bits::field(s, 0, 8, 16);
-    if count == 0 {
-        return Reading::Refused {
-            number: 6,
-            offset: 24,
-        };
-    }
+    let count = bits::field(s, 0, head::COUNT, 16);
     records(s, count as u32)
 }
 
@@ -162,14 +176,14 @@ pub fn read(s: &[u8]) -> Reading
 pub fn policy_at(s: &[u8], c: Counts) -> Policy
     ensures { λ r. ⌜ r ≡ sheetOf (now (s .entry)) c .policy ⌝ }
 {
-    records::policy_at(s, 24)
+    records::policy_at(s, head::BITS)
 }
 
 // The candidate limit.
 pub fn limit(s: &[u8]) -> u64
     ensures { λ r. ⌜ r ≡ limitOf (now (s .entry)) ⌝ }
 {
-    bits::field(s, 0, 48, 16)
+    bits::field(s, head::BITS, policy::LIMIT, 16)
 }
 
 // Stop record i.

@@ -26,7 +26,7 @@ reversed Down = Up
 abbrev pub turnedRound : Sweep → Sweep
 turnedRound w = record { direction = reversed (w .direction); mode = w .mode }
 
--- strictly ahead of the car at x: "p > position + 1e-9 going up, p < position - 1e-9 going down"
+-- strictly ahead of the car at x: beyond x + 1e-9 going up, below x - 1e-9 going down
 abbrev pub strictlyAhead : Direction → Float → Float → Bool
 strictlyAhead Up x p = lt (plus x epsilon) p
 strictlyAhead Down x p = lt p (minus x epsilon)

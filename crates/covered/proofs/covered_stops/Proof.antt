@@ -1,11 +1,14 @@
 -- covered::covered_stops meets its contract.
+use Rattle.layout.specs.Table.{carLine, lineId}
+use Rattle.layout.specs.Offsets.{recordLength}
+use Rattle.components.specs.declared.Kind.the-variants.{Line, Car}
 use Prim.Native.Nat.{ℕ, _+_, _*_}
 use Rattle.bits.specs.Field.{fieldAt}
 use Rattle.columns.specs.Held.{held}
 use Rattle.components.specs.Cars.{remaining}
 use Rattle.covered.specs.Columns.{servedTarget}
 use Rattle.covered.specs.Same.{HoldsCars}
-use Rattle.layout.specs.Records.{from, carOf, lineOf, sheetOf}
+use Rattle.layout.specs.Records.{from, carOf, lineOf, sheetOf, read}
 use borrow.Author.Needs.{needs}
 use lib.Ieee.{nan}
 use mathlib.Core.Path.{_≡_, ap, _∙_}
@@ -22,10 +25,10 @@ held-cars c =
     let at = c .before .before .before .before .before .before .before .before .before .before .before .before .before .before .before .before .before .before .cars-from in
     let lines = c .before .before .before .before .before .before .before .before .lines-from in
     record {
-      target = λ i l. held (λ k. servedTarget (carOf (from b (at .result + 737 * k)))) (a .c .cars) _ _ (c .before .before .before .before .before .before .before .before .before .before .before .before .before .before .before .before .fill-targets .ensures .1) 0 i l ∙ ap (λ (x : ℕ). servedTarget (carOf (from b (x + 737 * i)))) (at .ensures);
-      line = λ i l. held (λ k. fieldAt b (at .result + 737 * k + 54) 32) (a .c .cars) _ _ (c .before .before .before .before .before .before .before .before .before .before .before .before .before .fill32 .ensures .1) 0 i l ∙ ap (λ (x : ℕ). fieldAt b (x + 737 * i + 54) 32) (at .ensures);
-      room = λ i l. held (λ k. remaining (carOf (from b (at .result + 737 * k)))) (a .c .cars) _ _ (c .before .before .before .before .before .before .before .before .before .before .fill-rooms .ensures .1) nan i l ∙ ap (λ (x : ℕ). remaining (carOf (from b (x + 737 * i)))) (at .ensures);
-      line-id = λ l k. held (λ k. fieldAt b (lines .result + 118 * k + 22) 32) (a .c .lines) _ _ (c .before .before .before .before .before .fill322 .ensures .1) 0 l k ∙ ap (λ (x : ℕ). fieldAt b (x + 118 * l + 22) 32) (lines .ensures);
+      target = λ i l. held (λ k. servedTarget (carOf (from b (at .result + recordLength Car * k)))) (a .c .cars) _ _ (c .before .before .before .before .before .before .before .before .before .before .before .before .before .before .before .before .fill-targets .ensures .1) 0 i l ∙ ap (λ (x : ℕ). servedTarget (carOf (from b (x + recordLength Car * i)))) (at .ensures);
+      line = λ i l. held (λ k. read (from b (at .result + recordLength Car * k)) carLine) (a .c .cars) _ _ (c .before .before .before .before .before .before .before .before .before .before .before .before .before .fill32 .ensures .1) 0 i l ∙ ap (λ (x : ℕ). read (from b (x + recordLength Car * i)) carLine) (at .ensures);
+      room = λ i l. held (λ k. remaining (carOf (from b (at .result + recordLength Car * k)))) (a .c .cars) _ _ (c .before .before .before .before .before .before .before .before .before .before .fill-rooms .ensures .1) nan i l ∙ ap (λ (x : ℕ). remaining (carOf (from b (x + recordLength Car * i)))) (at .ensures);
+      line-id = λ l k. held (λ k. read (from b (lines .result + recordLength Line * k)) lineId) (a .c .lines) _ _ (c .before .before .before .before .before .fill322 .ensures .1) 0 l k ∙ ap (λ (x : ℕ). read (from b (x + recordLength Line * l)) lineId) (lines .ensures);
     }
 
 covered-waits-requires : tie.Need-covered-waits-requires

@@ -1,11 +1,11 @@
 -- covered::target_at meets its contract.
+use Rattle.layout.specs.Table.{carPhase, carStop, carTarget}
 use Prim.Native.Nat.{ℕ, _+_}
-use Rattle.bits.specs.Field.{fieldAt}
 use Rattle.components.specs.Cars.{servicing}
 use Rattle.components.specs.Codes.{phaseOf}
 use Rattle.components.specs.declared.Phase.{Phase}
 use Rattle.covered.specs.Columns.{servedTarget}
-use Rattle.layout.specs.Records.{from, carOf}
+use Rattle.layout.specs.Records.{from, carOf, read}
 use borrow.Author.Needs.{needs}
 use mathlib.Core.Bool.{Bool, true, false}
 use mathlib.Core.List.{List}
@@ -14,20 +14,20 @@ use Rattle.covered.proofs.target_at.Statement.{statement}
 use Rattle.covered.proofs.target_at.Tie as tie
 
 serving : (s : List ℕ) (at : ℕ) {code stop target : ℕ} {phase : Phase} {serves : Bool} →
-    code ≡ fieldAt s (at + 86) 3 →
-    stop ≡ fieldAt s (at + 89) 32 →
+    code ≡ read (from s at) carPhase →
+    stop ≡ read (from s at) carStop →
     phase ≡ phaseOf code stop →
     serves ≡ servicing phase →
     serves ≡ true →
-    target ≡ fieldAt s (at + 122) 32 →
+    target ≡ read (from s at) carTarget →
     target ≡ servedTarget (carOf (from s at))
 unfolding carOf
 serving s at code-is stop-is phase-is serves-is is target-is =
     rw (← code-is, ← stop-is, ← phase-is, ← serves-is, is) target-is
 
 not-serving : (s : List ℕ) (at : ℕ) {code stop : ℕ} {phase : Phase} {serves : Bool} →
-    code ≡ fieldAt s (at + 86) 3 →
-    stop ≡ fieldAt s (at + 89) 32 →
+    code ≡ read (from s at) carPhase →
+    stop ≡ read (from s at) carStop →
     phase ≡ phaseOf code stop →
     serves ≡ servicing phase →
     serves ≡ false →
@@ -37,16 +37,16 @@ not-serving s at code-is stop-is phase-is serves-is is = rw (← code-is, ← st
 
 returns : tie.Need-returns
 returns c =
-    let read = c .before .before .before in
-    let a = read .before .before .before .before .args in
-    serving (a .s .now) (a .at) (read .before .before .field .ensures .is) (read .before .field32 .ensures) (read .of-code .ensures)
+    let r = c .before .before .before in
+    let a = r .before .before .before .before .args in
+    serving (a .s .now) (a .at) (r .before .before .field .ensures .is) (r .before .field32 .ensures) (r .of-code .ensures .is)
     (c .before .before .servicing .ensures) (c .before .if1 .taken) (c .field322 .ensures)
 
 returns-2 : tie.Need-returns-2
 returns-2 c =
-    let read = c .before .before in
-    let a = read .before .before .before .before .args in
-    not-serving (a .s .now) (a .at) (read .before .before .field .ensures .is) (read .before .field32 .ensures) (read .of-code .ensures)
+    let r = c .before .before in
+    let a = r .before .before .before .before .args in
+    not-serving (a .s .now) (a .at) (r .before .before .field .ensures .is) (r .before .field32 .ensures) (r .of-code .ensures .is)
     (c .before .servicing .ensures) (c .if1 .left)
 
 pub target-at-spec : {M : Type 1} → statement M

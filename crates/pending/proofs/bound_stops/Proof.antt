@@ -1,4 +1,7 @@
 -- pending::bound_stops meets its contract.
+use Rattle.layout.specs.Table.{carId, carListed}
+use Rattle.layout.specs.Offsets.{recordLength}
+use Rattle.components.specs.declared.Kind.the-variants.{Car, Aboard}
 use Prim.Native.Nat.{ℕ, _+_, _*_, _<_}
 use Rattle.laws.specs.Bools.{kept-id}
 use Rattle.assignment.specs.Pending.{idle, idleBound}
@@ -7,7 +10,7 @@ use Rattle.columns.specs.Held.{held}
 use Rattle.columns.specs.Named.{contains, guarded}
 use Rattle.laws.specs.Folds.{any, any-cong}
 use Rattle.laws.specs.Tables.{tab}
-use Rattle.layout.specs.Records.{carOf, aboardOf, sheetOf}
+use Rattle.layout.specs.Records.{carOf, aboardOf, sheetOf, from, read}
 use Rattle.manifest.specs.World.{stopId}
 use Rattle.pending.specs.Masks.{boundId}
 use Rattle.pending.specs.Same.{guarded-column, flag-is, named-mask}
@@ -36,10 +39,10 @@ in-idle c x pos =
     let at = c .before .before .before .before .before .before .before .before .before .before .before .cars-from in
     any-cong (λ i. eqb (getD (c .before .before .before .before .before .before .before .before .before .fill-guarded .last .1 .1 .1 .1 .1 .1 .1 .0) i 0) x) (λ i. idle s i && eqb (s .car i .id) x) (a .c .cars)
     (λ i li.
-    ap (λ (y : ℕ). eqb y x) (held-as (λ k. guarded b (at .result + 737 * k) 22 154 1) (a .c .cars) _ _ _ (c .before .before .before .before .before .before .before .before .before .fill-guarded .ensures .1) refl 0 i li)
-    ∙ guarded-column b (at .result + 737 * i) 22 154 1 x pos
-    ∙ ap (λ (t : Bool). eqb (fieldAt b (at .result + 737 * i + 22) 32) x && t) (flag-is b (at .result + 737 * i + 154))
-    ∙ ap (λ (y : ℕ). eqb (fieldAt b (y + 737 * i + 22) 32) x && eqb (fieldAt b (y + 737 * i + 154) 1) 1) (at .ensures)
+    ap (λ (y : ℕ). eqb y x) (held-as (λ k. guarded b (at .result + recordLength Car * k) (carId .start) (carListed .start) 1) (a .c .cars) _ _ _ (c .before .before .before .before .before .before .before .before .before .fill-guarded .ensures .1) refl 0 i li)
+    ∙ guarded-column b (at .result + recordLength Car * i) (carId .start) (carListed .start) 1 x pos
+    ∙ ap (λ (t : Bool). eqb (read (from b (at .result + recordLength Car * i)) carId) x && t) (flag-is b (at .result + recordLength Car * i + carListed .start))
+    ∙ ap (λ (y : ℕ). eqb (read (from b (y + recordLength Car * i)) carId) x && eqb (read (from b (y + recordLength Car * i)) carListed) 1) (at .ensures)
     ∙ and-comm (eqb (s .car i .id) x) (s .car i .listed))
 
 returns : tie.Need-returns
@@ -54,8 +57,8 @@ returns c =
     c .named-stops .ensures
     ∙ named-mask s _ (a .c .aboards) (a .names .now) (λ j k. eqb (s .aboard k .destination) (stopId s j) && any (λ i. idle s i && eqb (s .car i .id) (s .aboard k .car)) (s .cars)) names
     (λ j i lj li.
-    ap (λ (x : ℕ). eqb x (stopId s j)) (held (λ k. boundId b (c .before .before .before .before .before .before .before .before .before .fill-guarded .last .1 .1 .1 .1 .1 .1 .1 .0) (a .c .cars) (at .result + 87 * k)) (a .c .aboards) _ _ (c .before .before .before .before .fill-bound .ensures .1) 0 i li)
-    ∙ ap (λ (x : ℕ). eqb (boundId b (c .before .before .before .before .before .before .before .before .before .fill-guarded .last .1 .1 .1 .1 .1 .1 .1 .0) (a .c .cars) (x + 87 * i)) (stopId s j)) (at .ensures)
+    ap (λ (x : ℕ). eqb x (stopId s j)) (held (λ k. boundId b (c .before .before .before .before .before .before .before .before .before .fill-guarded .last .1 .1 .1 .1 .1 .1 .1 .0) (a .c .cars) (at .result + recordLength Aboard * k)) (a .c .aboards) _ _ (c .before .before .before .before .fill-bound .ensures .1) 0 i li)
+    ∙ ap (λ (x : ℕ). eqb (boundId b (c .before .before .before .before .before .before .before .before .before .fill-guarded .last .1 .1 .1 .1 .1 .1 .1 .0) (a .c .cars) (x + recordLength Aboard * i)) (stopId s j)) (at .ensures)
     ∙ kept-id (contains (c .before .before .before .before .before .before .before .before .before .fill-guarded .last .1 .1 .1 .1 .1 .1 .1 .0) (a .c .cars) (s .aboard i .car)) (s .aboard i .destination) (stopId s j) (names .above-zero j lj)
     ∙ ap (λ (t : Bool). eqb (s .aboard i .destination) (stopId s j) && t) (in-idle c (s .aboard i .car) (boarded .above-zero i li)))
 

@@ -22,13 +22,13 @@ returns c =
     λ i. record {
       id = d5 .before .before .field32 .ensures i;
       line = d5 .before .field322 .ensures i;
-      phase = (d4 .before .before .of-code .ensures ∙ ap₂ phaseOf (d5 .field .ensures .is) (d4 .before .before .before .field323 .ensures)) i;
+      phase = (d4 .before .before .of-code .ensures .is ∙ ap₂ phaseOf (d5 .field .ensures .is) (d4 .before .before .before .field323 .ensures)) i;
       target = d4 .before .field324 .ensures i;
       listed = d4 .flag .ensures i;
       up = d3 .before .before .before .flag2 .ensures i;
       down = d3 .before .before .flag3 .ensures i;
-      direction = (d3 .of-bit .ensures ∙ ap directionOf (d3 .before .flag4 .ensures)) i;
-      mode = (d2 .before .before .of-bit2 .ensures ∙ ap modeOf (d2 .before .before .before .flag5 .ensures)) i;
+      direction = (d3 .of-bit .ensures .0 ∙ ap directionOf (d3 .before .flag4 .ensures)) i;
+      mode = (d2 .before .before .of-bit2 .ensures .0 ∙ ap modeOf (d2 .before .before .before .flag5 .ensures)) i;
       position = d2 .before .double-at .ensures i;
       speed = d2 .double-at2 .ensures i;
       capacity = capacity i;

@@ -1,8 +1,9 @@
 -- records::demand_at meets its contract.
+use Rattle.layout.specs.Table.{demandStop}
 use Prim.Native.Nat.{ℕ, _+_}
 use Rattle.bits.specs.Field.{fieldAt, flagAt}
 use Rattle.components.specs.declared.Demand.{Demand}
-use Rattle.layout.specs.Records.{from, demandOf}
+use Rattle.layout.specs.Records.{from, demandOf, read}
 use borrow.Author.Needs.{needs}
 use mathlib.Core.Bool.{Bool}
 use mathlib.Core.List.{List}
@@ -11,7 +12,7 @@ use Rattle.records.proofs.demand_at.Statement.{statement}
 use Rattle.records.proofs.demand_at.Tie as tie
 
 as-read : (s : List ℕ) (at : ℕ) {stop riding : ℕ} {call : Bool} →
-    stop ≡ fieldAt s (at + 22) 32 →
+    stop ≡ read (from s at) demandStop →
     riding ≡ fieldAt s (at + 54) 16 →
     call ≡ flagAt s (at + 70) →
     _≡_ {A = Demand} (record { stop = stop; riding = riding; call = call }) (demandOf (from s at))

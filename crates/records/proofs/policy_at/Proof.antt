@@ -12,9 +12,9 @@ returns c =
     let d1 = c .before .before .before .before in
     let d2 = d1 .before .before .before .before in
     λ i. record {
-      strategy = (d2 .before .of-code .ensures ∙ ap strategyOf (d2 .before .before .field .ensures .is)) i;
+      strategy = (d2 .before .of-code .ensures .is ∙ ap strategyOf (d2 .before .before .field .ensures .is)) i;
       rate = d2 .double-at .ensures i;
-      traffic = (d1 .before .before .of-code2 .ensures ∙ ap trafficOf (d1 .before .before .before .field2 .ensures .is)) i;
+      traffic = (d1 .before .before .of-code2 .ensures .is ∙ ap trafficOf (d1 .before .before .before .field2 .ensures .is)) i;
       w0 = d1 .before .double-at2 .ensures i;
       w1 = d1 .double-at3 .ensures i;
       w2 = c .before .before .before .double-at4 .ensures i;

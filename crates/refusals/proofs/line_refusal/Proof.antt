@@ -1,12 +1,12 @@
 -- refusals::line_refusal meets its contract.
 use Rattle.layout.specs.Refusals.{refusal9Line, refusal10Line}
-use Rattle.layout.specs.Verdict.{lineRefusal}
+use Rattle.layout.specs.Verdict.{firstOf, bodyRefusal}
 use borrow.Author.Needs.{needs}
 use Rattle.refusals.proofs.line_refusal.Statement.{statement}
 use Rattle.refusals.proofs.line_refusal.Tie as tie
 
 returns : tie.Need-returns
-unfolding lineRefusal refusal9Line refusal10Line
+unfolding firstOf refusal9Line refusal10Line
 returns c = cc
 
 pub line-refusal-spec : {M : Type 1} → statement M

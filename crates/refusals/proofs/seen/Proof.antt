@@ -1,6 +1,7 @@
 -- refusals::seen meets its contract.
+use Rattle.layout.specs.Records.{from, read}
+use Rattle.layout.specs.Table.{first}
 use Prim.Native.Nat.{ℕ, _≤_, _<_, _+_, _-_, _*_}
-use Rattle.bits.specs.Field.{fieldAt}
 use Rattle.laws.specs.Folds.{any, any-at, any-no, ended}
 use Rattle.layout.specs.Refusals.{seen}
 use borrow.Author.Needs.{needs}
@@ -22,7 +23,7 @@ abbrev μ-loop : tie.MeasureT-loop
 
 -- record i has the id
 abbrev here : List ℕ → ℕ → ℕ → ℕ → ℕ → Bool
-here s base len id i = eqb (fieldAt s (base + len * i + 22) 32) id
+here s base len id i = eqb (read (from s (base + len * i)) (first 32)) id
 
 offset-small : (len i : ℕ) → len ≤ 1000 → i ≤ 65535 → len * i ≤ 65535000
 offset-small len i a b = mul-le-mul {n₁ = len} {m₁ = i} {n₂ = 1000} {m₂ = 65535} a b

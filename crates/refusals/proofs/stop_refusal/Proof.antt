@@ -3,11 +3,12 @@ use Prim.Native.Nat.{ℕ, _+_}
 use Rattle.bits.specs.Field.{fieldAt}
 use Rattle.fp.specs.Ranges.{isPosition}
 use Rattle.layout.specs.Offsets.{endOf}
-use Rattle.layout.specs.Table.{stopPosition}
-use Rattle.layout.specs.Records.{from, double}
+use Rattle.layout.specs.Table.{stopPosition, stopId}
+use Rattle.layout.specs.Records.{from, double, read}
 use Rattle.layout.specs.Refusals.{lastStop, refusal9Stop, refusal11Stop}
-use Rattle.layout.specs.Verdict.{pick, stopRefusal}
+use Rattle.layout.specs.Verdict.{pick, firstOf, bodyRefusal}
 use Rattle.layout.specs.declared.Counts.{Counts}
+use Rattle.components.specs.declared.Kind.the-variants as Kind
 use borrow.Author.Needs.{needs}
 use lib.Dec.{eqb, leb}
 use lib.Ieee.{Float}
@@ -20,22 +21,22 @@ use Rattle.refusals.proofs.stop_refusal.Tie as tie
 -- the conditions as they are read, then the picks from the last to the first
 by-number : (s : List ℕ) (c : Counts) {at id last r11 r9 : ℕ} {position : Float} {placed : Bool} →
     at ≡ endOf c →
-    id ≡ fieldAt s (at + 22) 32 →
+    id ≡ read (from s at) stopId →
     last ≡ lastStop s c →
     position ≡ double (from s at) stopPosition →
     placed ≡ isPosition position →
     r11 ≡ pick (not placed) 11 0 →
     r9 ≡ pick (eqb id 0 || leb id last) 9 r11 →
-    r9 ≡ stopRefusal s c (from s (endOf c))
-unfolding stopRefusal refusal9Stop refusal11Stop
+    r9 ≡ bodyRefusal s c Kind.Stop (from s (endOf c))
+unfolding firstOf refusal9Stop refusal11Stop
 by-number s c at-is id-is last-is position-is placed-is is11 is9 = rw (is9, is11, placed-is, position-is, last-is, id-is, at-is)
 
 returns : tie.Need-returns
 returns c =
-    let read = c .before .before in
-    let a = read .before .before .before .before .before .before .args in
-    by-number (a .s .now) (a .c) (read .before .before .before .before .end-of .ensures) (read .before .before .before .field32 .ensures)
-    (read .before .before .last-stop .ensures) (read .before .double-at .ensures) (read .is-position .ensures) (c .before .pick .ensures)
+    let r = c .before .before in
+    let a = r .before .before .before .before .before .before .args in
+    by-number (a .s .now) (a .c) (r .before .before .before .before .end-of .ensures) (r .before .before .before .field32 .ensures)
+    (r .before .before .last-stop .ensures) (r .before .double-at .ensures) (r .is-position .ensures) (c .before .pick .ensures)
     (c .pick2 .ensures)
 
 pub stop-refusal-spec : {M : Type 1} → statement M

@@ -3,11 +3,12 @@ use Prim.Native.Nat.{ℕ, _+_}
 use Rattle.bits.specs.Field.{fieldAt}
 use Rattle.fp.specs.Ranges.{isMass}
 use Rattle.layout.specs.Offsets.{endOf}
-use Rattle.layout.specs.Table.{waitingWeight}
-use Rattle.layout.specs.Records.{from, double}
+use Rattle.layout.specs.Table.{waitingWeight, waitingStop, waitingWait}
+use Rattle.layout.specs.Records.{from, double, read}
 use Rattle.layout.specs.Refusals.{hasStop, refusal8Waiting, refusal9Waiting, refusal10Waiting, refusal11Waiting, refusal14}
-use Rattle.layout.specs.Verdict.{pick, waitingRefusal}
+use Rattle.layout.specs.Verdict.{pick, firstOf, bodyRefusal}
 use Rattle.layout.specs.declared.Counts.{Counts}
+use Rattle.components.specs.declared.Kind.the-variants as Kind
 use borrow.Author.Needs.{needs}
 use lib.Dec.{ltb}
 use mathlib.Core.Bool.{Bool, not}
@@ -19,10 +20,10 @@ use Rattle.refusals.proofs.waiting_refusal.Tie as tie
 -- the conditions as they are read, then the picks from the last to the first
 by-number : (s : List ℕ) (c : Counts) {at stop wait r14 r11 r10 r9 r8 : ℕ} {known light unused zero : Bool} →
     at ≡ endOf c →
-    stop ≡ fieldAt s (at + 22) 32 →
+    stop ≡ read (from s at) waitingStop →
     known ≡ hasStop s c stop →
     light ≡ isMass (double (from s at) waitingWeight) →
-    wait ≡ fieldAt s (at + 184) 64 →
+    wait ≡ read (from s at) waitingWait →
     unused ≡ refusal8Waiting (from s at) →
     zero ≡ refusal9Waiting (from s at) →
     r14 ≡ pick (ltb 9007199254740992 wait) 14 0 →
@@ -30,18 +31,18 @@ by-number : (s : List ℕ) (c : Counts) {at stop wait r14 r11 r10 r9 r8 : ℕ} {
     r10 ≡ pick (not known) 10 r11 →
     r9 ≡ pick zero 9 r10 →
     r8 ≡ pick unused 8 r9 →
-    r8 ≡ waitingRefusal s c (from s (endOf c))
-unfolding waitingRefusal refusal10Waiting refusal11Waiting refusal14
+    r8 ≡ bodyRefusal s c Kind.Waiting (from s (endOf c))
+unfolding firstOf refusal10Waiting refusal11Waiting refusal14
 by-number s c at-is stop-is known-is light-is wait-is unused-is zero-is is14 is11 is10 is9 is8 =
     rw (is8, is9, is10, is11, is14, zero-is, unused-is, wait-is, light-is, known-is, stop-is, at-is)
 
 returns : tie.Need-returns
 returns c =
     let late = c .before .before .before .before in
-    let read = late .before .before .before in
-    let a = read .before .before .before .before .before .before .args in
-    by-number (a .s .now) (a .c) (read .before .before .before .before .end-of .ensures) (read .before .before .before .field32 .ensures)
-    (read .before .before .has-stop .ensures) (read .before .mass-at .ensures) (read .field .ensures .is)
+    let r = late .before .before .before in
+    let a = r .before .before .before .before .before .before .args in
+    by-number (a .s .now) (a .c) (r .before .before .before .before .end-of .ensures) (r .before .before .before .field32 .ensures)
+    (r .before .before .has-stop .ensures) (r .before .mass-at .ensures) (r .field .ensures .is)
     (c .before .before .before .waiting-unused .ensures) (c .before .before .waiting-zero .ensures) (late .before .before .pick .ensures)
     (late .before .pick2 .ensures) (late .pick3 .ensures) (c .before .pick4 .ensures) (c .pick5 .ensures)
 

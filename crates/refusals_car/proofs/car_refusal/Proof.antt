@@ -3,8 +3,9 @@ use Prim.Native.Nat.{ℕ}
 use Rattle.layout.specs.Offsets.{endOf}
 use Rattle.layout.specs.Records.{from}
 use Rattle.layout.specs.Refusals.{refusal8Car, refusal9Car, refusal10Car, refusal11Car, refusal13}
-use Rattle.layout.specs.Verdict.{pick, carRefusal}
+use Rattle.layout.specs.Verdict.{pick, firstOf, bodyRefusal}
 use Rattle.layout.specs.declared.Counts.{Counts}
+use Rattle.components.specs.declared.Kind.the-variants as Kind
 use borrow.Author.Needs.{needs}
 use mathlib.Core.Bool.{Bool}
 use mathlib.Core.List.{List}
@@ -25,8 +26,8 @@ by-number : (s : List ℕ) (c : Counts) {at r13 r11 r10 r9 r8 : ℕ} {outside lo
     r10 ≡ pick unknown 10 r11 →
     r9 ≡ pick bad 9 r10 →
     r8 ≡ pick unused 8 r9 →
-    r8 ≡ carRefusal s c (from s (endOf c))
-unfolding carRefusal
+    r8 ≡ bodyRefusal s c Kind.Car (from s (endOf c))
+unfolding firstOf
 by-number s c at-is outside-is long-is unused-is bad-is unknown-is is13 is11 is10 is9 is8 =
     rw (is8, is9, is10, is11, is13, unknown-is, bad-is, unused-is, long-is, outside-is, at-is)
 

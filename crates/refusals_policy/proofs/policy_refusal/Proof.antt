@@ -1,11 +1,13 @@
 -- refusals_policy::policy_refusal meets its contract.
+use Rattle.layout.specs.Table.{policyLimit}
 use Prim.Native.Nat.{ℕ, _+_}
 use Rattle.bits.specs.Field.{fieldAt}
 use Rattle.layout.specs.Offsets.{endOf}
-use Rattle.layout.specs.Records.{from}
+use Rattle.layout.specs.Records.{from, read}
 use Rattle.layout.specs.Refusals.{refusal8Policy, refusal11Policy, refusal12, refusal15}
-use Rattle.layout.specs.Verdict.{pick, policyRefusal}
+use Rattle.layout.specs.Verdict.{pick, firstOf, bodyRefusal}
 use Rattle.layout.specs.declared.Counts.{Counts}
+use Rattle.components.specs.declared.Kind.the-variants as Kind
 use borrow.Author.Needs.{needs}
 use lib.Dec.{eqb}
 use mathlib.Core.Bool.{Bool}
@@ -17,7 +19,7 @@ use Rattle.refusals_policy.proofs.policy_refusal.Tie as tie
 -- the conditions as they are read, then the picks from the last to the first
 by-number : (s : List ℕ) (c : Counts) {at limit r15 r12 r11 r8 : ℕ} {weighed unused outside : Bool} →
     at ≡ endOf c →
-    limit ≡ fieldAt s (at + 24) 16 →
+    limit ≡ read (from s at) policyLimit →
     weighed ≡ refusal15 (from s at) →
     unused ≡ refusal8Policy (from s at) →
     outside ≡ refusal11Policy (from s at) →
@@ -25,17 +27,17 @@ by-number : (s : List ℕ) (c : Counts) {at limit r15 r12 r11 r8 : ℕ} {weighed
     r12 ≡ pick (eqb limit 0) 12 r15 →
     r11 ≡ pick outside 11 r12 →
     r8 ≡ pick unused 8 r11 →
-    r8 ≡ policyRefusal s c (from s (endOf c))
-unfolding policyRefusal refusal12
+    r8 ≡ bodyRefusal s c Kind.Policy (from s (endOf c))
+unfolding firstOf refusal12
 by-number s c at-is limit-is weighed-is unused-is outside-is is15 is12 is11 is8 =
     rw (is8, is11, is12, is15, outside-is, unused-is, weighed-is, limit-is, at-is)
 
 returns : tie.Need-returns
 returns c =
     let late = c .before .before .before .before in
-    let read = late .before .before .before in
-    let a = read .before .before .before .args in
-    by-number (a .s .now) (a .c) (read .before .end-of .ensures) (read .field .ensures .is) (late .before .before .load-weighed .ensures)
+    let r = late .before .before .before in
+    let a = r .before .before .before .args in
+    by-number (a .s .now) (a .c) (r .before .end-of .ensures) (r .field .ensures .is) (late .before .before .load-weighed .ensures)
     (c .before .before .before .unused-weights .ensures) (c .before .before .out-of-range .ensures) (late .before .pick .ensures)
     (late .pick2 .ensures) (c .before .pick3 .ensures) (c .pick4 .ensures)
 

@@ -1,4 +1,5 @@
 -- sheet::body_refusal meets its contract.
+use Rattle.layout.specs.Verdict.{firstOf}
 use borrow.Author.Needs.{needs}
 use Rattle.sheet.proofs.body_refusal.Statement.{statement}
 use Rattle.sheet.proofs.body_refusal.Tie as tie
@@ -25,6 +26,7 @@ returns-7 : tie.Need-returns-7
 returns-7 c = rw (c .before .enum-told7 .given .1) (c .demand-refusal .ensures)
 
 returns-8 : tie.Need-returns-8
+unfolding firstOf
 returns-8 c = rw (c .enum-told8 .given .1)
 
 pub body-refusal-spec : {M : Type 1} → statement M

@@ -3,10 +3,10 @@ use Prim.Native.Nat.{ℕ, _+_}
 use Rattle.bits.specs.Field.{fieldAt}
 use Rattle.components.specs.Codes.{kindOf}
 use Rattle.components.specs.declared.Kind.{Kind}
-use Rattle.layout.specs.Offsets.{endOf, bodyLength, isFull}
+use Rattle.layout.specs.Offsets.{endOf, bodyLength}
 use Rattle.layout.specs.Records.{from}
-use Rattle.layout.specs.Refusals.{pastEnd, isUnknown, refusal2, refusal5, refusal6}
-use Rattle.layout.specs.Verdict.{pick, bodyRefusal, recordRefusal}
+use Rattle.layout.specs.Refusals.{pastEnd, refusal2, refusal4, refusal5, refusal6, refusal7}
+use Rattle.layout.specs.Verdict.{pick, firstOf, bodyRefusal, recordRefusal}
 use Rattle.layout.specs.declared.Counts.{Counts}
 use borrow.Author.Needs.{needs}
 use lib.Dec.{eqb}
@@ -25,16 +25,16 @@ by-number : (s : List ℕ) (c : Counts) {at code len asked body r7 r6 r5 r4 r2 :
     short ≡ pastEnd s (at + 22 + len) →
     asked ≡ bodyLength kind →
     unordered ≡ refusal6 c code →
-    full ≡ isFull c kind →
+    full ≡ refusal7 c kind →
     body ≡ bodyRefusal s c kind (from s (endOf c)) →
-    unknown ≡ isUnknown kind →
+    unknown ≡ refusal4 kind →
     r7 ≡ pick full 7 body →
     r6 ≡ pick unordered 6 r7 →
     r5 ≡ pick (not (eqb len asked)) 5 r6 →
     r4 ≡ pick unknown 4 r5 →
     r2 ≡ pick short 2 r4 →
     r2 ≡ recordRefusal s c
-unfolding recordRefusal refusal2 refusal5
+unfolding recordRefusal firstOf refusal2 refusal5
 by-number s c at-is code-is len-is kind-is short-is asked-is unordered-is full-is body-is unknown-is is7 is6 is5 is4 is2 =
     rw (is2, is4, is5, is6, is7, unknown-is, body-is, full-is, unordered-is, asked-is, short-is, kind-is, len-is, code-is, at-is)
 
@@ -45,7 +45,7 @@ returns c =
     let read = tests .before .before .before in
     let a = read .before .before .before .before .before .args in
     by-number (a .s .now) (a .c) (read .before .before .before .end-of .ensures) (read .before .before .field .ensures .is)
-    (read .before .field2 .ensures .is) (read .of-code .ensures) (tests .before .before .past-end .ensures)
+    (read .before .field2 .ensures .is) (read .of-code .ensures .is) (tests .before .before .past-end .ensures)
     (tests .before .body-length .ensures) (tests .out-of-order .ensures) (late .before .before .before .is-full .ensures)
     (late .before .before .body-refusal .ensures) (c .before .before .before .is-unknown .ensures) (late .before .pick .ensures)
     (late .pick2 .ensures) (c .before .before .pick3 .ensures) (c .before .pick4 .ensures) (c .pick5 .ensures)

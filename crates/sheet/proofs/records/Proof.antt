@@ -41,7 +41,7 @@ loop-again c =
     let k : c .next .result ≡ next (l .c) (kindOf (kindAt s (l .c))) =
     c .next .ensures
     ∙ ap (next (l .c))
-    (c .before .of-code .ensures
+    (c .before .of-code .ensures .is
     ∙ ap kindOf (code ∙ ap (λ (x : ℕ). fieldAt s (x + 0) 6) (d .end-of .ensures))) in
     rw k (
       next-small (l .c) (kindOf (kindAt s (l .c))) (l .inv .0) (clean s (l .c) f .has-room) (omega arith),

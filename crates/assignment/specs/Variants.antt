@@ -1,0 +1,91 @@
+-- What document 01 says of the limit, of a cell at the sentinel and of coverage, on small sheets, by computation. Assumes nothing.
+use Prim.Native.Nat.{ℕ}
+use mathlib.Core.Path.{_≡_, refl}
+use mathlib.Core.Bool.{true, false}
+use mathlib.Core.List.{List, [], _∷_, _++_}
+use lib.ListN.{set}
+use Rattle.scale.specs.Scale.{sentinel}
+use Rattle.components.specs.declared.Kind.the-variants.{Car, Waiting}
+use Rattle.components.specs.Sheet.{Sheet}
+use Rattle.layout.specs.declared.Counts.{Counts}
+use Rattle.layout.specs.declared.Reading.the-variants.{Accepted}
+use Rattle.layout.specs.Records.{sheetOf, limitOf}
+use Rattle.layout.specs.Verdict.{verdict}
+use Rattle.layout.specs.Smallest.{Bits, number, widths, bytes, written, body, of, sheet, one, policy, scan, stop, line}
+use Rattle.assignment.specs.Pending.{covered, pending, idleCars, pendingStops}
+use Rattle.assignment.specs.Candidates.{kept}
+use Rattle.assignment.specs.Cells.{matrix, column, decision}
+use Rattle.assignment.specs.Example as example
+use Rattle.assignment.specs.Example.{everything}
+
+-- ---- the example under the limit 1
+
+-- car 7 stands at 0: stop 2 is viable at 10, stop 3 at 20. "The limit keeps the nearest by distance, then id."
+pub nearest-kept : (kept example.sheet 0 1 1 ≡ true) × (kept example.sheet 0 1 2 ≡ false)
+unfolding everything
+nearest-kept = (refl, refl)
+
+-- ---- the example with stops 2 and 3 barred to car 8: bits 2,333 and 2,334
+
+unfoldable pub barredBytes : List ℕ
+barredBytes = set example.bytes 291 6
+
+unfoldable pub barredSheet : Sheet
+barredSheet = sheetOf barredBytes example.counts
+
+-- its column is below m, but the cell is not below the sentinel: "Otherwise idle"
+pub barred-idle : (column barredSheet 65535 1 ≡ 1)
+    × (pendingStops barredSheet ≡ 2)
+    × (matrix barredSheet 65535 1 1 ≡ sentinel)
+    × (decision barredSheet 65535 1 ≡ 0)
+unfolding everything barredBytes barredSheet
+barred-idle = (refl, refl, refl, refl)
+
+-- ---- two riders at a stop, and a car that takes 100 and opens its doors there
+
+-- the doubles 40, 41, 60, 100
+abbrev forty : ℕ
+forty = 0x4044_0000_0000_0000
+
+abbrev forty-one : ℕ
+forty-one = 0x4044_8000_0000_0000
+
+abbrev sixty : ℕ
+sixty = 0x404e_0000_0000_0000
+
+abbrev hundred : ℕ
+hundred = 0x4059_0000_0000_0000
+
+-- car 1 of line 1, at stop 1, which is its target
+unfoldable opening : Bits
+opening = of Car (1 ∷ 1 ∷ 3 ∷ 0 ∷ 1 ∷ 1 ∷ 0 ∷ 1 ∷ 1 ∷ 0 ∷ 0 ∷ 0 ∷ one ∷ hundred ∷ 0 ∷ 0 ∷ 0 ∷ 0 ∷ 0 ∷ 0 ∷ 0 ∷ 0 ∷ 0 ∷ [])
+
+-- a rider at stop 1 of a weight, who takes any line, or one that is required
+unfoldable any-line : ℕ → Bits
+any-line weight = of Waiting (1 ∷ 0 ∷ 0 ∷ 0 ∷ 0 ∷ weight ∷ 0 ∷ [])
+
+unfoldable that-line : ℕ → ℕ → Bits
+that-line required weight = of Waiting (1 ∷ 1 ∷ required ∷ 0 ∷ 0 ∷ weight ∷ 0 ∷ [])
+
+unfoldable crowdBytes : Bits → List ℕ
+crowdBytes riders = sheet 6 (scan ++ stop 1 ++ line 1 0x8000_0000_0000_0000 ++ opening ++ riders)
+
+unfoldable crowdCounts : Counts
+crowdCounts = record { policies = 1; stops = 1; lines = 1; cars = 1; aboards = 0; waits = 2; demands = 0 }
+
+unfoldable crowd : Bits → Sheet
+crowd riders = sheetOf (crowdBytes riders) crowdCounts
+
+-- "60 + 40 against 100 is covered; 60 + 41 isn't."
+crowd-accepted : verdict (crowdBytes (any-line sixty ++ any-line forty)) ≡ Accepted crowdCounts
+unfolding everything number widths bytes written body of sheet policy scan stop line opening any-line crowdBytes crowdCounts
+crowd-accepted = refl
+
+covered-to-the-last : (covered (crowd (any-line sixty ++ any-line forty)) 0 ≡ true) × (covered (crowd (any-line sixty ++ any-line forty-one)) 0 ≡ false)
+unfolding everything number widths bytes written body of sheet policy scan stop line opening any-line crowdBytes crowdCounts crowd
+covered-to-the-last = (refl, refl)
+
+-- "each waiter's required line, if it has one, is one of theirs"
+covered-by-line : (covered (crowd (any-line sixty ++ that-line 1 forty)) 0 ≡ true) × (covered (crowd (any-line sixty ++ that-line 2 forty)) 0 ≡ false)
+unfolding everything number widths bytes written body of sheet policy scan stop line opening any-line that-line crowdBytes crowdCounts crowd
+covered-by-line = (refl, refl)
