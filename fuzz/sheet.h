@@ -1,4 +1,4 @@
-/* The bits and records of a sheet (docs/MANUAL.md, Where each record stands). */
+/* The bits and records of a sheet (docs/manual/format.md). */
 #ifndef SHEET_H
 #define SHEET_H
 

@@ -13,7 +13,7 @@ extern "C" {
 #endif
 
 /* Reads a sheet. 0: accepted, and *offset keeps its contents. Otherwise the refusal's number, 2 to 16, and in *offset the bit offset where the
-   refused record starts (docs/MANUAL.md, Refusals). Every byte string has an answer; bytes past the first 65,536 change none. */
+   refused record starts (docs/manual/desk.md). Every byte string has an answer; bytes past the first 65,536 change none. */
 uint32_t dispatch_bench_read(const uint8_t *sheet, size_t length, uint64_t *offset);
 
 /* The choice of one column a car with the least total; among these the lowest column for the first car, then the second, on. Cells stand row by
@@ -61,7 +61,7 @@ enum dispatch_bench_refusal {
    A cell is the cost times 1,000,000, rounded, or DISPATCH_BENCH_SENTINEL where there is no rank, and in spare columns; the first *stops columns are
    the pending stops by rising id. *total is the sum of a cell for each idle car: that of the stop where it is sent, or the sentinel where it stays
    idle. Which car a decision is for is read off the sheet: decision k is that of the k-th car record whose bit 154, counted from 0 where the
-   record starts, is set (idle-listed); its id is the 32 bits from bit 22 on (docs/MANUAL.md, Where each record stands; examples/c/pass.c does it). */
+   record starts, is set (idle-listed); its id is the 32 bits from bit 22 on (docs/manual/format.md; examples/c/pass.c does it). */
 uint32_t dispatch_bench_pass(const uint8_t *sheet, size_t length, uint32_t *decisions, size_t decision_count, uint64_t *matrix, size_t cell_count,
                              uint8_t *sweeps, size_t sweep_count, uint64_t *cars, uint64_t *stops, uint64_t *total, uint64_t *ranked, uint64_t *offset);
 

@@ -5,10 +5,10 @@
 
 #include "dispatch_bench.h"
 
-/* Bytes past these change no answer (docs/MANUAL.md, Limits). */
+/* Bytes past these change no answer (docs/manual/planners.md, Limits). */
 #define MOST_BYTES 65536
 
-/* The format of a sheet (docs/MANUAL.md, Where each record stands). */
+/* The format of a sheet (docs/manual/format.md). */
 #define FIRST_RECORD 24
 #define FRONT 22
 #define CAR 4

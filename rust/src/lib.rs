@@ -2,7 +2,7 @@
 //!
 //! Every function of the linked library is proved to meet its contract; this crate is what a Rust host needs around it and is not proved. Each
 //! function ends on every input, with an answer or a [`Refusal`], and none panics. There is no state, so any number of threads may call at once;
-//! a call takes less than 64 KiB of stack. docs/MANUAL.md has the format of a sheet, the rules of the refusals, and what is proved.
+//! a call takes less than 64 KiB of stack. docs/manual has the format of a sheet, the rules of the refusals, and what is proved.
 //!
 //! ```
 //! # let sheet = include_bytes!(concat!(env!("CARGO_MANIFEST_DIR"), "/../crates/passprint/stdin"));

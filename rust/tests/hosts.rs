@@ -152,10 +152,10 @@ fn the_matcher() {
     assert_eq!(choose(usize::MAX, usize::MAX, &[0]), None);
 }
 
-/// The sentences of the refusals are those of docs/MANUAL.md.
+/// The sentences of the refusals are those of docs/manual/desk.md.
 #[test]
 fn sentences() {
-    let manual = include_str!("../../docs/MANUAL.md");
+    let manual = include_str!("../../docs/manual/desk.md");
     for number in 1..=16 {
         let refusal = Refusal { number, offset: 24 };
         let row = format!("| {number} | {} | {} |", refusal.rule(), refusal.remedy());

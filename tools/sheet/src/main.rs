@@ -17,7 +17,7 @@ usage: sheet COMMAND
   pass SHEET           print the pass, or the refusal, in the lines of the program passprint
   rule [NUMBER]        print a refusal's rule, or all of them
   help, --version      print this, or the version
-- stands for standard input, as OUT for standard output. The text is described in docs/MANUAL.md, \"Sheets as text\".
+- stands for standard input, as OUT for standard output. The text is described in docs/manual/planners.md.
 Exit 0: done, a refused sheet explained included. 1: not done, the reason is on standard error. 2: no such command.
 ";
 

@@ -250,9 +250,16 @@ fn every_damaged_file_has_its_sentence() {
     }
 }
 
+/// The manual's pages that show texts and refusals.
+fn manual() -> String {
+    let pages = ["MANUAL.md", "manual/planners.md", "manual/desk.md"];
+    let page = |page: &str| text(&std::fs::read(here(&format!("../../docs/{page}"))).unwrap());
+    pages.map(page).concat()
+}
+
 #[test]
 fn the_manual_has_every_rule() {
-    let manual = text(&std::fs::read(here("../../docs/MANUAL.md")).unwrap());
+    let manual = manual();
     for (k, rule) in rules::RULES.iter().enumerate() {
         let row = format!("| {} | {} | {} |", k + 1, rule.says, rule.remedy);
         assert!(manual.contains(&row), "{row}");
@@ -276,7 +283,7 @@ fn indented(text: &str) -> String {
 #[test]
 fn the_manual_has_an_example_of_every_number() {
     let file = |path: &str| text(&std::fs::read(here(path)).unwrap());
-    let manual = file("../../docs/MANUAL.md");
+    let manual = manual();
     assert!(manual.contains(&indented(&file("examples/lobby.txt"))));
     assert!(manual.contains(&indented(&file("examples/document_01.explain"))));
     let is_shown = |example: &str| {
