@@ -1,20 +1,18 @@
 -- The verdict "accepted" makes a sound sheet. Assumes nothing.
-use Prim.Native.Nat.{ℕ, zero, suc, _+_, _-_, _*_, _/_, _%_, _≤_, _<_}
+use Prim.Native.Nat.{ℕ, zero, suc, _+_, _-_, _*_, _/_, _≤_, _<_}
 use mathlib.Core.Path.{_≡_, refl, sym, ap, _∙_, subst}
-use mathlib.Core.Bool.{Bool, true, false, not, _&&_, _||_, cond, true≢false}
+use mathlib.Core.Bool.{Bool, true, false, not, _&&_, cond}
 use mathlib.Core.List.{List}
 use mathlib.Core.Logic.{_⊎_, inl, inr, ⊎-elim, _≢_}
-use native.Mathlib.Numerals.{add-one}
 use native.Mathlib.Omega.{arith}
-use lib.Dec.{eqb, ltb, leb}
+use lib.Dec.{eqb, ltb}
 use lib.Ieee.{Float}
 use lib.ListN.{length}
 use borrow.Author.Tests.{eq-eqb, ne-eqb, eqb-true, eqb-false, ltb-true, ltb-false, leb-false, not-true, not-false}
 use Rattle.fp.specs.Ranges.{isPosition, isSpeed, isMass, isThreshold, isTickRate}
 use Rattle.mask.specs.Mask.{pastStops}
-use Rattle.laws.specs.Bools.{which, never, either, either-right, neither-left, neither-right, both-left, both-right, not-both, same?, less?}
-use Rattle.laws.specs.Folds.{any, any-some, any-at, any-none, count, count-above, nth, nth-is}
-use Rattle.bits.specs.Field.{fieldAt}
+use Rattle.laws.specs.Bools.{which, never, neither-left, neither-right, both-left, both-right, not-both, same?, less?}
+use Rattle.laws.specs.Folds.{any, any-some, any-none, count-above, nth, nth-is}
 use Rattle.laws.specs.Counts.{pigeons, count-all}
 use Rattle.components.specs.declared.Kind.{Kind}
 use Rattle.components.specs.declared.Kind.the-variants.{Policy, Stop, Line, Car, Aboard, Waiting, Demand, Unknown}
@@ -28,10 +26,10 @@ use Rattle.components.specs.declared.Kind.the-variants as kind
 use Rattle.layout.specs.declared.Counts.{Counts}
 use Rattle.layout.specs.declared.Reading.{Reading}
 use Rattle.layout.specs.declared.Reading.the-variants.{Refused, Accepted}
-use Rattle.layout.specs.Offsets.{headLength, stopAt, lineAt, carAt, aboardAt, waitingAt, demandAt, recordLength, none, next, endOf, lastKind, stopsFrom, linesFrom, carsFrom, aboardsFrom, waitsFrom, demandsFrom, Small}
+use Rattle.layout.specs.Offsets.{headLength, stopAt, lineAt, carAt, aboardAt, waitingAt, demandAt, recordLength, none, next, endOf, lastKind, stopsFrom, linesFrom, carsFrom, Small}
 use Rattle.layout.specs.Table.{carHasBypassUp, carHasBypassDown, carBypassDown, policyLimit, policyRate, policyW0, policyW1, policyW2, policyW3, policyW4, stopId, lineId, lineServes, carId, carLine, carPhase, carStop, carHasTarget, carTarget, carPosition, carSpeed, carCapacity, carLoad, carBypassUp, carBypassDown, carTransition, carDwell, carRestricted, carCalls, aboardCar, waitingStop, waitingWeight, waitingWait, demandStop, first}
 use Rattle.layout.specs.Records.{Fields, from, flag, double, policyOf, stopOf, lineOf, carOf, aboardOf, waitingOf, demandOf, sheetOf, limitOf, read}
-use Rattle.layout.specs.Refusals.{recordCount, kindAt, pastEnd, refusal2Head, refusal3, refusal6Empty, refusal16, tailFits, refusal6, refusal4, refusal7, seen, hasStop, hasLine, hasCar, hasDemand, lastStop, presentZero, strategyAt, loadWeighed, phaseAt, refusal8Policy, refusal11Policy, refusal12, refusal15, refusal9Stop, refusal11Stop, refusal9Line, refusal10Line, refusal8Car, refusal9Car, refusal10Car, refusal11Car, refusal13, refusal8Aboard, refusal9Aboard, refusal10Aboard, refusal8Waiting, refusal9Waiting, refusal10Waiting, refusal11Waiting, refusal14, refusal9Demand, refusal10Demand}
+use Rattle.layout.specs.Refusals.{recordCount, kindAt, pastEnd, refusal2Head, refusal6Empty, refusal16, tailFits, refusal6, refusal4, refusal7, seen, hasStop, hasLine, hasCar, hasDemand, lastStop, presentZero, strategyAt, loadWeighed, phaseAt, refusal8Policy, refusal11Policy, refusal12, refusal15, refusal9Stop, refusal11Stop, refusal9Line, refusal10Line, refusal8Car, refusal9Car, refusal10Car, refusal11Car, refusal13, refusal8Aboard, refusal9Aboard, refusal10Aboard, refusal8Waiting, refusal9Waiting, refusal10Waiting, refusal11Waiting, refusal14, refusal9Demand, refusal10Demand}
 use Rattle.layout.specs.Verdict.{bodyRefusal, recordRefusal, headRules, tailRules, given, tailVerdict, recordsVerdict, verdict, firstOf}
 use Rattle.layout.specs.Readings.{refused≢accepted, same-counts}
 use Rattle.layout.specs.VerdictLaws.{pick-none, Clean, clean}

@@ -1,32 +1,30 @@
 -- A byte list has the verdict of its first 65,536 bytes, so a program with a buffer of that size answers for every input: what was read without a
 -- refusal ends by bit 208,658, and a record has at most 65,557 bits. Assumes nothing.
-use Prim.Native.Nat.{ℕ, zero, suc, _+_, _-_, _*_, _/_, _%_, _^_, _≤_, _<_}
-use mathlib.Core.Path.{_≡_, refl, sym, ap, ap₂, _∙_, subst, fun-ext}
-use mathlib.Core.Bool.{Bool, true, false, not, _&&_, _||_, cond}
+use Prim.Native.Nat.{ℕ, zero, suc, _+_, _-_, _*_, _≤_, _<_}
+use mathlib.Core.Path.{_≡_, refl, sym, ap, ap₂, _∙_, fun-ext}
+use mathlib.Core.Bool.{Bool, true, false, _||_, cond}
 use mathlib.Core.List.{List}
-use mathlib.Core.Logic.{⊎-elim, _≢_}
+use mathlib.Core.Logic.{⊎-elim}
 use native.Mathlib.Omega.{arith}
-use lib.Dec.{eqb, ltb, leb}
+use lib.Dec.{eqb, leb}
 use lib.ListN.{length, take}
 use lib.Seq.{length-take-le, take-all}
-use borrow.Author.Tests.{eqb-true, eqb-false, eq-eqb, ne-eqb, le-ltb, leb-true}
+use borrow.Author.Tests.{eqb-true, le-ltb, leb-true}
 use Rattle.laws.specs.Bools.{which, less?}
-use Rattle.laws.specs.Folds.{any, any-cong}
+use Rattle.laws.specs.Folds.{any-cong}
 use Rattle.bits.specs.Field.{fieldAt, field-take, field-lt}
 use Rattle.components.specs.declared.Kind.{Kind}
 use Rattle.components.specs.declared.Kind.the-variants.{Policy, Stop, Line, Car, Aboard, Waiting, Demand, Unknown}
 use Rattle.components.specs.declared.Strategy.{Strategy}
 use Rattle.components.specs.declared.Strategy.the-variants.{Etd, Rsr, Scan}
 use Rattle.components.specs.declared.Strategy.the-variants as strategy
-use Rattle.components.specs.Codes.{kindOf, strategyOf, strategyCode}
+use Rattle.components.specs.Codes.{kindOf, strategyCode}
 use Rattle.components.specs.declared.Kind.the-variants as kind
 use Rattle.layout.specs.declared.Counts.{Counts}
-use Rattle.layout.specs.declared.Reading.{Reading}
-use Rattle.layout.specs.declared.Reading.the-variants.{Refused, Accepted}
 use Rattle.layout.specs.Offsets.{headLength, stopAt, recordLength, none, next, endOf, stopsFrom, linesFrom, carsFrom, demandsFrom, bodyFrom}
-use Rattle.layout.specs.Table.{policyStrategy, lineId, carId, carLine, aboardCar, waitingStop, demandStop, first, stopId}
-use Rattle.layout.specs.Records.{Fields, from, double, read}
-use Rattle.layout.specs.Refusals.{recordCount, kindAt, lengthAt, refusal2Head, refusal3, refusal6Empty, refusal16, tailFits, strategyAt, refusal7, seen, hasStop, hasLine, hasCar, hasDemand, lastStop, refusal4, unusedWeights, loadWeighed, refusal2, refusal5, refusal6, refusal8Policy, refusal11Policy, refusal12, refusal15, refusal9Stop, refusal11Stop, refusal9Line, refusal10Line, refusal8Car, refusal9Car, refusal10Car, refusal11Car, refusal13, refusal8Aboard, refusal9Aboard, refusal10Aboard, refusal8Waiting, refusal9Waiting, refusal10Waiting, refusal11Waiting, refusal14, refusal9Demand, refusal10Demand}
+use Rattle.layout.specs.Table.{lineId, carId, carLine, aboardCar, waitingStop, demandStop, first, stopId}
+use Rattle.layout.specs.Records.{Fields, from, read}
+use Rattle.layout.specs.Refusals.{recordCount, kindAt, lengthAt, refusal2Head, refusal3, refusal6Empty, refusal16, tailFits, strategyAt, seen, hasStop, hasLine, hasCar, hasDemand, lastStop, unusedWeights, loadWeighed, refusal2, refusal8Policy, refusal11Policy, refusal12, refusal15, refusal9Stop, refusal11Stop, refusal9Line, refusal10Line, refusal8Car, refusal9Car, refusal10Car, refusal11Car, refusal13, refusal8Aboard, refusal9Aboard, refusal10Aboard, refusal8Waiting, refusal9Waiting, refusal10Waiting, refusal11Waiting, refusal14, refusal9Demand, refusal10Demand}
 use Rattle.layout.specs.Verdict.{pick, bodyRefusal, recordRefusal, tailVerdict, recordsVerdict, verdict, firstOf}
 use Rattle.layout.specs.VerdictLaws.{clean}
 use Rattle.accepted.specs.Accepted.{Records, one-more, small, few-demands, no-records}

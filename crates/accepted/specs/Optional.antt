@@ -1,8 +1,8 @@
 -- An optional id of an accepted sheet is 0 exactly where its present bit is not set: nothing is lost where the sheet holds the field alone. Assumes
 -- nothing.
-use Prim.Native.Nat.{ℕ, _+_, _*_, _<_}
+use Prim.Native.Nat.{ℕ, _<_}
 use mathlib.Core.Path.{_≡_, refl, sym}
-use mathlib.Core.Bool.{Bool, true, false, not, _&&_, _||_}
+use mathlib.Core.Bool.{Bool, true, false, not, _&&_}
 use mathlib.Core.List.{List}
 use native.Mathlib.Omega.{arith}
 use lib.Dec.{eqb}
@@ -12,7 +12,7 @@ use Rattle.components.specs.declared.Kind.the-variants as kind
 use Rattle.components.specs.Codes.{phaseCode}
 use Rattle.layout.specs.declared.Counts.{Counts}
 use Rattle.layout.specs.declared.Reading.the-variants.{Accepted}
-use Rattle.layout.specs.Offsets.{carAt, aboardAt, waitingAt, carsFrom, aboardsFrom, waitsFrom}
+use Rattle.layout.specs.Offsets.{carAt, aboardAt, waitingAt}
 use Rattle.layout.specs.Table.{carId, carLine, carStop, carHasTarget, carTarget, aboardCar, aboardHasDestination, aboardDestination, waitingStop, waitingHasLine, waitingLine, waitingHasDestination, waitingDestination}
 use Rattle.layout.specs.Records.{Fields, from, flag, carOf, aboardOf, waitingOf, sheetOf, read}
 use Rattle.layout.specs.Refusals.{absentSet, presentZero, unusedStop, phaseAt, refusal8Car, refusal9Car, refusal8Aboard, refusal9Aboard, refusal8Waiting, refusal9Waiting}

@@ -14,9 +14,7 @@ use Rattle.components.specs.declared.Policy.{Policy}
 use Rattle.components.specs.declared.Stop.{Stop}
 use Rattle.components.specs.declared.Line.{Line}
 use Rattle.components.specs.declared.Car.{Car}
-use Rattle.components.specs.declared.Aboard.{Aboard}
 use Rattle.components.specs.declared.Waiting.{Waiting}
-use Rattle.components.specs.declared.Demand.{Demand}
 use Rattle.components.specs.declared.Strategy.the-variants as strategies
 use Rattle.components.specs.declared.Phase.the-variants as phases
 use Rattle.components.specs.declared.Threshold.{Threshold}

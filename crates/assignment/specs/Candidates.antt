@@ -1,6 +1,6 @@
 -- The stops that a car is ranked for: on its line, not restricted, within the candidate limit. Assumes nothing.
 use Prim.Native.Nat.{ℕ}
-use mathlib.Core.Bool.{Bool, true, false, not, _&&_, _||_}
+use mathlib.Core.Bool.{Bool, not, _&&_, _||_}
 use lib.Dec.{eqb, ltb}
 use lib.Ieee.{Float, lt}
 use Rattle.laws.specs.Folds.{any, count}

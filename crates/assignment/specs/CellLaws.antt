@@ -4,9 +4,9 @@
 --   cell-mono matrix-mono      a higher limit raises no cell
 --   unlimited                  with no limit the order of the stops plays no part
 --   no-stop no-car             sheets where the Rust builds no matrix
-use Prim.Native.Nat.{ℕ, zero, suc, _<_, _≤_, _+_, _*_, max}
+use Prim.Native.Nat.{ℕ, _<_, _≤_, _*_}
 use mathlib.Core.Path.{_≡_, refl, sym, ap, _∙_}
-use mathlib.Core.Bool.{Bool, true, false, not, _&&_, _||_, cond, true≢false}
+use mathlib.Core.Bool.{Bool, true, false, not, _&&_, cond, true≢false}
 use mathlib.Core.Logic.{⊎-elim}
 use native.Mathlib.Nat.{mul-le-mul}
 use native.Mathlib.Omega.{arith}
@@ -15,7 +15,7 @@ use borrow.Author.Tests.{eqb-true, eq-eqb, ltb-true, ltb-false, lt-ltb, le-ltb, 
 use Rattle.laws.specs.Bools.{both, both-left, both-right, either, either-left, either-right, which}
 use Rattle.laws.specs.Folds.{count-le, Nth, nth-is}
 use Rattle.laws.specs.Sums.{sum}
-use Rattle.scale.specs.Scale.{sentinel, scaleCost, scaleCost-le}
+use Rattle.scale.specs.Scale.{sentinel, scaleCost-le}
 use Rattle.components.specs.declared.Rank.{Rank}
 use Rattle.components.specs.declared.Rank.the-variants.{Cost, Never}
 use Rattle.components.specs.Sheet.{Sheet}

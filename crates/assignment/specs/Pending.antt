@@ -1,7 +1,7 @@
 -- Pending stops are the columns, idle cars the rows: pending_stops_minus_covered of assignment.rs. Assumes nothing.
 use Prim.Native.Nat.{ℕ, max}
-use mathlib.Core.Bool.{Bool, true, false, not, _&&_, _||_, cond}
-use lib.Dec.{eqb, ltb}
+use mathlib.Core.Bool.{Bool, not, _&&_, _||_, cond}
+use lib.Dec.{eqb}
 use lib.Ieee.{Float, le}
 use Rattle.laws.specs.Folds.{fold, any, every, count, nth}
 use Rattle.fp.specs.Num.{zero, plus}

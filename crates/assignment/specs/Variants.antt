@@ -9,10 +9,10 @@ use Rattle.components.specs.declared.Kind.the-variants.{Car, Waiting}
 use Rattle.components.specs.Sheet.{Sheet}
 use Rattle.layout.specs.declared.Counts.{Counts}
 use Rattle.layout.specs.declared.Reading.the-variants.{Accepted}
-use Rattle.layout.specs.Records.{sheetOf, limitOf}
+use Rattle.layout.specs.Records.{sheetOf}
 use Rattle.layout.specs.Verdict.{verdict}
 use Rattle.layout.specs.Smallest.{Bits, number, widths, bytes, written, body, of, sheet, one, policy, scan, stop, line}
-use Rattle.assignment.specs.Pending.{covered, pending, idleCars, pendingStops}
+use Rattle.assignment.specs.Pending.{covered, pendingStops}
 use Rattle.assignment.specs.Candidates.{kept}
 use Rattle.assignment.specs.Cells.{matrix, column, decision}
 use Rattle.assignment.specs.Example as example

@@ -1,16 +1,16 @@
 -- Laws of the cut: nothing is cut off where the viable stops are not more than the limit; and it is the sheet's. Assumes nothing.
-use Prim.Native.Nat.{ℕ, _+_, _*_, _^_, _≤_, _<_, min}
-use mathlib.Core.Path.{_≡_, refl, sym, ap, _∙_}
-use mathlib.Core.Bool.{Bool, true, false, not, _&&_, _||_, or-true}
+use Prim.Native.Nat.{ℕ, _^_, _≤_, _<_}
+use mathlib.Core.Path.{_≡_, sym, _∙_}
+use mathlib.Core.Bool.{true, false, or-true}
 use mathlib.Core.List.{List}
 use mathlib.Core.Logic.{⊎-elim}
 use native.Mathlib.Omega.{arith}
-use lib.Dec.{eqb, ltb}
+use lib.Dec.{eqb}
 use lib.ListN.{getD}
-use lib.Ieee.{Float, nan, lt}
-use borrow.Author.Tests.{lt-ltb, le-ltb, eq-eqb, ltb-true}
-use Rattle.laws.specs.Bools.{which, both-left, same-test, less?}
-use Rattle.laws.specs.Folds.{count, count-cong}
+use lib.Ieee.{Float, nan}
+use borrow.Author.Tests.{lt-ltb, le-ltb, eq-eqb}
+use Rattle.laws.specs.Bools.{which, both-left}
+use Rattle.laws.specs.Folds.{count}
 use Rattle.laws.specs.Counts.{count-lt}
 use Rattle.fp.specs.Order.{lt-self}
 use Rattle.mask.specs.Mask.{has, built}

@@ -1,6 +1,5 @@
 // The car records of a sheet, decoded once into an array that a pass lends.
 ghost use mathlib.Core.Path.{_≡_};
-ghost use Prim.Native.Nat.{_<_, _≤_};
 ghost use Rattle.layout.specs.Offsets.{Small};
 ghost use Rattle.layout.specs.Records.{sheetOf};
 ghost use Rattle.cars.specs.Cars.{blank, carsIn};

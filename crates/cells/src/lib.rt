@@ -1,7 +1,7 @@
 // From an accepted sheet to its cells: what is read of it once, and the rows of its idle cars.
 ghost use mathlib.Core.Path.{_≡_};
 ghost use mathlib.Core.List.{_++_};
-ghost use Prim.Native.Nat.{_<_, _≤_};
+ghost use Prim.Native.Nat.{_≤_};
 ghost use lib.ListN.{length, drop};
 ghost use Rattle.laws.specs.Tables.{tab};
 ghost use Rattle.layout.specs.declared.Reading.the-variants.{Accepted};

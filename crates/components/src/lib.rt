@@ -3,7 +3,7 @@
 ghost use mathlib.Core.Path.{_≡_};
 ghost use Rattle.components.specs.Codes.{HasCode, kindOf, kindCode, strategyOf, strategyCode, trafficOf, trafficCode, phaseOf, phaseCode, directionOf, directionCode, modeOf, modeCode};
 ghost use Rattle.laws.specs.Bools.{bit};
-ghost use Rattle.components.specs.Cars.{movingTarget, isMoving, isIdle, servicing, remaining};
+ghost use Rattle.components.specs.Cars.{isMoving, isIdle, servicing, remaining};
 
 // The kinds of records.
 pub enum Kind {
@@ -201,22 +201,6 @@ impl Phase {
             5 => Phase::DoorClosing,
             6 => Phase::Stopped,
             7..=0xffff_ffff_ffff_ffff => Phase::Unknown,
-        }
-    }
-
-    // The stop that the car moves to, 0 for none.
-    pub fn moving_target(self) -> u32
-        ensures { λ r. ⌜ r ≡ movingTarget self ⌝ }
-    {
-        match self {
-            Phase::Idle => 0,
-            Phase::MovingToStop(stop) => stop,
-            Phase::Repositioning(stop) => stop,
-            Phase::DoorOpening => 0,
-            Phase::Loading => 0,
-            Phase::DoorClosing => 0,
-            Phase::Stopped => 0,
-            Phase::Unknown => 0,
         }
     }
 

@@ -1,16 +1,14 @@
 -- Coverage by columns is the sheet's. Assumes nothing.
 use Prim.Native.Nat.{ℕ, _<_}
-use mathlib.Core.Path.{_≡_, refl, sym, ap, ap₂, _∙_}
+use mathlib.Core.Path.{_≡_, ap, ap₂, _∙_}
 use mathlib.Core.Bool.{Bool, true, false, not, _&&_, _||_, cond}
 use mathlib.Core.List.{List}
 use mathlib.Core.Logic.{⊎-elim}
-use native.Mathlib.Omega.{arith}
 use lib.Dec.{eqb}
 use lib.ListN.{getD}
-use lib.Ieee.{Float, nan, le}
-use borrow.Author.Tests.{ne-eqb}
+use lib.Ieee.{Float, nan}
 use Rattle.laws.specs.Bools.{which, kept-id}
-use Rattle.laws.specs.Folds.{fold, any, every, fold-cong, any-cong, every-cong}
+use Rattle.laws.specs.Folds.{any, every, fold-cong, any-cong, every-cong}
 use Rattle.fp.specs.Num.{zero, plus}
 use Rattle.mask.specs.Mask.{has, built}
 use Rattle.mask.specs.MaskLaws.{built-cong}

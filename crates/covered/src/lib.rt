@@ -1,14 +1,14 @@
 // The covered stops of a sheet: its columns, and is_covered for each stop that is asked for.
 ghost use Rattle.components.specs.declared.Kind.the-variants.{Car};
 ghost use mathlib.Core.Path.{_≡_};
-ghost use mathlib.Core.Bool.{_&&_, cond};
+ghost use mathlib.Core.Bool.{_&&_};
 ghost use mathlib.Core.List.{_++_};
-ghost use Prim.Native.Nat.{ℕ, _+_, _*_, _^_, _<_, _≤_};
-ghost use lib.ListN.{length, getD, drop};
+ghost use Prim.Native.Nat.{_+_, _*_, _^_, _<_, _≤_};
+ghost use lib.ListN.{length, drop};
 ghost use Rattle.laws.specs.Tables.{tab};
 ghost use Rattle.mask.specs.Mask.{has, built};
-ghost use Rattle.components.specs.Cars.{servicing, remaining};
-ghost use Rattle.layout.specs.Offsets.{Small, carsFrom, recordLength};
+ghost use Rattle.components.specs.Cars.{remaining};
+ghost use Rattle.layout.specs.Offsets.{Small, recordLength};
 ghost use Rattle.layout.specs.Records.{from, carOf, sheetOf};
 ghost use Rattle.assignment.specs.Pending.{covered};
 ghost use Rattle.coverage.specs.Coverage.{coveredBy};

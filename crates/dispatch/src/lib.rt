@@ -6,7 +6,7 @@ ghost use lib.ListN.{length};
 ghost use lib.Ieee.{lt, le};
 ghost use Rattle.fp.specs.Num.{zero, over};
 ghost use Rattle.components.specs.declared.Place.the-variants.{At};
-ghost use Rattle.dispatch.specs.Useful.{loadedTo, bypass, lampsAllow, riderCanBoard, onPathTo};
+ghost use Rattle.dispatch.specs.Useful.{loadedTo, bypass, onPathTo};
 ghost use Rattle.dispatch.specs.Pairs.{canBoard, servableBy, onPathIn, pathAllows, usefulBy};
 ghost use Rattle.dispatch.specs.Waits.{fairnessBonus, withBonus};
 use components::Car;
@@ -57,7 +57,7 @@ fn bypass_to(car: Car, g: f64, p: f64) -> bool
 }
 
 // bypass_in_current_direction.
-pub fn bypass_in_current_direction(car: Car, goal: Place, p: f64) -> bool
+fn bypass_in_current_direction(car: Car, goal: Place, p: f64) -> bool
     ensures { λ r. ⌜ r ≡ bypass car goal p ⌝ }
 {
     match goal {
@@ -66,29 +66,8 @@ pub fn bypass_in_current_direction(car: Car, goal: Place, p: f64) -> bool
     }
 }
 
-// Whether the car's lamps let a rider at p board who is bound for this place.
-fn lamps_allow(car: Car, p: f64, place: Place) -> bool
-    ensures { λ r. ⌜ r ≡ lampsAllow car p place ⌝ }
-{
-    let up = car.up;
-    let down = car.down;
-    match place {
-        Place::Nowhere => true,
-        Place::At(d) => !((p < d) & !up) & !((d < p) & !down),
-    }
-}
-
-// Whether a rider of this weight at p, bound for this place, can board.
-pub fn rider_can_board(car: Car, p: f64, weight: f64, place: Place) -> bool
-    ensures { λ r. ⌜ r ≡ riderCanBoard car p weight place ⌝ }
-{
-    let room = car.remaining_capacity();
-    let lamps = lamps_allow(car, p, place);
-    !(room < weight) & lamps
-}
-
 // rider_can_board, asked of all who wait at once: by the least weight of each class that the lamps let in.
-pub fn can_board(waiters: Waiters, car: Car) -> bool
+fn can_board(waiters: Waiters, car: Car) -> bool
     ensures { λ r. ⌜ r ≡ canBoard waiters car ⌝ }
 {
     let room = car.remaining_capacity();
@@ -96,7 +75,7 @@ pub fn can_board(waiters: Waiters, car: Car) -> bool
         | ((car.up & !(room < waiters.up)) | (car.down & !(room < waiters.down)))
 }
 
-pub fn servable(waiters: Waiters, car: Car) -> bool
+fn servable(waiters: Waiters, car: Car) -> bool
     ensures { λ r. ⌜ r ≡ servableBy waiters car ⌝ }
 {
     if waiters.someone {
@@ -185,7 +164,7 @@ pub fn pair_is_useful(
 }
 
 // The cost less the weighted term, at least 0.
-pub fn apply_fairness_bonus(cost: f64, weight: f64, term: f64) -> f64
+fn apply_fairness_bonus(cost: f64, weight: f64, term: f64) -> f64
     ensures { λ r. ⌜ r ≡ fairnessBonus cost weight term ⌝ }
 {
     fp::max_zero(fp::fma(weight, -term, cost))

@@ -7,7 +7,6 @@ use mathlib.Core.Path.{_≡_, refl}
 use mathlib.Core.Bool.{Bool, true, false, _&&_, cond}
 use lib.Dec.{lit≤}
 use lib.Ieee.{Float, ofBits, lt, le, neg}
-use Rattle.laws.specs.Bools.{never}
 use Rattle.laws.specs.Folds.{count-le}
 use Rattle.fp.specs.Num as Num
 use Rattle.fp.specs.Num.{half, threeTenths, plus, minus, times, over, maxZero, fma, finite, natural, distance}

@@ -145,7 +145,7 @@ fn weighted(
 }
 
 // compute_cost, of a stop at p, for a car whose riders go to the first count positions of dests.
-pub fn compute_cost(
+fn compute_cost(
     policy: Policy,
     car: Car,
     goal: Place,

@@ -57,13 +57,6 @@ pub fn natural(n: u64) -> f64
     std::num::nearest_u64_to_f64(n)
 }
 
-// f64::from of a u32, exact.
-pub fn natural32(n: u32) -> f64
-    ensures { λ r. ⌜ r ≡ natural n ⌝ }
-{
-    n as f64
-}
-
 // The double that 64 bits stand for; every NaN pattern is the one NaN.
 pub fn double(b: u64) -> f64
     ensures { λ r. ⌜ r ≡ ofBits binary64 b ⌝ }
@@ -76,7 +69,7 @@ pub fn double(b: u64) -> f64
 }
 
 // lo to hi, both ends inside; a NaN is outside.
-pub fn within(lo: f64, x: f64, hi: f64) -> bool
+fn within(lo: f64, x: f64, hi: f64) -> bool
     ensures { λ r. ⌜ r ≡ within lo x hi ⌝ }
 {
     if lo <= x { x <= hi } else { false }

@@ -1,12 +1,12 @@
 -- How many indices pass: fewer pass a stronger test, no more pass than there are places for them, and the first few of an order. Assumes nothing.
 use mathlib.Core.Path.{_≡_, refl, sym, ap, _∙_}
-use mathlib.Core.Bool.{Bool, true, false, not, _&&_, _||_, true≢false}
-use mathlib.Core.Logic.{_⊎_, inl, inr, ⊎-elim, _≢_}
+use mathlib.Core.Bool.{Bool, true, false, not, _&&_}
+use mathlib.Core.Logic.{_⊎_, ⊎-elim}
 use Prim.Native.Nat.{ℕ, zero, suc, _+_, _-_, _≤_, _<_, min}
 use native.Mathlib.Omega.{arith}
 use lib.Dec.{eqb, ltb}
 use borrow.Author.Tests.{eqb-true, eqb-false, ltb-true, ltb-false, not-true}
-use Rattle.laws.specs.Bools.{bit, bit-lt, which, never, both-left, both-right, same?, less?}
+use Rattle.laws.specs.Bools.{bit, which, both-left, both-right, same?}
 use Rattle.laws.specs.Folds.{count}
 
 -- a test that holds where another does adds at least as much

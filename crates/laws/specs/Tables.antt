@@ -11,7 +11,7 @@ use native.Mathlib.Omega.{arith}
 use lib.ListN.{length, getD, take, drop, set, length-append, length-drop, List·getD-append, drop-of-length-le}
 use lib.Seq.{drop-cons, set-at, getD-append-add, getD-drop, drop-drop, take-at, drop-at, getD-at, ext-getD}
 use Rattle.laws.specs.Bools.{bit, same?, less?}
-use Rattle.laws.specs.Folds.{count, count-next, count-yes, count-no, nth, nth-is, nth-next, nth-here, nth-before, count-above}
+use Rattle.laws.specs.Folds.{count, nth, nth-here, nth-before}
 
 module _ {A : Type 0} where
   -- f 0, f 1, .. f (n - 1)

@@ -1,7 +1,7 @@
 -- The records of a sheet from its bytes. Document 01: "Fields are packed bits, most significant first"; "A double is its 64 IEEE bits"; "\"Opt\" is a
 -- present bit, then the field". A record is read through a function of an offset in it and a width; its fields are those of Table. An optional id
 -- is the field itself: absent it is zero (refusal 8), and present it is not (refusal 9). Assumes nothing.
-use Prim.Native.Nat.{ℕ, _+_, _*_}
+use Prim.Native.Nat.{ℕ, _+_}
 use mathlib.Core.Bool.{Bool, cond}
 use mathlib.Core.List.{List}
 use lib.Dec.{eqb}

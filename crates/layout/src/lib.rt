@@ -2,8 +2,7 @@
 // in specs/.
 
 ghost use mathlib.Core.Path.{_≡_};
-ghost use mathlib.Core.Bool.{_||_};
-ghost use Prim.Native.Nat.{_<_, _≤_};
+ghost use Prim.Native.Nat.{_<_};
 ghost use Rattle.layout.specs.Offsets.{Small, bodyLength, next, stopsFrom, linesFrom, carsFrom, aboardsFrom, waitsFrom, demandsFrom, endOf, lastKind};
 ghost use Rattle.layout.specs.Refusals.{refusal6, refusal7};
 use components::Kind;
@@ -111,7 +110,7 @@ impl Counts {
     }
 
     // The code of the last record's kind, 0 before the first.
-    pub fn last_kind(self) -> u64
+    fn last_kind(self) -> u64
         ensures { λ r. ⌜ r ≡ lastKind self ⌝ }
     {
         if 0 < self.demands {

@@ -24,7 +24,7 @@ pub fn stop_index(ids: &[u32], n: usize, id: u32) -> usize
 }
 
 // Where the stop of an index stands.
-pub fn place(xs: &[f64], n: usize, index: usize) -> Place
+fn place(xs: &[f64], n: usize, index: usize) -> Place
     requires { ⌜ n ≤ length (now xs) ⌝ }
     ensures { λ r. ⌜ r ≡ placeAt (now (xs .entry)) n index ⌝ }
 {
@@ -36,7 +36,7 @@ pub fn place(xs: &[f64], n: usize, index: usize) -> Place
 }
 
 // stop_position: where the stop with this id stands.
-pub fn stop_position(ids: &[u32], xs: &[f64], n: usize, id: u32) -> Place
+fn stop_position(ids: &[u32], xs: &[f64], n: usize, id: u32) -> Place
     requires { ⌜ (n ≤ length (now ids)) × (n ≤ length (now xs)) ⌝ }
     ensures { λ r. ⌜ r ≡ positionIn (now (ids .entry)) (now (xs .entry)) n id ⌝ }
 {
@@ -118,7 +118,7 @@ impl Waiters {
     }
 
     // One rider more at a stop at p.
-    pub fn with_rider(self, p: f64, place: Place, weight: f64, wait: u64) -> Self
+    fn with_rider(self, p: f64, place: Place, weight: f64, wait: u64) -> Self
         ensures { λ r. ⌜ r ≡ withRider self p place weight wait ⌝ }
     {
         let ticks = fp::natural(wait);

@@ -1,5 +1,5 @@
 -- Masks of 64 stops. Document 01: "A mask's highest bit is the first stop record."
-use mathlib.Core.Bool.{Bool, true, false, _&&_, not}
+use mathlib.Core.Bool.{Bool, _&&_}
 use Prim.Native.Nat.{ℕ, zero, suc, _+_, _-_, _*_, _/_, _%_, _^_}
 use lib.Dec.{eqb, leb}
 use Rattle.laws.specs.Bools.{bit}

@@ -1,7 +1,7 @@
 // A mask of 64 stops: the highest bit is the first stop record.
 ghost use mathlib.Core.Path.{_≡_};
 ghost use mathlib.Core.Bool.{_&&_, _||_, not};
-ghost use Prim.Native.Nat.{_<_, _≤_, _+_, _*_, _^_};
+ghost use Prim.Native.Nat.{_<_, _+_, _*_, _^_};
 ghost use lib.Dec.{eqb};
 ghost use Rattle.laws.specs.Bools.{bit};
 ghost use Rattle.laws.specs.Folds.{count};
@@ -57,18 +57,6 @@ pub fn size(mask: u64) -> u32
     ensures { λ r. ⌜ r ≡ count (has mask) 64 ⌝ }
 {
     u64::count_ones(mask)
-}
-
-// How many stops of the mask come before stop j: its place among the ones.
-pub fn place(mask: u64, j: usize) -> u32
-    requires { ⌜ j ≤ 64 ⌝ }
-    ensures { λ r. ⌜ r ≡ count (has mask) j ⌝ }
-{
-    if j == 0 {
-        0
-    } else {
-        u64::count_ones(mask >> (64 - j))
-    }
 }
 
 // Whether the mask has a stop past the first n.

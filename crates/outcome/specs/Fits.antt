@@ -26,7 +26,7 @@ use Rattle.assignment_problem.specs.Chosen.{chosen-is, chosen-total}
 use Rattle.assignment_problem.specs.Recursion.{columnOf}
 use Rattle.assignment.specs.Pending.{idle, idleCars, pendingStops, columns}
 use Rattle.assignment.specs.Cells.{byStrategy, sweepAfter, matrix, column, goes, decision, answeredTotal}
-use Rattle.assignment.specs.CellLaws.{Small, idle-le, cells-fit, rows-fit, matrix-le, no-stop}
+use Rattle.assignment.specs.CellLaws.{idle-le, cells-fit, rows-fit, matrix-le, no-stop}
 use Rattle.outcome.specs.Outcome.{decisionsOf, cellsOf, sweepsOf}
 
 -- ---- "decisions below 32 entries, matrix below 2,048, or sweep below 32" are refused, and more are never needed

@@ -1,13 +1,12 @@
 -- Masks of a sheet's stops, each of stops with a record only. Assumes nothing.
 use Rattle.layout.specs.Records.{from, read}
 use Rattle.layout.specs.Table.{aboardCar, aboardDestination}
-use Prim.Native.Nat.{ℕ, _+_, _<_}
+use Prim.Native.Nat.{ℕ, _<_}
 use mathlib.Core.Path.{_≡_}
 use mathlib.Core.Bool.{Bool, _&&_, _||_, cond}
 use mathlib.Core.List.{List}
 use lib.Dec.{eqb, ltb}
 use lib.ListN.{getD}
-use Rattle.bits.specs.Field.{fieldAt}
 use Rattle.laws.specs.Folds.{any}
 use Rattle.columns.specs.Named.{contains}
 use Rattle.mask.specs.Mask.{has, built}

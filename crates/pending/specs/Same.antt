@@ -1,6 +1,6 @@
 -- Masks by columns are the sheet's. Assumes nothing.
-use Prim.Native.Nat.{ℕ, _+_, _-_, _*_, _^_, _≤_, _<_}
-use mathlib.Core.Path.{_≡_, refl, sym, ap, ap₂, _∙_, subst}
+use Prim.Native.Nat.{ℕ, _+_, _-_, _^_, _≤_, _<_}
+use mathlib.Core.Path.{_≡_, refl, sym, ap, ap₂, _∙_}
 use mathlib.Core.Bool.{Bool, true, false, not, _&&_, _||_, cond}
 use mathlib.Core.List.{List}
 use mathlib.Core.Logic.{⊎-elim}
@@ -8,8 +8,8 @@ use native.Mathlib.Nat.{zero-div}
 use native.Mathlib.Omega.{arith}
 use lib.Dec.{eqb, ltb}
 use lib.ListN.{getD}
-use borrow.Author.Tests.{eq-eqb, ne-eqb, ltb-true, lt-ltb, le-ltb, eqb-true}
-use Rattle.laws.specs.Bools.{which, same?, less?, both-left, dropped-id}
+use borrow.Author.Tests.{ne-eqb, ltb-true, lt-ltb, le-ltb}
+use Rattle.laws.specs.Bools.{same?, less?, both-left, dropped-id}
 use Rattle.laws.specs.Folds.{any, any-cong, any-next, none-any}
 use Rattle.bits.specs.Field.{fieldAt, field-lt}
 use Rattle.mask.specs.Mask.{has, built}
@@ -17,7 +17,7 @@ use Rattle.mask.specs.MaskLaws.{built-cong, has-built, none-built}
 use Rattle.components.specs.Sheet.{Sheet}
 use Rattle.manifest.specs.World.{stopId, inGroup}
 use Rattle.manifest.specs.Manifest.{someoneWaits, riderlessCall, riddenTo, hasDemand, demandStop}
-use Rattle.assignment.specs.Pending.{covered, idle, idleBound, pending}
+use Rattle.assignment.specs.Pending.{covered, idleBound, pending}
 use Rattle.covered.specs.Columns.{HoldsIds}
 use Rattle.columns.specs.Named.{contains, named, guarded}
 use Rattle.pending.specs.Masks.{stopMask, lineStop, HoldsNames}

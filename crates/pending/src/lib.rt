@@ -8,7 +8,6 @@ ghost use Rattle.layout.specs.Offsets.{Small, recordLength};
 ghost use Rattle.layout.specs.Records.{sheetOf};
 ghost use Rattle.mask.specs.Mask.{built};
 ghost use Rattle.pending.specs.Masks.{lineStop};
-ghost use mathlib.Core.Bool.{_&&_};
 ghost use lib.ListN.{length};
 ghost use Rattle.manifest.specs.Manifest.{someoneWaits, riderlessCall, riddenTo, demandStop};
 ghost use Rattle.assignment.specs.Pending.{idleBound, pending};

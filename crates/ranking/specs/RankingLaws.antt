@@ -1,30 +1,21 @@
 -- The rank, the cell and the sweep from what is held are the sheet's. Assumes nothing.
 use Prim.Native.Nat.{ℕ, _<_}
-use mathlib.Core.Path.{_≡_, refl, sym, ap, ap₂, _∙_}
-use mathlib.Core.Bool.{Bool, true, false, not, _&&_, cond}
+use mathlib.Core.Path.{_≡_, refl, sym, ap, _∙_}
+use mathlib.Core.Bool.{false, not, _&&_, cond}
 use mathlib.Core.List.{List}
-use native.Mathlib.Omega.{arith}
 use lib.Dec.{eqb, ltb}
-use lib.ListN.{getD}
-use lib.Ieee.{Float, nan}
+use lib.Ieee.{Float}
 use Rattle.mask.specs.Mask.{has}
-use Rattle.scale.specs.Scale.{sentinel}
 use Rattle.components.specs.declared.Policy.{Policy}
 use Rattle.components.specs.declared.Strategy.{Strategy}
 use Rattle.components.specs.declared.Strategy.the-variants.{Etd, Rsr, Scan, Unknown}
-use Rattle.components.specs.declared.Rank.{Rank}
 use Rattle.components.specs.declared.Rank.the-variants.{Never}
 use Rattle.components.specs.Sheet.{Sheet}
 use Rattle.manifest.specs.declared.Waiters.{Waiters}
-use Rattle.manifest.specs.World.{stopAt, goal}
+use Rattle.manifest.specs.World.{goal}
 use Rattle.manifest.specs.Stops.{HoldsStops, HoldsDemand}
-use Rattle.riders.specs.declared.Riders.{Riders}
-use Rattle.sweep.specs.declared.Sweep.{Sweep}
-use Rattle.sweep.specs.Sweeps.{sweepRank, sweepOf}
-use Rattle.scan.specs.Scan.{sheetSweep, preparedSweep, preparedBy, rankOf}
+use Rattle.scan.specs.Scan.{sheetSweep, preparedSweep, rankOf}
 use Rattle.scan.specs.ScanLaws.{prepared-is}
-use Rattle.dispatch.specs.Useful.{pairIsUseful}
-use Rattle.dispatch.specs.Pairs.{usefulBy}
 use Rattle.dispatch.specs.WaitersLaws.{HoldsWaiters, Weighed}
 use Rattle.dispatch.specs.RidersLaws.{HoldsRiders, useful-is}
 use Rattle.etd.specs.Etd.{etdRank}
@@ -35,7 +26,7 @@ use Rattle.rsr.specs.Rsr.{rsrRank}
 use Rattle.rsr.specs.RsrLaws.{rank-is as rsr-is}
 use Rattle.assignment.specs.Pending.{idle, pendingStops}
 use Rattle.assignment.specs.Candidates.{kept}
-use Rattle.assignment.specs.Cells.{byStrategy, rankCell, sweepAfter, scanRank, rank, cell}
+use Rattle.assignment.specs.Cells.{byStrategy, sweepAfter, scanRank, rank, cell}
 use Rattle.ranking.specs.declared.Row.{Row}
 use Rattle.ranking.specs.Ranking.{scanBy, rankBy, cellBy, sweepBy}
 

@@ -1,8 +1,7 @@
 // The rank of a pair by the sheet's strategy, its cell, and a row of cells.
 ghost use mathlib.Core.Path.{_≡_};
 ghost use Prim.Native.Nat.{_<_, _≤_};
-ghost use lib.ListN.{length, getD};
-ghost use Rattle.laws.specs.Tables.{tab};
+ghost use lib.ListN.{length};
 ghost use Rattle.assignment.specs.Cells.{rankCell};
 ghost use Rattle.ranking.specs.Ranking.{scanBy, rankBy, cellBy, sweepBy};
 use components::Car;

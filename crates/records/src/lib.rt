@@ -2,10 +2,9 @@
 ghost use mathlib.Core.Path.{_≡_};
 ghost use mathlib.Core.Bool.{cond};
 ghost use Prim.Native.Nat.{_+_};
-ghost use lib.Ieee.{ofBits, binary64};
-ghost use Rattle.bits.specs.Field.{fieldAt, flagAt};
+ghost use Rattle.bits.specs.Field.{flagAt};
 ghost use Rattle.layout.specs.Table.{field};
-ghost use Rattle.layout.specs.Records.{from, double, optional, policyOf, stopOf, lineOf, carOf, aboardOf, waitingOf, demandOf};
+ghost use Rattle.layout.specs.Records.{from, double, policyOf, lineOf, carOf};
 use components::Aboard;
 use components::Car;
 use components::Demand;
@@ -61,15 +60,6 @@ pub fn policy_at(s: &[u8], at: u32) -> Policy
     }
 }
 
-pub fn stop_at(s: &[u8], at: u32) -> Stop
-    ensures { λ r. ⌜ r ≡ stopOf (from (now (s .entry)) at) ⌝ }
-{
-    Stop {
-        id: bits::field32(s, at, stop::ID),
-        position: double_at(s, at, stop::POSITION),
-    }
-}
-
 pub fn line_at(s: &[u8], at: u32) -> Line
     ensures { λ r. ⌜ r ≡ lineOf (from (now (s .entry)) at) ⌝ }
 {
@@ -105,37 +95,5 @@ pub fn car_at(s: &[u8], at: u32) -> Car
         dwell: bits::field32(s, at, car::DWELL),
         restricted: bits::field(s, at, car::RESTRICTED, 64),
         calls: bits::field(s, at, car::CALLS, 64),
-    }
-}
-
-pub fn aboard_at(s: &[u8], at: u32) -> Aboard
-    ensures { λ r. ⌜ r ≡ aboardOf (from (now (s .entry)) at) ⌝ }
-{
-    Aboard {
-        car: bits::field32(s, at, aboard::CAR),
-        destination: bits::field32(s, at, aboard::DESTINATION),
-    }
-}
-
-pub fn waiting_at(s: &[u8], at: u32) -> Waiting
-    ensures { λ r. ⌜ r ≡ waitingOf (from (now (s .entry)) at) ⌝ }
-{
-    Waiting {
-        stop: bits::field32(s, at, waiting::STOP),
-        line: bits::field32(s, at, waiting::LINE),
-        destination: bits::field32(s, at, waiting::DESTINATION),
-        weight: double_at(s, at, waiting::WEIGHT),
-        wait: bits::field(s, at, waiting::WAIT, 64),
-    }
-}
-
-pub fn demand_at(s: &[u8], at: u32) -> Demand
-    ensures { λ r. ⌜ r ≡ demandOf (from (now (s .entry)) at) ⌝ }
-{
-    let riding = bits::field(s, at, demand::RIDING, 16);
-    Demand {
-        stop: bits::field32(s, at, demand::STOP),
-        riding: riding as u16,
-        call: bits::flag(s, at, demand::CALL),
     }
 }

@@ -1,7 +1,7 @@
 // The refusals of the kinds with few fields, and what all kinds ask: looking an id up among earlier records, absent fields, ranges. Reads past the
 // end give 0, so every condition is computed and the first that holds is picked.
 ghost use mathlib.Core.Path.{_≡_};
-ghost use Prim.Native.Nat.{_+_, _*_, _<_, _≤_, _^_};
+ghost use Prim.Native.Nat.{_<_, _≤_, _^_};
 ghost use Rattle.fp.specs.Ranges.{isMass};
 ghost use Rattle.components.specs.declared.Kind.the-variants.{Stop, Line, Aboard, Waiting, Demand};
 ghost use Rattle.layout.specs.Offsets.{Small, endOf};
@@ -40,7 +40,7 @@ fn seen(s: &[u8], base: u32, len: u32, n: u32, id: u32) -> bool
     false
 }
 
-pub fn has_stop(s: &[u8], c: Counts, id: u32) -> bool
+fn has_stop(s: &[u8], c: Counts, id: u32) -> bool
     requires { ⌜ Small c ⌝ }
     ensures { λ r. ⌜ r ≡ hasStop (now (s .entry)) c id ⌝ }
 {

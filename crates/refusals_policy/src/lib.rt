@@ -1,10 +1,9 @@
 // The refusals of a policy record: 8, 11, 12, 15.
 ghost use mathlib.Core.Path.{_≡_};
-ghost use mathlib.Core.Bool.{_||_};
 ghost use Rattle.components.specs.declared.Kind.the-variants.{Policy};
 ghost use Rattle.layout.specs.Offsets.{endOf, Small};
 ghost use Rattle.layout.specs.Records.{from};
-ghost use Rattle.layout.specs.Refusals.{unusedWeights, loadWeighed, refusal8Policy, refusal11Policy, refusal15};
+ghost use Rattle.layout.specs.Refusals.{unusedWeights, refusal8Policy, refusal11Policy, refusal15};
 ghost use Rattle.layout.specs.Verdict.{bodyRefusal};
 use components::Strategy;
 use layout::Counts;

@@ -10,7 +10,7 @@ use layout::Reading;
 use libc::STDIN_FILENO;
 use libc::STDOUT_FILENO;
 ghost use mathlib.Core.Path.{_≡_};
-ghost use Prim.Native.Nat.{_+_, _≤_, _<_, _^_, _*_};
+ghost use Prim.Native.Nat.{_+_, _≤_, _<_};
 ghost use lib.ListN.{length};
 ghost use Rattle.laws.specs.Bools.{bit};
 ghost use Rattle.replay_refusals.specs.Cases.{answerOf, caseAt, agree, comparedAt, cutAt, Counted, Turned, Replayed};

@@ -2,7 +2,7 @@
 ghost use mathlib.Core.Path.{_≡_};
 ghost use Prim.Native.Nat.{_≤_, _<_};
 ghost use lib.ListN.{length};
-ghost use Rattle.riders.specs.Riders.{withExit, exitsIn, routed, routedIn, ridersIn, Seated, Held, Seats};
+ghost use Rattle.riders.specs.Riders.{withExit, exitsIn, routed, routedIn, Seated, Held, Seats};
 
 // The riders of a car: how many destinations have a position, the stops they are bound for, and whether any has a route. It depends on no stop.
 pub struct Riders {

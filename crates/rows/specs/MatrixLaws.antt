@@ -27,11 +27,11 @@ use Rattle.manifest.specs.World.{goalOf}
 use Rattle.manifest.specs.declared.Waiters.{Waiters}
 use Rattle.manifest.specs.Stops.{HoldsStops, positionIn}
 use Rattle.riders.specs.declared.Riders.{Riders}
-use Rattle.riders.specs.Riders.{Seats, ridersIn, destsIn}
+use Rattle.riders.specs.Riders.{ridersIn, destsIn}
 use Rattle.dispatch.specs.WaitersLaws.{Weighed, HoldsWaiters}
 use Rattle.assignment.specs.Pending.{pending, pendingStops, columnStop, idleCars, rowCar}
 use Rattle.assignment.specs.Candidates.{kept}
-use Rattle.assignment.specs.Cells.{matrix, cell}
+use Rattle.assignment.specs.Cells.{matrix}
 use Rattle.pending.specs.Masks.{stopMask}
 use Rattle.sweep.specs.declared.Sweep.{Sweep}
 use Rattle.ranking.specs.declared.Row.{Row}

@@ -65,14 +65,7 @@ fn with_coincident_call(cost: f64, weight: f64, call: bool) -> f64
 }
 
 // The cost of a stop at p for which the car has a call, or not.
-pub fn compute_cost(
-    policy: Policy,
-    car: Car,
-    goal: Place,
-    waiters: Waiters,
-    call: bool,
-    p: f64,
-) -> f64
+fn compute_cost(policy: Policy, car: Car, goal: Place, waiters: Waiters, call: bool, p: f64) -> f64
     ensures { λ r. ⌜ r ≡ costBy policy car goal waiters call p ⌝ }
 {
     let x = car.position;

@@ -4,7 +4,7 @@ ghost use Rattle.scale.specs.Scale.{whole, scaleCost};
 
 pub const SENTINEL: u64 = 281_474_976_710_656;
 
-pub const CEILING: u64 = 281_474_976_710_655;
+const CEILING: u64 = 281_474_976_710_655;
 
 // A cost as a cell.
 pub struct Scaled {

@@ -23,7 +23,7 @@ fn demand_ahead_at(direction: Direction, x: f64, demand: u64, j: usize, p: f64) 
 }
 
 // Whether some demand stop of the n at xs lies strictly ahead of a car at x.
-pub fn strict_demand_ahead(direction: Direction, x: f64, demand: u64, xs: &[f64], n: usize) -> bool
+fn strict_demand_ahead(direction: Direction, x: f64, demand: u64, xs: &[f64], n: usize) -> bool
     requires { ⌜ (n ≤ 64) × (n ≤ length (now xs)) ⌝ }
     ensures { λ r. ⌜ r ≡ demandAhead direction x demand (now (xs .entry)) n ⌝ }
 {

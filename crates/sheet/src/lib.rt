@@ -186,14 +186,6 @@ pub fn limit(s: &[u8]) -> u64
     bits::field(s, head::BITS, policy::LIMIT, 16)
 }
 
-// Stop record i.
-pub fn stop_at(s: &[u8], c: Counts, i: u32) -> Stop
-    requires { ⌜ Small c × (i < c .stops) ⌝ }
-    ensures { λ r. ⌜ r ≡ sheetOf (now (s .entry)) c .stop i ⌝ }
-{
-    records::stop_at(s, c.stops_from() + stop::BITS * i)
-}
-
 // Line record i.
 pub fn line_at(s: &[u8], c: Counts, i: u32) -> Line
     requires { ⌜ Small c × (i < c .lines) ⌝ }
@@ -208,28 +200,4 @@ pub fn car_at(s: &[u8], c: Counts, i: u32) -> Car
     ensures { λ r. ⌜ r ≡ sheetOf (now (s .entry)) c .car i ⌝ }
 {
     records::car_at(s, c.cars_from() + car::BITS * i)
-}
-
-// Aboard record i.
-pub fn aboard_at(s: &[u8], c: Counts, i: u32) -> Aboard
-    requires { ⌜ Small c × (i < c .aboards) ⌝ }
-    ensures { λ r. ⌜ r ≡ sheetOf (now (s .entry)) c .aboard i ⌝ }
-{
-    records::aboard_at(s, c.aboards_from() + aboard::BITS * i)
-}
-
-// Waiting record i.
-pub fn waiting_at(s: &[u8], c: Counts, i: u32) -> Waiting
-    requires { ⌜ Small c × (i < c .waits) ⌝ }
-    ensures { λ r. ⌜ r ≡ sheetOf (now (s .entry)) c .waiting i ⌝ }
-{
-    records::waiting_at(s, c.waits_from() + waiting::BITS * i)
-}
-
-// Demand record i.
-pub fn demand_at(s: &[u8], c: Counts, i: u32) -> Demand
-    requires { ⌜ Small c × (i < c .demands) ⌝ }
-    ensures { λ r. ⌜ r ≡ sheetOf (now (s .entry)) c .demand i ⌝ }
-{
-    records::demand_at(s, c.demands_from() + demand::BITS * i)
 }

@@ -13,7 +13,7 @@ pub struct Sweep {
 }
 
 // SweepDirection::reversed.
-pub fn reversed(direction: Direction) -> Direction
+fn reversed(direction: Direction) -> Direction
     ensures { λ r. ⌜ r ≡ reversed direction ⌝ }
 {
     match direction {
@@ -43,7 +43,7 @@ fn leniently_ahead(direction: Direction, x: f64, p: f64) -> bool
 }
 
 // The half of the shaft that a sweep takes stops from.
-pub fn accepts(mode: Mode, direction: Direction, x: f64, p: f64) -> bool
+fn accepts(mode: Mode, direction: Direction, x: f64, p: f64) -> bool
     ensures { λ r. ⌜ r ≡ accepts mode direction x p ⌝ }
 {
     match mode {
@@ -66,7 +66,7 @@ impl Sweep {
     }
 
     // The same mode, the other way.
-    pub fn reversed(self) -> Self
+    fn reversed(self) -> Self
         ensures { λ r. ⌜ r ≡ turnedRound self ⌝ }
     {
         let direction = self.direction;

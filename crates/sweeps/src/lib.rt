@@ -1,7 +1,7 @@
 // The sweeps of all cars after the pass, as the sheet codes them.
 ghost use mathlib.Core.Path.{_≡_};
 ghost use mathlib.Core.List.{_++_};
-ghost use Prim.Native.Nat.{_<_, _≤_};
+ghost use Prim.Native.Nat.{_≤_};
 ghost use lib.ListN.{length, drop};
 ghost use Rattle.laws.specs.Tables.{tab};
 ghost use Rattle.cars.specs.Cars.{HoldsCars};
