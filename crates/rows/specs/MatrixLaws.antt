@@ -6,13 +6,14 @@ use mathlib.Core.List.{List, _++_}
 use mathlib.Core.Logic.{⊎-elim}
 use native.Mathlib.Omega.{arith}
 use lib.Dec.{ltb}
-use lib.ListN.{length, getD, take, drop, length-take, length-drop}
+use lib.ListN.{length, getD, take, drop, replicate, length-take, length-drop}
 use lib.Ieee.{Float}
 use borrow.Author.Tests.{lt-ltb, le-ltb}
 use Rattle.laws.specs.Bools.{less?}
 use Rattle.laws.specs.Folds.{count, count-le, count-cong, count-below, nth, nth-cong, nth-is, nth-below}
 use Rattle.laws.specs.Tables.{tab, tabs, tab-cong, tabs-next, tabs-length, mul-next, getD-filtered}
 use Rattle.laws.specs.Sums.{sum, sum-next}
+use Rattle.fp.specs.Num.{zero}
 use Rattle.mask.specs.Mask.{has, built}
 use Rattle.mask.specs.MaskLaws.{has-built}
 use Rattle.components.specs.declared.Car.{Car}
@@ -115,12 +116,9 @@ module _ (s : Sheet) (few : s .stops ≤ 64) (mask : ℕ) (e : mask ≡ stopMask
       tab-cong (padded (rowCell row dests waiters xs (s .stops) stops) m) (matrix s limit r) n
       (λ k l. cells-are ids xs hs r limit weighed row dests hr waiters hw k)
 
--- the mask of the stops that car i is ranked for has so many
-pub kept-size : (s : Sheet) (i limit m : ℕ) (car : Car) → s .stops ≤ 64 → car ≡ s .car i → m ≡ stopMask s (keptOf s car limit) → count (has m) 64 ≡ keptNumber s limit i
-unfolding keptNumber
-kept-size s i limit m car few ec e =
-    masked-count (keptOf s car limit) (s .stops) few m e
-    ∙ count-cong (keptOf s car limit) (kept s i limit) (s .stops) (λ j l. ap (λ (k : Car). keptOf s k limit j) ec ∙ kept-of s i limit j)
+-- the mask of the stops that a car is ranked for has so many
+pub kept-size : (s : Sheet) (limit m : ℕ) (car : Car) → s .stops ≤ 64 → m ≡ stopMask s (keptOf s car limit) → count (has m) 64 ≡ count (keptOf s car limit) (s .stops)
+kept-size s limit m car few e = masked-count (keptOf s car limit) (s .stops) few m e
 
 -- the row of a car by value, from what is held of the sheet
 unfoldable pub rowFor : Sheet → List ℕ → List Float → List ℕ → List ℕ → ℕ → ℕ → ℕ → Car → Row
@@ -146,7 +144,6 @@ row-for-is s ids xs acar adest stops demand limit policy car sweep goal riders k
 -- it is the row of the record that the car is
 pub record RowOf (s : Sheet) (limit : ℕ) (car : Car) (row : Row) (dests : List Float) : Type 0 where
   pub held : (i : ℕ) → car ≡ s .car i → HoldsRow s i limit row dests
-  pub number : (i : ℕ) → car ≡ s .car i → count (has (row .kept)) 64 ≡ keptNumber s limit i
 
 pub row-of : (s : Sheet) (ids : List ℕ) (xs : List Float) (acar adest : List ℕ) (stops demand : ℕ) → Held s ids xs acar adest stops demand
     → (limit : ℕ) (car : Car) (row : Row) (entry : List Float) {dests : List Float} → row ≡ rowFor s ids xs acar adest stops demand limit car
@@ -154,14 +151,12 @@ pub row-of : (s : Sheet) (ids : List ℕ) (xs : List Float) (acar adest : List �
 unfolding rowFor
 row-of s ids xs acar adest stops demand h limit car row entry er ed =
     let riders : row .riders ≡ ridersIn ids (s .stops) acar adest (car .id) (s .aboards) = ap (λ (r : Row). r .riders) er in
-    let kept : row .kept ≡ stopMask s (keptOf s car limit) = ap (λ (r : Row). r .kept) er in
     record {
       held = λ i e.
           rw er
           (row-held s ids xs acar adest stops demand h i limit (s .policy) car (sweepBy (s .policy .strategy) car stops demand xs (s .stops))
           (goalOf (positionIn ids xs (s .stops)) (car .phase)) (ridersIn ids (s .stops) acar adest (car .id) (s .aboards)) (stopMask s (keptOf s car limit))
           refl e (record { answered = refl; held = rw riders at ed }) refl refl refl);
-      number = λ i e. kept-size s i limit (row .kept) car (h .few) e kept;
     }
 
 -- a buffer of n cells that holds the row of car i, whichever row that is
@@ -204,16 +199,29 @@ pub record CarNeeds (b : List ℕ) (c : Counts) (ids : List ℕ) (xs : List Floa
   pub fits : m ≤ cells
   pub ready : Ready (sheetOf b c) ids xs acar adest mask demand waiters stops m
 
--- n cells hold the row of a car by value, whichever record it is, and so many of its pairs are ranked
-pub record FilledCar (s : Sheet) (limit : ℕ) (car : Car) (n ranked : ℕ) (exit : List ℕ) : Type 0 where
-  pub size : length exit ≡ n
-  pub row : (i : ℕ) → i < s .cars → car ≡ s .car i → FilledRow s limit i n exit
-  pub number : (i : ℕ) → car ≡ s .car i → ranked ≡ keptNumber s limit i
+-- the known destinations of a car's riders, in a buffer of 512 that held zeros
+unfoldable pub destsFor : Sheet → List ℕ → List Float → List ℕ → List ℕ → Car → List Float
+destsFor s ids xs acar adest car =
+    destsIn ids (s .stops) acar adest (car .id) xs (s .aboards) ++ drop (ridersIn ids (s .stops) acar adest (car .id) (s .aboards) .count) (replicate 512 zero)
+
+-- n cells hold the row of a car by value, and so many of its pairs are ranked
+pub record FilledCar (s : Sheet) (ids : List ℕ) (xs : List Float) (acar adest : List ℕ) (mask demand : ℕ) (waiters : List Waiters) (stops : List ℕ) (m limit : ℕ) (car : Car) (n ranked : ℕ) (exit : List ℕ) : Type 0 where
+  pub row : exit ≡ tab (padded (rowCell (rowFor s ids xs acar adest mask demand limit car) (destsFor s ids xs acar adest car) waiters xs (s .stops) stops) m) n
+  pub number : ranked ≡ count (keptOf s car limit) (s .stops)
 
 -- the row of car i of a list that holds the sheet's cars
-pub filled-at : (s : Sheet) (limit i n ranked : ℕ) (cars : List Car) (exit : List ℕ) → HoldsCars s cars → i < s .cars
-    → FilledCar s limit (getD cars i noCar) n ranked exit → FilledRow s limit i n exit × (ranked ≡ keptNumber s limit i)
-filled-at s limit i n ranked cars exit h l f = (f .row i l (h .each i l), f .number i (h .each i l))
+pub filled-at : (s : Sheet) (ids : List ℕ) (xs : List Float) (acar adest : List ℕ) (mask demand : ℕ) (waiters : List Waiters) (stops : List ℕ) (m : ℕ)
+    → Ready s ids xs acar adest mask demand waiters stops m → (limit i n ranked : ℕ) (cars : List Car) (exit : List ℕ) → HoldsCars s cars → i < s .cars
+    → FilledCar s ids xs acar adest mask demand waiters stops m limit (getD cars i noCar) n ranked exit
+    → FilledRow s limit i n exit × (ranked ≡ keptNumber s limit i)
+unfolding destsFor keptNumber rowFor
+filled-at s ids xs acar adest mask demand waiters stops m h limit i n ranked cars exit hc l f =
+    let e = hc .each i l in
+    let car = getD cars i noCar in
+    let row = row-of s ids xs acar adest mask demand (h .held) limit car (rowFor s ids xs acar adest mask demand limit car) (replicate 512 zero) refl refl in (
+      record { row = λ r q. f .row ∙ ready-row s ids xs acar adest mask demand waiters stops m h i limit (rowFor s ids xs acar adest mask demand limit car) l (row .held i e) r n q },
+      f .number ∙ count-cong (keptOf s car limit) (kept s i limit) (s .stops) (λ j _. ap (λ (k : Car). keptOf s k limit j) e ∙ kept-of s i limit j),
+    )
 
 -- a car is ranked for no more than 64 stops
 pub kept-few : (s : Sheet) (limit i : ℕ) → s .stops ≤ 64 → keptNumber s limit i ≤ 64

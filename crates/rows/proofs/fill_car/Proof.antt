@@ -1,9 +1,10 @@
 -- rows::fill_car meets its contract.
 use Rattle.layout.specs.Records.{sheetOf}
-use Rattle.rows.specs.MatrixLaws.{CarNeeds, FilledCar, FilledRow, row-of, ready-few, ready-below, ready-row}
+use Rattle.rows.specs.MatrixLaws.{CarNeeds, FilledCar, destsFor, rowFor, kept-size, ready-few, ready-below}
 use borrow.Author.Needs.{needs}
 use lib.ListN.{length}
-use mathlib.Core.Path.{_≡_, refl, _∙_}
+use mathlib.Core.Path.{_≡_, refl, ap, _∙_}
+use Rattle.ranking.specs.declared.Row.{Row}
 use native.Mathlib.Omega.{arith}
 use Rattle.rows.proofs.fill_car.Statement.{statement}
 use Rattle.rows.proofs.fill_car.Tie as tie
@@ -30,19 +31,16 @@ same-length : tie.Need-same-length
 same-length c = c .before .before .before .car-row .ensures .0
 
 returns : tie.Need-returns
-unfolding sheetOf
+unfolding sheetOf destsFor rowFor
 returns c =
     let a = c .before .before .before .before .before .before .before .before .before .before .before .before .before .before .before .before .before .args in
     let p = c .before .before .before .before .before .before .before .before .before .before .before .before .before .before .before .before .before .pre in
     let held = c .before .before .before .before .before .before .before .before .row-for in
     let filled = c .before .before .before .car-row .ensures in
-    let row = row-of (sheetOf (a .s .now) (a .c)) (a .ids .now) (a .xs .now) (a .acar .now) (a .adest .now) (a .pending) (a .demand) (p .ready .held) (a .limit) (a .car) (held .result) _ (held .ensures .0) (held .ensures .1 .2) in
+    let s = sheetOf (a .s .now) (a .c) in
     record {
-      size = filled .0;
-      row = λ i l e. record {
-        row = λ r f. filled .1 ∙ ready-row (sheetOf (a .s .now) (a .c)) (a .ids .now) (a .xs .now) (a .acar .now) (a .adest .now) (a .pending) (a .demand) (a .waiters) (a .stops .now) (a .m) (p .ready) i (a .limit) (held .result) l (row .held i e) r (length (a .row .now)) f;
-      };
-      number = λ i e. c .size .ensures ∙ row .number i e;
+      row = filled .1 ∙ rw (held .ensures .1 .2, held .ensures .0) refl;
+      number = c .size .ensures ∙ kept-size s (a .limit) (held .result .kept) (a .car) (p .ready .held .few) (ap (λ (r : Row). r .kept) (held .ensures .0));
     }
 
 pub fill-car-spec : {M : Type 1} → statement M

@@ -124,7 +124,7 @@ module _ {M : Type 1} (𝓤 : URA M) (H : Heap 𝓤) (A : Atoms 𝓤) (W : Given
   e = getD cars i noCar
 
   abbrev Said : ℕ → List ℕ → Type 0
-  Said r zs = FilledCar (sheetOf (now s) c) limit e (length (now row)) r zs
+  Said r zs = FilledCar (sheetOf (now s) c) (now ids) (now xs) (now acar) (now adest) pending demand waiters (now stops) m limit e (length (now row)) r zs
 
   -- the slice that is lent for κ under γ, and the array's part while it is lent
   abbrev lent : ℕ → GName → RefT (List Car)

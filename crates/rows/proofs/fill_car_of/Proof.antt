@@ -92,7 +92,7 @@ module _ {M : Type 1} (𝓤 : URA M) (H : Heap 𝓤) (A : Atoms 𝓤) (W : Given
   e = getD (now cars) i noCar
 
   abbrev Said : ℕ → List ℕ → Type 0
-  Said r zs = FilledCar (sheetOf (now s) c) limit e (length (now row)) r zs
+  Said r zs = FilledCar (sheetOf (now s) c) (now ids) (now xs) (now acar) (now adest) pending demand waiters (now stops) m limit e (length (now row)) r zs
 
   -- what the callee's triple binds outside
   abbrev to : Callee 𝓤 H A mem run .Ghost
