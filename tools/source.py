@@ -529,7 +529,7 @@ class Walker:
             return self.project.at(path, there, self.where)
         if name in self.file.aliases:
             return ("library", self.file.aliases[name], "")
-        return None
+        return self.project.imported(self.file, name)
 
     def makes(self, name, target):
         """Whether the name is a constructor of what it refers to."""
@@ -871,12 +871,18 @@ class Project:
                 continue
             if name in code.names:
                 refs.append((name, code.names[name].key))
-            elif name in code.imports:
-                path, there = code.imports[name]
-                key = (path.split("::")[0], ".".join(["declared"] + path.split("::")[1:] + [there]), there)
-                if key in self.declarations:
-                    refs.append((name, key))
+            elif self.imported(code, name):
+                refs.append((name, self.imported(code, name)))
         return refs
+
+    def imported(self, file, name):
+        """The enum or struct that a `use` line of Rust brings into a file of src/, or None."""
+        if not isinstance(file, Code) or name not in file.imports:
+            return None
+        path, there = file.imports[name]
+        parts = path.split("::")
+        key = (parts[0], ".".join(["declared"] + parts[1:] + [there]), there)
+        return key if key in self.declarations else None
 
     def promised(self, promise):
         """What a contract names."""
