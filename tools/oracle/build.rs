@@ -69,9 +69,12 @@ fn main() {
     let here = PathBuf::from(env::var("CARGO_MANIFEST_DIR").unwrap());
     let out = PathBuf::from(env::var("OUT_DIR").unwrap());
     println!("cargo:rerun-if-env-changed=ELEVATOR_CORE_SRC");
-    let place = match env::var_os("ELEVATOR_CORE_SRC") {
-        Some(p) => PathBuf::from(p),
-        None => here.join("../../../shared/docs/src"),
+    let Some(place) = env::var_os("ELEVATOR_CORE_SRC").map(PathBuf::from) else {
+        eprintln!(
+            "The published files of elevator-core are not named: set ELEVATOR_CORE_SRC to the folder that \
+             holds crates/elevator-core/src."
+        );
+        std::process::exit(1);
     };
     let source = place.join("crates/elevator-core/src");
     let missing: Vec<_> = PUBLISHED
@@ -81,8 +84,7 @@ fn main() {
     if !missing.is_empty() {
         eprintln!(
             "The published files of elevator-core are not at {}:\n  missing: {}\n\
-             Set ELEVATOR_CORE_SRC to the folder that holds crates/elevator-core/src \
-             (default: ../shared/docs/src beside the repository).",
+             Set ELEVATOR_CORE_SRC to the folder that holds crates/elevator-core/src.",
             place.display(),
             missing
                 .iter()

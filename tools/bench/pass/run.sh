@@ -1,9 +1,14 @@
 #!/usr/bin/env bash
 # From bytes to decisions: the proved library beside the published Rust, on the same sheets in one process; and the stack of a pass.
-# Needs what tools/compare needs (tools/oracle/README.md). usage: tools/bench/pass/run.sh [ROUNDS]
+# Needs what tools/compare needs (tools/oracle/README.md), the published files where ELEVATOR_CORE_SRC says. usage: tools/bench/pass/run.sh [ROUNDS]
 set -eu
+if [ ! -d "${ELEVATOR_CORE_SRC:-}/crates/elevator-core/src" ]; then
+    echo "nothing timed: set ELEVATOR_CORE_SRC to the folder that holds crates/elevator-core/src, the published files" >&2
+    exit 2
+fi
+ELEVATOR_CORE_SRC=$(realpath "$ELEVATOR_CORE_SRC")
+export ELEVATOR_CORE_SRC
 cd "$(dirname "$0")/../../.."
-export ELEVATOR_CORE_SRC="$(realpath "${ELEVATOR_CORE_SRC:-../shared/docs/src}")"
 tools/library >/dev/null
 mkdir -p target/compare
 cc -shared -o target/compare/bench.so -Wl,--whole-archive target/staticlib/libdispatch_bench.a -Wl,--no-whole-archive
