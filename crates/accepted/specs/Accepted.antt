@@ -26,8 +26,8 @@ use Rattle.components.specs.declared.Kind.the-variants as kind
 use Rattle.layout.specs.declared.Counts.{Counts}
 use Rattle.layout.specs.declared.Reading.{Reading}
 use Rattle.layout.specs.declared.Reading.the-variants.{Refused, Accepted}
-use Rattle.layout.specs.Offsets.{headLength, stopAt, lineAt, carAt, aboardAt, waitingAt, demandAt, recordLength, none, next, endOf, lastKind, stopsFrom, linesFrom, carsFrom, Small}
-use Rattle.layout.specs.Table.{carHasBypassUp, carHasBypassDown, carBypassDown, policyLimit, policyRate, policyW0, policyW1, policyW2, policyW3, policyW4, stopId, lineId, lineServes, carId, carLine, carPhase, carStop, carHasTarget, carTarget, carPosition, carSpeed, carCapacity, carLoad, carBypassUp, carBypassDown, carTransition, carDwell, carRestricted, carCalls, aboardCar, waitingStop, waitingWeight, waitingWait, demandStop, first}
+use Rattle.layout.specs.Offsets.{headLength, stopStart, lineStart, carStart, aboardStart, waitingStart, demandStart, recordLength, none, next, endOf, lastKind, stopsFrom, linesFrom, carsFrom, Small}
+use Rattle.layout.specs.Table.{car·hasBypassUp, car·hasBypassDown, car·bypassDown, policy·limit, policy·rate, policy·w0, policy·w1, policy·w2, policy·w3, policy·w4, stop·id, line·id, line·serves, car·id, car·line, car·phase, car·stop, car·hasTarget, car·target, car·position, car·speed, car·capacity, car·load, car·bypassUp, car·bypassDown, car·transition, car·dwell, car·restricted, car·calls, aboard·car, waiting·stop, waiting·weight, waiting·wait, demand·stop, first}
 use Rattle.layout.specs.Records.{Fields, from, flag, double, policyOf, stopOf, lineOf, carOf, aboardOf, waitingOf, demandOf, sheetOf, limitOf, read}
 use Rattle.layout.specs.Refusals.{recordCount, kindAt, pastEnd, refusal2Head, refusal6Empty, refusal16, tailFits, refusal6, refusal4, refusal7, seen, hasStop, hasLine, hasCar, hasDemand, lastStop, presentZero, strategyAt, loadWeighed, phaseAt, refusal8Policy, refusal11Policy, refusal12, refusal15, refusal9Stop, refusal11Stop, refusal9Line, refusal10Line, refusal8Car, refusal9Car, refusal10Car, refusal11Car, refusal13, refusal8Aboard, refusal9Aboard, refusal10Aboard, refusal8Waiting, refusal9Waiting, refusal10Waiting, refusal11Waiting, refusal14, refusal9Demand, refusal10Demand}
 use Rattle.layout.specs.Verdict.{bodyRefusal, recordRefusal, headRules, tailRules, given, tailVerdict, recordsVerdict, verdict, firstOf}
@@ -326,7 +326,7 @@ whole s c e = let h = headed s c e in from-here s (recordCount s) none c (no-rec
 -- ---- what the conditions leave of each record
 
 module _ (f : Fields) where
-  sound-policy : (s : List ℕ) (c : Counts) → bodyRefusal s c kind.Policy f ≡ 0 → SoundPolicy (policyOf f) × (0 < read f policyLimit)
+  sound-policy : (s : List ℕ) (c : Counts) → bodyRefusal s c kind.Policy f ≡ 0 → SoundPolicy (policyOf f) × (0 < read f policy·limit)
   unfolding firstOf refusal8Policy refusal11Policy refusal12 refusal15 policyOf
   sound-policy s c e =
       let a = pick-none (refusal8Policy f) 8 _ (omega arith) e in
@@ -334,28 +334,28 @@ module _ (f : Fields) where
       let d = pick-none (refusal12 f) 12 _ (omega arith) (b .1) in
       let g = pick-none (refusal15 f) 15 0 (omega arith) (d .1) in
       let r0 = not-false _ (b .0) in
-      let r1 = both-right (isTickRate (double f policyRate)) _ r0 in
-      let r2 = both-right (isMass (double f policyW0)) _ r1 in
-      let r3 = both-right (isMass (double f policyW1)) _ r2 in
-      let r4 = both-right (isMass (double f policyW2)) _ r3 in
-      let r5 = both-right (isMass (double f policyW3)) _ r4 in (
+      let r1 = both-right (isTickRate (double f policy·rate)) _ r0 in
+      let r2 = both-right (isMass (double f policy·w0)) _ r1 in
+      let r3 = both-right (isMass (double f policy·w1)) _ r2 in
+      let r4 = both-right (isMass (double f policy·w2)) _ r3 in
+      let r5 = both-right (isMass (double f policy·w3)) _ r4 in (
         record {
           strategy = λ q. not-both (ap (λ k. eqb (strategyCode k) 3) q) (neither-left (eqb (strategyCode (strategyAt f)) 3) _ (a .0));
-          rate = both-left (isTickRate (double f policyRate)) _ r0;
-          w0 = both-left (isMass (double f policyW0)) _ r1;
-          w1 = both-left (isMass (double f policyW1)) _ r2;
-          w2 = both-left (isMass (double f policyW2)) _ r3;
-          w3 = both-left (isMass (double f policyW3)) _ r4;
-          w4 = both-left (isMass (double f policyW4)) _ r5;
-          w5 = both-right (isMass (double f policyW4)) _ r5;
+          rate = both-left (isTickRate (double f policy·rate)) _ r0;
+          w0 = both-left (isMass (double f policy·w0)) _ r1;
+          w1 = both-left (isMass (double f policy·w1)) _ r2;
+          w2 = both-left (isMass (double f policy·w2)) _ r3;
+          w3 = both-left (isMass (double f policy·w3)) _ r4;
+          w4 = both-left (isMass (double f policy·w4)) _ r5;
+          w5 = both-right (isMass (double f policy·w4)) _ r5;
           unloaded = λ q. sym (ap (λ k. loadWeighed k f) q) ∙ g .0;
         },
-        above-zero (read f policyLimit) (d .0),
+        above-zero (read f policy·limit) (d .0),
       )
 
   record StopFacts (s : List ℕ) (c : Counts) : Type 0 where
     pub sound : SoundStop (stopOf f)
-    pub above : lastStop s c < read f stopId
+    pub above : lastStop s c < read f stop·id
 
   stop-facts : (s : List ℕ) (c : Counts) → bodyRefusal s c kind.Stop f ≡ 0 → StopFacts s c
   unfolding firstOf refusal9Stop refusal11Stop stopOf
@@ -364,16 +364,16 @@ module _ (f : Fields) where
       let b = pick-none (refusal11Stop f) 11 0 (omega arith) (a .1) in
       record {
         sound = record {
-          id = above-zero (read f stopId) (neither-left (eqb (read f stopId) 0) _ (a .0));
+          id = above-zero (read f stop·id) (neither-left (eqb (read f stop·id) 0) _ (a .0));
           position = not-false _ (b .0);
         };
-        above = leb-false (read f stopId) (lastStop s c) (neither-right (eqb (read f stopId) 0) _ (a .0));
+        above = leb-false (read f stop·id) (lastStop s c) (neither-right (eqb (read f stop·id) 0) _ (a .0));
       }
 
   record LineFacts (s : List ℕ) (c : Counts) : Type 0 where
-    pub id : 0 < read f lineId
-    pub fresh : hasLine s c (read f lineId) ≡ false
-    pub serves : pastStops (read f lineServes) (c .stops) ≡ false
+    pub id : 0 < read f line·id
+    pub fresh : hasLine s c (read f line·id) ≡ false
+    pub serves : pastStops (read f line·serves) (c .stops) ≡ false
 
   line-facts : (s : List ℕ) (c : Counts) → bodyRefusal s c kind.Line f ≡ 0 → LineFacts s c
   unfolding firstOf refusal9Line refusal10Line
@@ -381,26 +381,26 @@ module _ (f : Fields) where
       let a = pick-none (refusal9Line s c f) 9 _ (omega arith) e in
       let b = pick-none (refusal10Line c f) 10 0 (omega arith) (a .1) in
       record {
-        id = above-zero (read f lineId) (neither-left (eqb (read f lineId) 0) _ (a .0));
-        fresh = neither-right (eqb (read f lineId) 0) _ (a .0);
+        id = above-zero (read f line·id) (neither-left (eqb (read f line·id) 0) _ (a .0));
+        fresh = neither-right (eqb (read f line·id) 0) _ (a .0);
         serves = b .0;
       }
 
   record CarFacts (s : List ℕ) (c : Counts) : Type 0 where
-    pub id : 0 < read f carId
-    pub fresh : hasCar s c (read f carId) ≡ false
-    pub line : hasLine s c (read f carLine) ≡ true
+    pub id : 0 < read f car·id
+    pub fresh : hasCar s c (read f car·id) ≡ false
+    pub line : hasLine s c (read f car·line) ≡ true
     pub phase : eqb (phaseCode (phaseAt f)) 7 ≡ false
-    pub moving : (isMoving (phaseAt f) && eqb (read f carStop) 0) ≡ false
-    pub position : isPosition (double f carPosition) ≡ true
-    pub speed : isSpeed (double f carSpeed) ≡ true
-    pub capacity : isMass (double f carCapacity) ≡ true
-    pub load : isMass (double f carLoad) ≡ true
-    pub bypassup : isThreshold (double f carBypassUp) ≡ true
-    pub bypassdown : isThreshold (double f carBypassDown) ≡ true
-    pub ticks : 2 * read f carTransition + read f carDwell ≤ 4294967295
-    pub restricted : pastStops (read f carRestricted) (c .stops) ≡ false
-    pub calls : pastStops (read f carCalls) (c .stops) ≡ false
+    pub moving : (isMoving (phaseAt f) && eqb (read f car·stop) 0) ≡ false
+    pub position : isPosition (double f car·position) ≡ true
+    pub speed : isSpeed (double f car·speed) ≡ true
+    pub capacity : isMass (double f car·capacity) ≡ true
+    pub load : isMass (double f car·load) ≡ true
+    pub bypassup : isThreshold (double f car·bypassUp) ≡ true
+    pub bypassdown : isThreshold (double f car·bypassDown) ≡ true
+    pub ticks : 2 * read f car·transition + read f car·dwell ≤ 4294967295
+    pub restricted : pastStops (read f car·restricted) (c .stops) ≡ false
+    pub calls : pastStops (read f car·calls) (c .stops) ≡ false
 
   car-facts : (s : List ℕ) (c : Counts) → bodyRefusal s c kind.Car f ≡ 0 → CarFacts s c
   unfolding firstOf refusal8Car refusal9Car refusal10Car refusal11Car refusal13
@@ -410,33 +410,33 @@ module _ (f : Fields) where
       let r10 = pick-none (refusal10Car s c f) 10 _ (omega arith) (r9 .1) in
       let r11 = pick-none (refusal11Car f) 11 _ (omega arith) (r10 .1) in
       let r13 = pick-none (refusal13 f) 13 0 (omega arith) (r11 .1) in
-      let i1 = neither-right (eqb (read f carId) 0) _ (r9 .0) in
-      let i2 = neither-right (eqb (read f carLine) 0) _ i1 in
-      let i3 = neither-right (isMoving (phaseAt f) && eqb (read f carStop) 0) _ i2 in
-      let m = neither-right (not (hasLine s c (read f carLine))) _ (r10 .0) in
+      let i1 = neither-right (eqb (read f car·id) 0) _ (r9 .0) in
+      let i2 = neither-right (eqb (read f car·line) 0) _ i1 in
+      let i3 = neither-right (isMoving (phaseAt f) && eqb (read f car·stop) 0) _ i2 in
+      let m = neither-right (not (hasLine s c (read f car·line))) _ (r10 .0) in
       let d0 = not-false _ (r11 .0) in
-      let d1 = both-right (isPosition (double f carPosition)) _ d0 in
-      let d2 = both-right (isSpeed (double f carSpeed)) _ d1 in
-      let d3 = both-right (isMass (double f carCapacity)) _ d2 in
-      let d4 = both-right (isMass (double f carLoad)) _ d3 in
+      let d1 = both-right (isPosition (double f car·position)) _ d0 in
+      let d2 = both-right (isSpeed (double f car·speed)) _ d1 in
+      let d3 = both-right (isMass (double f car·capacity)) _ d2 in
+      let d4 = both-right (isMass (double f car·load)) _ d3 in
       record {
-        id = above-zero (read f carId) (neither-left (eqb (read f carId) 0) _ (r9 .0));
-        fresh = neither-right (presentZero f carHasTarget carTarget) _ i3;
-        line = not-false _ (neither-left (not (hasLine s c (read f carLine))) _ (r10 .0));
+        id = above-zero (read f car·id) (neither-left (eqb (read f car·id) 0) _ (r9 .0));
+        fresh = neither-right (presentZero f car·hasTarget car·target) _ i3;
+        line = not-false _ (neither-left (not (hasLine s c (read f car·line))) _ (r10 .0));
         phase = neither-left (eqb (phaseCode (phaseAt f)) 7) _ (r8 .0);
-        moving = neither-left (isMoving (phaseAt f) && eqb (read f carStop) 0) _ i2;
-        position = both-left (isPosition (double f carPosition)) _ d0;
-        speed = both-left (isSpeed (double f carSpeed)) _ d1;
-        capacity = both-left (isMass (double f carCapacity)) _ d2;
-        load = both-left (isMass (double f carLoad)) _ d3;
-        bypassup = both-left (isThreshold (double f carBypassUp)) _ d4;
-        bypassdown = both-right (isThreshold (double f carBypassUp)) _ d4;
-        ticks = ltb-false 4294967295 (2 * read f carTransition + read f carDwell) (r13 .0);
-        restricted = neither-left (pastStops (read f carRestricted) (c .stops)) _ m;
-        calls = neither-right (pastStops (read f carRestricted) (c .stops)) _ m;
+        moving = neither-left (isMoving (phaseAt f) && eqb (read f car·stop) 0) _ i2;
+        position = both-left (isPosition (double f car·position)) _ d0;
+        speed = both-left (isSpeed (double f car·speed)) _ d1;
+        capacity = both-left (isMass (double f car·capacity)) _ d2;
+        load = both-left (isMass (double f car·load)) _ d3;
+        bypassup = both-left (isThreshold (double f car·bypassUp)) _ d4;
+        bypassdown = both-right (isThreshold (double f car·bypassUp)) _ d4;
+        ticks = ltb-false 4294967295 (2 * read f car·transition + read f car·dwell) (r13 .0);
+        restricted = neither-left (pastStops (read f car·restricted) (c .stops)) _ m;
+        calls = neither-right (pastStops (read f car·restricted) (c .stops)) _ m;
       }
 
-  aboard-car : (s : List ℕ) (c : Counts) → bodyRefusal s c kind.Aboard f ≡ 0 → hasCar s c (read f aboardCar) ≡ true
+  aboard-car : (s : List ℕ) (c : Counts) → bodyRefusal s c kind.Aboard f ≡ 0 → hasCar s c (read f aboard·car) ≡ true
   unfolding firstOf refusal10Aboard
   aboard-car s c e =
       let a = pick-none (refusal8Aboard f) 8 _ (omega arith) e in
@@ -444,9 +444,9 @@ module _ (f : Fields) where
       not-false _ (pick-none (refusal10Aboard s c f) 10 0 (omega arith) (b .1) .0)
 
   record WaitingFacts (s : List ℕ) (c : Counts) : Type 0 where
-    pub stop : hasStop s c (read f waitingStop) ≡ true
-    pub weight : isMass (double f waitingWeight) ≡ true
-    pub wait : read f waitingWait ≤ 9007199254740992
+    pub stop : hasStop s c (read f waiting·stop) ≡ true
+    pub weight : isMass (double f waiting·weight) ≡ true
+    pub wait : read f waiting·wait ≤ 9007199254740992
 
   waiting-facts : (s : List ℕ) (c : Counts) → bodyRefusal s c kind.Waiting f ≡ 0 → WaitingFacts s c
   unfolding firstOf refusal10Waiting refusal11Waiting refusal14
@@ -456,18 +456,18 @@ module _ (f : Fields) where
       let d = pick-none (refusal10Waiting s c f) 10 _ (omega arith) (b .1) in
       let g = pick-none (refusal11Waiting f) 11 _ (omega arith) (d .1) in
       let h = pick-none (refusal14 f) 14 0 (omega arith) (g .1) in
-      record { stop = not-false _ (d .0); weight = not-false _ (g .0); wait = ltb-false 9007199254740992 (read f waitingWait) (h .0) }
+      record { stop = not-false _ (d .0); weight = not-false _ (g .0); wait = ltb-false 9007199254740992 (read f waiting·wait) (h .0) }
 
   record DemandFacts (s : List ℕ) (c : Counts) : Type 0 where
-    pub fresh : hasDemand s c (read f demandStop) ≡ false
-    pub stop : hasStop s c (read f demandStop) ≡ true
+    pub fresh : hasDemand s c (read f demand·stop) ≡ false
+    pub stop : hasStop s c (read f demand·stop) ≡ true
 
   demand-facts : (s : List ℕ) (c : Counts) → bodyRefusal s c kind.Demand f ≡ 0 → DemandFacts s c
   unfolding firstOf refusal9Demand refusal10Demand
   demand-facts s c e =
       let a = pick-none (refusal9Demand s c f) 9 _ (omega arith) e in
       let b = pick-none (refusal10Demand s c f) 10 0 (omega arith) (a .1) in
-      record { fresh = neither-right (eqb (read f demandStop) 0) _ (a .0); stop = not-false _ (b .0) }
+      record { fresh = neither-right (eqb (read f demand·stop) 0) _ (a .0); stop = not-false _ (b .0) }
 
 -- ---- ids
 
@@ -538,49 +538,49 @@ pub body-at : {s : List ℕ} {c : Counts} {k : Kind} → Read s c k → (at : �
 body-at {s} {c} {k} r at e = subst (λ x. bodyRefusal s c k (from s x) ≡ 0) e (r .body)
 
 module _ (s : List ℕ) (c : Counts) (h : Records s c) where
-  the-stop : (j : ℕ) → j < c .stops → StopFacts (from s (stopAt c j)) s (counts (c .policies) j 0 0 0 0 0)
+  the-stop : (j : ℕ) → j < c .stops → StopFacts (from s (stopStart c j)) s (counts (c .policies) j 0 0 0 0 0)
   the-stop j l =
-      let at = stopAt c j in stop-facts (from s at) s (counts (c .policies) j 0 0 0 0 0) (body-at (h .stops j l) at (omega arith))
+      let at = stopStart c j in stop-facts (from s at) s (counts (c .policies) j 0 0 0 0 0) (body-at (h .stops j l) at (omega arith))
 
-  the-line : (i : ℕ) → i < c .lines → LineFacts (from s (lineAt c i)) s (counts (c .policies) (c .stops) i 0 0 0 0)
+  the-line : (i : ℕ) → i < c .lines → LineFacts (from s (lineStart c i)) s (counts (c .policies) (c .stops) i 0 0 0 0)
   the-line i l =
-      let at = lineAt c i in
+      let at = lineStart c i in
       line-facts (from s at) s (counts (c .policies) (c .stops) i 0 0 0 0) (body-at (h .lines i l) at (omega arith))
 
-  the-car : (i : ℕ) → i < c .cars → CarFacts (from s (carAt c i)) s (counts (c .policies) (c .stops) (c .lines) i 0 0 0)
+  the-car : (i : ℕ) → i < c .cars → CarFacts (from s (carStart c i)) s (counts (c .policies) (c .stops) (c .lines) i 0 0 0)
   the-car i l =
-      let at = carAt c i in
+      let at = carStart c i in
       car-facts (from s at) s (counts (c .policies) (c .stops) (c .lines) i 0 0 0) (body-at (h .cars i l) at (omega arith))
 
-  the-aboard : (i : ℕ) → i < c .aboards → hasCar s c (read (from s (aboardAt c i)) aboardCar) ≡ true
+  the-aboard : (i : ℕ) → i < c .aboards → hasCar s c (read (from s (aboardStart c i)) aboard·car) ≡ true
   the-aboard i l =
-      let at = aboardAt c i in
+      let at = aboardStart c i in
       aboard-car (from s at) s (counts (c .policies) (c .stops) (c .lines) (c .cars) i 0 0) (body-at (h .aboards i l) at (omega arith))
 
   the-waiting : (i : ℕ) → i < c .waits
-      → WaitingFacts (from s (waitingAt c i)) s (counts (c .policies) (c .stops) (c .lines) (c .cars) (c .aboards) i 0)
+      → WaitingFacts (from s (waitingStart c i)) s (counts (c .policies) (c .stops) (c .lines) (c .cars) (c .aboards) i 0)
   the-waiting i l =
-      let at = waitingAt c i in
+      let at = waitingStart c i in
       waiting-facts (from s at) s (counts (c .policies) (c .stops) (c .lines) (c .cars) (c .aboards) i 0) (body-at (h .waits i l) at (omega arith))
 
   the-demand : (i : ℕ) → i < c .demands
-      → DemandFacts (from s (demandAt c i)) s (counts (c .policies) (c .stops) (c .lines) (c .cars) (c .aboards) (c .waits) i)
+      → DemandFacts (from s (demandStart c i)) s (counts (c .policies) (c .stops) (c .lines) (c .cars) (c .aboards) (c .waits) i)
   the-demand i l =
-      let at = demandAt c i in
+      let at = demandStart c i in
       demand-facts (from s at) s (counts (c .policies) (c .stops) (c .lines) (c .cars) (c .aboards) (c .waits) i)
       (body-at (h .demands i l) at (omega arith))
 
   abbrev stop-ids : ℕ → ℕ
-  stop-ids j = read (from s (stopAt c j)) stopId
+  stop-ids j = read (from s (stopStart c j)) stop·id
 
   abbrev line-ids : ℕ → ℕ
-  line-ids i = read (from s (lineAt c i)) lineId
+  line-ids i = read (from s (lineStart c i)) line·id
 
   abbrev car-ids : ℕ → ℕ
-  car-ids i = read (from s (carAt c i)) carId
+  car-ids i = read (from s (carStart c i)) car·id
 
   abbrev demand-ids : ℕ → ℕ
-  demand-ids i = read (from s (demandAt c i)) demandStop
+  demand-ids i = read (from s (demandStart c i)) demand·stop
 
   stops-rise : (i : ℕ) → suc i < c .stops → stop-ids i < stop-ids (suc i)
   unfolding lastStop
@@ -628,21 +628,21 @@ module _ (s : List ℕ) (c : Counts) (h : Records s c) where
   sound-car : (i : ℕ) → i < c .cars → SoundCar (sheetOf s c) (sheetOf s c .car i)
   unfolding sheetOf lineOf carOf
   sound-car i l =
-      let g = from s (carAt c i) in
+      let g = from s (carStart c i) in
       let f = the-car i l in
       record {
         id = f .id;
-        line = found s (linesFrom c) (recordLength kind.Line) (c .lines) (read g carLine) (f .line);
+        line = found s (linesFrom c) (recordLength kind.Line) (c .lines) (read g car·line) (f .line);
         phase = λ q. not-both (ap (λ k. eqb (phaseCode k) 7) q) (f .phase);
         moving = λ q.
             above-zero (movingTarget (phaseAt g))
-            (ap (λ x. eqb x 0) (moving-target (read g carPhase) (read g carStop) q) ∙ sym (ap (λ b. b && eqb (read g carStop) 0) q) ∙ f .moving);
+            (ap (λ x. eqb x 0) (moving-target (read g car·phase) (read g car·stop) q) ∙ sym (ap (λ b. b && eqb (read g car·stop) 0) q) ∙ f .moving);
         position = f .position;
         speed = f .speed;
         capacity = f .capacity;
         load = f .load;
-        bypassup = threshold-or (flag g carHasBypassUp) (double g carBypassUp) (f .bypassup);
-        bypassdown = threshold-or (flag g carHasBypassDown) (double g carBypassDown) (f .bypassdown);
+        bypassup = threshold-or (flag g car·hasBypassUp) (double g car·bypassUp) (f .bypassup);
+        bypassdown = threshold-or (flag g car·hasBypassDown) (double g car·bypassDown) (f .bypassdown);
         ticks = let t = f .ticks in omega arith;
         restricted = f .restricted;
         calls = f .calls;
@@ -653,7 +653,7 @@ module _ (s : List ℕ) (c : Counts) (h : Records s c) where
   sound-waiting r l =
       let f = the-waiting r l in
       record {
-        stop = found s (stopsFrom c) (recordLength kind.Stop) (c .stops) (read (from s (waitingAt c r)) waitingStop) (f .stop);
+        stop = found s (stopsFrom c) (recordLength kind.Stop) (c .stops) (read (from s (waitingStart c r)) waiting·stop) (f .stop);
         weight = f .weight;
         wait = f .wait;
       }
@@ -676,7 +676,7 @@ module _ (s : List ℕ) (c : Counts) (h : Records s c) where
         line-ids = distinct-lines;
         car = sound-car;
         car-ids = distinct-cars;
-        aboard = λ r l. found s (carsFrom c) (recordLength kind.Car) (c .cars) (read (from s (aboardAt c r)) aboardCar) (the-aboard r l);
+        aboard = λ r l. found s (carsFrom c) (recordLength kind.Car) (c .cars) (read (from s (aboardStart c r)) aboard·car) (the-aboard r l);
         waiting = sound-waiting;
         demand = demand-found;
         demand-stops = distinct-demands;

@@ -21,8 +21,8 @@ use Rattle.components.specs.declared.Strategy.the-variants as strategy
 use Rattle.components.specs.Codes.{kindOf, strategyCode}
 use Rattle.components.specs.declared.Kind.the-variants as kind
 use Rattle.layout.specs.declared.Counts.{Counts}
-use Rattle.layout.specs.Offsets.{headLength, stopAt, recordLength, none, next, endOf, stopsFrom, linesFrom, carsFrom, demandsFrom, bodyFrom}
-use Rattle.layout.specs.Table.{lineId, carId, carLine, aboardCar, waitingStop, demandStop, first, stopId}
+use Rattle.layout.specs.Offsets.{headLength, stopStart, recordLength, none, next, endOf, stopsFrom, linesFrom, carsFrom, demandsFrom, bodyFrom}
+use Rattle.layout.specs.Table.{line·id, car·id, car·line, aboard·car, waiting·stop, demand·stop, first, stop·id}
 use Rattle.layout.specs.Records.{Fields, from, read}
 use Rattle.layout.specs.Refusals.{recordCount, kindAt, lengthAt, refusal2Head, refusal3, refusal6Empty, refusal16, tailFits, strategyAt, seen, hasStop, hasLine, hasCar, hasDemand, lastStop, unusedWeights, loadWeighed, refusal2, refusal8Policy, refusal11Policy, refusal12, refusal15, refusal9Stop, refusal11Stop, refusal9Line, refusal10Line, refusal8Car, refusal9Car, refusal10Car, refusal11Car, refusal13, refusal8Aboard, refusal9Aboard, refusal10Aboard, refusal8Waiting, refusal9Waiting, refusal10Waiting, refusal11Waiting, refusal14, refusal9Demand, refusal10Demand}
 use Rattle.layout.specs.Verdict.{pick, bodyRefusal, recordRefusal, tailVerdict, recordsVerdict, verdict, firstOf}
@@ -131,7 +131,7 @@ module _ (s : List ℕ) (long : 65536 < length s) where
 
     last-same : lastStop s c ≡ lastStop start c
     unfolding lastStop
-    last-same = ap (λ x. cond (eqb (c .stops) 0) 0 x) (field-same (stopAt c (c .stops - 1) + stopId .start) 32 (omega arith))
+    last-same = ap (λ x. cond (eqb (c .stops) 0) 0 x) (field-same (stopStart c (c .stops - 1) + stop·id .start) 32 (omega arith))
 
     module _ (f : Fields) where
       policy-look : bodyRefusal s c kind.Policy f ≡ bodyRefusal start c kind.Policy f
@@ -144,23 +144,23 @@ module _ (s : List ℕ) (long : 65536 < length s) where
 
       line-look : bodyRefusal s c kind.Line f ≡ bodyRefusal start c kind.Line f
       unfolding firstOf refusal9Line
-      line-look = rw (lines-same (read f lineId))
+      line-look = rw (lines-same (read f line·id))
 
       car-look : bodyRefusal s c kind.Car f ≡ bodyRefusal start c kind.Car f
       unfolding firstOf refusal9Car refusal10Car
-      car-look = rw (cars-same (read f carId), lines-same (read f carLine))
+      car-look = rw (cars-same (read f car·id), lines-same (read f car·line))
 
       aboard-look : bodyRefusal s c kind.Aboard f ≡ bodyRefusal start c kind.Aboard f
       unfolding firstOf refusal10Aboard
-      aboard-look = rw (cars-same (read f aboardCar))
+      aboard-look = rw (cars-same (read f aboard·car))
 
       waiting-look : bodyRefusal s c kind.Waiting f ≡ bodyRefusal start c kind.Waiting f
       unfolding firstOf refusal10Waiting
-      waiting-look = rw (stops-same (read f waitingStop))
+      waiting-look = rw (stops-same (read f waiting·stop))
 
       demand-look : bodyRefusal s c kind.Demand f ≡ bodyRefusal start c kind.Demand f
       unfolding firstOf refusal9Demand refusal10Demand
-      demand-look = rw (demands-same (read f demandStop), stops-same (read f demandStop))
+      demand-look = rw (demands-same (read f demand·stop), stops-same (read f demand·stop))
 
       body-look : (k : Kind) → bodyRefusal s c k f ≡ bodyRefusal start c k f
       body-look Policy = policy-look

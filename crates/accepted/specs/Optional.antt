@@ -12,8 +12,8 @@ use Rattle.components.specs.declared.Kind.the-variants as kind
 use Rattle.components.specs.Codes.{phaseCode}
 use Rattle.layout.specs.declared.Counts.{Counts}
 use Rattle.layout.specs.declared.Reading.the-variants.{Accepted}
-use Rattle.layout.specs.Offsets.{carAt, aboardAt, waitingAt}
-use Rattle.layout.specs.Table.{carId, carLine, carStop, carHasTarget, carTarget, aboardCar, aboardHasDestination, aboardDestination, waitingStop, waitingHasLine, waitingLine, waitingHasDestination, waitingDestination}
+use Rattle.layout.specs.Offsets.{carStart, aboardStart, waitingStart}
+use Rattle.layout.specs.Table.{car·id, car·line, car·stop, car·hasTarget, car·target, aboard·car, aboard·hasDestination, aboard·destination, waiting·stop, waiting·hasLine, waiting·line, waiting·hasDestination, waiting·destination}
 use Rattle.layout.specs.Records.{Fields, from, flag, carOf, aboardOf, waitingOf, sheetOf, read}
 use Rattle.layout.specs.Refusals.{absentSet, presentZero, unusedStop, phaseAt, refusal8Car, refusal9Car, refusal8Aboard, refusal9Aboard, refusal8Waiting, refusal9Waiting}
 use Rattle.layout.specs.Verdict.{verdict, firstOf, bodyRefusal}
@@ -28,50 +28,50 @@ exact false true a b = refl
 exact false false a b = never (sym a)
 
 module _ (s : List ℕ) (c : Counts) (f : Fields) where
-  target-exact : bodyRefusal s c kind.Car f ≡ 0 → flag f carHasTarget ≡ not (eqb (read f carTarget) 0)
+  target-exact : bodyRefusal s c kind.Car f ≡ 0 → flag f car·hasTarget ≡ not (eqb (read f car·target) 0)
   unfolding firstOf refusal8Car refusal9Car
   target-exact e =
       let a = pick-none (refusal8Car f) 8 _ (omega arith) e in
       let b = pick-none (refusal9Car s c f) 9 _ (omega arith) (a .1) in
       let p = neither-right (eqb (phaseCode (phaseAt f)) 7) _ (a .0) in
-      let g = neither-right (unusedStop (phaseAt f) (not (eqb (read f carStop) 0))) _ p in
-      let h = neither-right (eqb (read f carLine) 0) _ (neither-right (eqb (read f carId) 0) _ (b .0)) in
-      let k = neither-right (isMoving (phaseAt f) && eqb (read f carStop) 0) _ h in
-      exact (flag f carHasTarget) (eqb (read f carTarget) 0) (neither-left (absentSet f carHasTarget carTarget) _ g) (neither-left (presentZero f carHasTarget carTarget) _ k)
+      let g = neither-right (unusedStop (phaseAt f) (not (eqb (read f car·stop) 0))) _ p in
+      let h = neither-right (eqb (read f car·line) 0) _ (neither-right (eqb (read f car·id) 0) _ (b .0)) in
+      let k = neither-right (isMoving (phaseAt f) && eqb (read f car·stop) 0) _ h in
+      exact (flag f car·hasTarget) (eqb (read f car·target) 0) (neither-left (absentSet f car·hasTarget car·target) _ g) (neither-left (presentZero f car·hasTarget car·target) _ k)
 
-  aboard-exact : bodyRefusal s c kind.Aboard f ≡ 0 → flag f aboardHasDestination ≡ not (eqb (read f aboardDestination) 0)
+  aboard-exact : bodyRefusal s c kind.Aboard f ≡ 0 → flag f aboard·hasDestination ≡ not (eqb (read f aboard·destination) 0)
   unfolding firstOf refusal8Aboard refusal9Aboard
   aboard-exact e =
       let a = pick-none (refusal8Aboard f) 8 _ (omega arith) e in
       let b = pick-none (refusal9Aboard f) 9 _ (omega arith) (a .1) in
-      exact (flag f aboardHasDestination) (eqb (read f aboardDestination) 0) (a .0) (neither-right (eqb (read f aboardCar) 0) _ (b .0))
+      exact (flag f aboard·hasDestination) (eqb (read f aboard·destination) 0) (a .0) (neither-right (eqb (read f aboard·car) 0) _ (b .0))
 
-  waiting-exact : bodyRefusal s c kind.Waiting f ≡ 0 → (flag f waitingHasLine ≡ not (eqb (read f waitingLine) 0)) × (flag f waitingHasDestination ≡ not (eqb (read f waitingDestination) 0))
+  waiting-exact : bodyRefusal s c kind.Waiting f ≡ 0 → (flag f waiting·hasLine ≡ not (eqb (read f waiting·line) 0)) × (flag f waiting·hasDestination ≡ not (eqb (read f waiting·destination) 0))
   unfolding firstOf refusal8Waiting refusal9Waiting
   waiting-exact e =
       let a = pick-none (refusal8Waiting f) 8 _ (omega arith) e in
       let b = pick-none (refusal9Waiting f) 9 _ (omega arith) (a .1) in
-      let g = neither-right (eqb (read f waitingStop) 0) _ (b .0) in (
-        exact (flag f waitingHasLine) (eqb (read f waitingLine) 0) (neither-left (absentSet f waitingHasLine waitingLine) _ (a .0)) (neither-left (presentZero f waitingHasLine waitingLine) _ g),
-        exact (flag f waitingHasDestination) (eqb (read f waitingDestination) 0) (neither-right (absentSet f waitingHasLine waitingLine) _ (a .0)) (neither-right (presentZero f waitingHasLine waitingLine) _ g),
+      let g = neither-right (eqb (read f waiting·stop) 0) _ (b .0) in (
+        exact (flag f waiting·hasLine) (eqb (read f waiting·line) 0) (neither-left (absentSet f waiting·hasLine waiting·line) _ (a .0)) (neither-left (presentZero f waiting·hasLine waiting·line) _ g),
+        exact (flag f waiting·hasDestination) (eqb (read f waiting·destination) 0) (neither-right (absentSet f waiting·hasLine waiting·line) _ (a .0)) (neither-right (presentZero f waiting·hasLine waiting·line) _ g),
       )
 
 -- each present bit says that the sheet's field is not 0
 pub record Optionals (s : List ℕ) (c : Counts) : Type 0 where
-  pub target : (i : ℕ) → i < c .cars → flag (from s (carAt c i)) carHasTarget ≡ not (eqb (sheetOf s c .car i .target) 0)
-  pub destination : (i : ℕ) → i < c .aboards → flag (from s (aboardAt c i)) aboardHasDestination ≡ not (eqb (sheetOf s c .aboard i .destination) 0)
-  pub line : (i : ℕ) → i < c .waits → flag (from s (waitingAt c i)) waitingHasLine ≡ not (eqb (sheetOf s c .waiting i .line) 0)
-  pub bound-for : (i : ℕ) → i < c .waits → flag (from s (waitingAt c i)) waitingHasDestination ≡ not (eqb (sheetOf s c .waiting i .destination) 0)
+  pub target : (i : ℕ) → i < c .cars → flag (from s (carStart c i)) car·hasTarget ≡ not (eqb (sheetOf s c .car i .target) 0)
+  pub destination : (i : ℕ) → i < c .aboards → flag (from s (aboardStart c i)) aboard·hasDestination ≡ not (eqb (sheetOf s c .aboard i .destination) 0)
+  pub line : (i : ℕ) → i < c .waits → flag (from s (waitingStart c i)) waiting·hasLine ≡ not (eqb (sheetOf s c .waiting i .line) 0)
+  pub bound-for : (i : ℕ) → i < c .waits → flag (from s (waitingStart c i)) waiting·hasDestination ≡ not (eqb (sheetOf s c .waiting i .destination) 0)
 
 pub optional-ids : (s : List ℕ) (c : Counts) → verdict s ≡ Accepted c → Optionals s c
 unfolding sheetOf carOf aboardOf waitingOf
 optional-ids s c e =
     let r = whole s c e .records in
     let w : (i : ℕ) → i < c .waits → _ = λ i l.
-    waiting-exact s _ (from s (waitingAt c i)) (body-at (r .waits i l) (waitingAt c i) (omega arith)) in
+    waiting-exact s _ (from s (waitingStart c i)) (body-at (r .waits i l) (waitingStart c i) (omega arith)) in
     record {
-      target = λ i l. target-exact s _ (from s (carAt c i)) (body-at (r .cars i l) (carAt c i) (omega arith));
-      destination = λ i l. aboard-exact s _ (from s (aboardAt c i)) (body-at (r .aboards i l) (aboardAt c i) (omega arith));
+      target = λ i l. target-exact s _ (from s (carStart c i)) (body-at (r .cars i l) (carStart c i) (omega arith));
+      destination = λ i l. aboard-exact s _ (from s (aboardStart c i)) (body-at (r .aboards i l) (aboardStart c i) (omega arith));
       line = λ i l. w i l .0;
       bound-for = λ i l. w i l .1;
     }

@@ -10,8 +10,8 @@ use Rattle.bits.specs.Field.{fieldAt, field-ext}
 use Rattle.components.specs.Codes.{kindOf}
 use Rattle.layout.specs.declared.Counts.{Counts}
 use Rattle.layout.specs.declared.Reading.the-variants.{Accepted}
-use Rattle.layout.specs.Table.{headCount, policyStrategy, policyRate, policyTraffic, policyW0, policyW1, policyW2, policyW3, policyW4, policyW5}
-use Rattle.layout.specs.Offsets.{headLength, stopAt, lineAt, carAt, aboardAt, waitingAt, demandAt, none, next, endOf}
+use Rattle.layout.specs.Table.{head·count, policy·strategy, policy·rate, policy·traffic, policy·w0, policy·w1, policy·w2, policy·w3, policy·w4, policy·w5}
+use Rattle.layout.specs.Offsets.{headLength, stopStart, lineStart, carStart, aboardStart, waitingStart, demandStart, none, next, endOf}
 use Rattle.layout.specs.Records.{from, policyOf, stopOf, lineOf, carOf, aboardOf, waitingOf, demandOf, sheetOf}
 use Rattle.layout.specs.Refusals.{recordCount, kindAt}
 use Rattle.layout.specs.Verdict.{recordsVerdict, verdict}
@@ -51,21 +51,21 @@ module _ (s t : List ℕ) (agree : AgreeButLimit s t) where
   pub counts-same : (c d : Counts) → verdict s ≡ Accepted c → verdict t ≡ Accepted d → c ≡ d
   counts-same c d p q =
       counts-from (recordCount s) none c d (headed s c p .rest)
-      (subst (λ n. recordsVerdict t n none ≡ Accepted d) (sym (early (headCount .start) (headCount .width) (omega arith))) (headed t d q .rest))
+      (subst (λ n. recordsVerdict t n none ≡ Accepted d) (sym (early (head·count .start) (head·count .width) (omega arith))) (headed t d q .rest))
 
   policy-same : policyOf (from s headLength) ≡ policyOf (from t headLength)
   unfolding policyOf
   policy-same =
       cc (
-        early (headLength + policyStrategy .start) (policyStrategy .width) (omega arith),
-        late (headLength + policyRate .start) (policyRate .width) (omega arith),
-        late (headLength + policyTraffic .start) (policyTraffic .width) (omega arith),
-        late (headLength + policyW0 .start) (policyW0 .width) (omega arith),
-        late (headLength + policyW1 .start) (policyW1 .width) (omega arith),
-        late (headLength + policyW2 .start) (policyW2 .width) (omega arith),
-        late (headLength + policyW3 .start) (policyW3 .width) (omega arith),
-        late (headLength + policyW4 .start) (policyW4 .width) (omega arith),
-        late (headLength + policyW5 .start) (policyW5 .width) (omega arith),
+        early (headLength + policy·strategy .start) (policy·strategy .width) (omega arith),
+        late (headLength + policy·rate .start) (policy·rate .width) (omega arith),
+        late (headLength + policy·traffic .start) (policy·traffic .width) (omega arith),
+        late (headLength + policy·w0 .start) (policy·w0 .width) (omega arith),
+        late (headLength + policy·w1 .start) (policy·w1 .width) (omega arith),
+        late (headLength + policy·w2 .start) (policy·w2 .width) (omega arith),
+        late (headLength + policy·w3 .start) (policy·w3 .width) (omega arith),
+        late (headLength + policy·w4 .start) (policy·w4 .width) (omega arith),
+        late (headLength + policy·w5 .start) (policy·w5 .width) (omega arith),
       )
 
   by-counts : (c : Counts) → c .policies ≡ 1 → sheetOf s c ≡ sheetOf t c
@@ -74,17 +74,17 @@ module _ (s t : List ℕ) (agree : AgreeButLimit s t) where
       λ i. record {
         policy = policy-same i;
         stops = c .stops;
-        stop = λ j. stopOf (past (stopAt c j) (omega arith) i);
+        stop = λ j. stopOf (past (stopStart c j) (omega arith) i);
         lines = c .lines;
-        line = λ j. lineOf (past (lineAt c j) (omega arith) i);
+        line = λ j. lineOf (past (lineStart c j) (omega arith) i);
         cars = c .cars;
-        car = λ j. carOf (past (carAt c j) (omega arith) i);
+        car = λ j. carOf (past (carStart c j) (omega arith) i);
         aboards = c .aboards;
-        aboard = λ j. aboardOf (past (aboardAt c j) (omega arith) i);
+        aboard = λ j. aboardOf (past (aboardStart c j) (omega arith) i);
         waits = c .waits;
-        waiting = λ j. waitingOf (past (waitingAt c j) (omega arith) i);
+        waiting = λ j. waitingOf (past (waitingStart c j) (omega arith) i);
         demands = c .demands;
-        demand = λ j. demandOf (past (demandAt c j) (omega arith) i);
+        demand = λ j. demandOf (past (demandStart c j) (omega arith) i);
       }
 
   pub sheet-same : (c d : Counts) → verdict s ≡ Accepted c → verdict t ≡ Accepted d → sheetOf s c ≡ sheetOf t d

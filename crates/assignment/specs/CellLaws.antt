@@ -23,7 +23,7 @@ use Rattle.assignment_problem.specs.Choice.{total}
 use Rattle.assignment_problem.specs.Chosen.{chosen-total}
 use Rattle.assignment_problem.specs.Recursion.{columnOf}
 use Rattle.assignment.specs.Pending.{pending, idle, idleCars, rowCar, pendingStops, columnStop, columns}
-use Rattle.assignment.specs.Candidates.{noLimit, keeps, lineServes, barred, viable, nearer, kept}
+use Rattle.assignment.specs.Candidates.{noLimit, keeps, lineServes, barred, viable, nearer, kept, keptOf, viableOf}
 use Rattle.assignment.specs.Cells.{rank, rankCell, cell, matrix, goes, answeredTotal}
 
 -- ---- every cell is at most the sentinel
@@ -52,7 +52,7 @@ module _ (s : Sheet) (limit : ℕ) where
       (which (kept s i limit j))
 
   pub cell-viable : (i j : ℕ) → cell s limit i j < sentinel → viable s i j ≡ true
-  unfolding kept
+  unfolding keptOf
   cell-viable i j h = both-left (viable s i j) (keeps limit (nearer s i j)) (cell-kept i j h)
 
   -- a row that goes to a column: the column is a pending stop's, and the cell is that of a viable pair
@@ -84,7 +84,7 @@ module _ (s : Sheet) (limit : ℕ) where
       (which (ltb c (pendingStops s)))
 
 pub viable-parts : (s : Sheet) (i j : ℕ) → viable s i j ≡ true → (pending s j ≡ true) × (barred s i j ≡ false) × (lineServes s i j ≡ true)
-unfolding viable
+unfolding viableOf
 viable-parts s i j h =
     let p = both-right (pending s j) (not (barred s i j) && lineServes s i j) h in (
       both-left (pending s j) (not (barred s i j) && lineServes s i j) h,
@@ -111,7 +111,7 @@ falls false false h l = omega arith
 
 module _ (s : Sheet) (a b : ℕ) (l : a ≤ b) (m : b ≤ noLimit) where
   pub kept-mono : (i j : ℕ) → kept s i a j ≡ true → kept s i b j ≡ true
-  unfolding kept
+  unfolding keptOf
   kept-mono i j h =
       both
       (both-left (viable s i j) (keeps a (nearer s i j)) h)
@@ -132,7 +132,7 @@ module _ (s : Sheet) (a b : ℕ) (l : a ≤ b) (m : b ≤ noLimit) where
 -- ---- with no limit the order of the stops plays no part
 
 pub unlimited : (s : Sheet) (i j : ℕ) → cell s noLimit i j ≡ cond (viable s i j) (rankCell (rank s i j)) sentinel
-unfolding cell kept keeps
+unfolding cell keptOf keeps
 unlimited s i j = go (viable s i j)
   where
     go : (v : Bool) → cond (v && true) (rankCell (rank s i j)) sentinel ≡ cond v (rankCell (rank s i j)) sentinel
@@ -154,15 +154,15 @@ unfolding pendingStops
 pending-le s = count-le (pending s) (s .stops)
 
 -- "n × columns cells": the least buffers hold what a pass writes
-pub record Small (s : Sheet) : Type 0 where
+pub record SmallSheet (s : Sheet) : Type 0 where
   pub cars : s .cars ≤ 32
   pub stops : s .stops ≤ 64
 
-pub columns-le : (s : Sheet) → Small s → columns s ≤ 64
+pub columns-le : (s : Sheet) → SmallSheet s → columns s ≤ 64
 unfolding columns
 columns-le s h = omega (arith, idle-le s, pending-le s, h .cars, h .stops)
 
-pub cells-fit : (s : Sheet) → Small s → idleCars s * columns s ≤ 2048
+pub cells-fit : (s : Sheet) → SmallSheet s → idleCars s * columns s ≤ 2048
 cells-fit s h = mul-le-mul {n₁ = idleCars s} {m₁ = columns s} {n₂ = 32} {m₂ = 64} (omega (arith, idle-le s, h .cars)) (columns-le s h)
 
 -- ---- sheets where the Rust builds no matrix

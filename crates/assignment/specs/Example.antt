@@ -17,12 +17,12 @@ use Rattle.layout.specs.Open.{reading}
 use Rattle.manifest.specs.World.{stopPosition, goal, inGroup}
 use Rattle.manifest.specs.Manifest.{someoneWaits, riderlessCall, riddenTo, hasDemand, demandStop}
 use Rattle.sweep.specs.Sweeps.{prepared, sweepRank, sweepCode}
-use Rattle.scan.specs.Scan.{sheetSweep, strictDemandAhead, preparedSweep}
+use Rattle.scan.specs.Scan.{rankOf, strictDemandAhead, preparedSweep, scanRank}
 use Rattle.dispatch.specs.Useful.{riderCanBoard, canExitHere, servable, onAboardPath, pairIsUseful}
 use Rattle.assignment_problem.specs.Recursion.{scan, best, chosen, leastTotal}
 use Rattle.assignment.specs.Pending.{serves, lineCapacity, capacityAt, weightAt, lineServed, covered, idle, idleBound, pending, idleCars, rowCar, pendingStops, columnStop, columns}
-use Rattle.assignment.specs.Candidates.{keeps, precedes, lineServes, viable, nearer, kept}
-use Rattle.assignment.specs.Cells.{sweepAfter, scanRank, rank, cell, matrix, column, answeredTotal, goes, decision}
+use Rattle.assignment.specs.Candidates.{keeps, precedes, keptOf, lineServesOf, nearerOf, viableOf}
+use Rattle.assignment.specs.Cells.{sweepAfter, rank, cell, matrix, column, answeredTotal, goes, decision}
 
 -- Stops 1, 2, 3 at 0, 10, 20; a line serving all; idle-listed cars 7 at 0 and 8 at 20; rider-less calls at 2 and 3; SCAN; no limit
 unfoldable pub bytes : List ℕ
@@ -47,7 +47,7 @@ sheet = sheetOf bytes counts
 
 -- one name that opens every definition on the way
 unfoldable pub everything : ℕ
-unfolding ofBits add sub mul div neg lt le eq round ofInt fold any every count nth lookup tab distance whole scaleCost has sheetOf limitOf stopPosition goal inGroup someoneWaits riderlessCall riddenTo hasDemand demandStop prepared sweepRank sweepCode sheetSweep strictDemandAhead preparedSweep riderCanBoard canExitHere servable onAboardPath pairIsUseful scan best chosen leastTotal serves lineCapacity capacityAt weightAt lineServed covered idle idleBound pending idleCars rowCar pendingStops columnStop columns keeps precedes lineServes viable nearer kept sweepAfter scanRank rank cell matrix column answeredTotal goes decision bytes counts sheet reading
+unfolding ofBits add sub mul div neg lt le eq round ofInt fold any every count nth lookup tab distance whole scaleCost has sheetOf limitOf stopPosition goal inGroup someoneWaits riderlessCall riddenTo hasDemand demandStop prepared sweepRank sweepCode rankOf strictDemandAhead preparedSweep riderCanBoard canExitHere servable onAboardPath pairIsUseful scan best chosen leastTotal serves lineCapacity capacityAt weightAt lineServed covered idle idleBound pending idleCars rowCar pendingStops columnStop columns keeps precedes lineServesOf viableOf nearerOf keptOf sweepAfter scanRank rank cell matrix column answeredTotal goes decision bytes counts sheet reading
 everything = 0
 
 -- it is accepted

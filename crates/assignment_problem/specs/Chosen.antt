@@ -21,7 +21,7 @@ use Rattle.laws.specs.Bools.{same?, less?, neither-left, neither-right}
 use Rattle.laws.specs.Sums.{sum, sum-cong, sum-mono, sum-front}
 use Rattle.laws.specs.Tables.{tab, tab-front, length-tab, getD-tab₀}
 use Rattle.assignment_problem.specs.Choice.{IsChoice, total, Chosen}
-use Rattle.assignment_problem.specs.Recursion.{Candidate, none, some, better, front, isIn, scan, best, columnsOf, totalOf, chosen, leastTotal, columnOf}
+use Rattle.assignment_problem.specs.Recursion.{Candidate, none, some, better, front, isIn, scan, best, columnsOf, candidateTotal, chosen, leastTotal, columnOf}
 use Rattle.assignment_problem.specs.Beats.{cost, Fit, fnil, fcons, Lex, lnil, lless, lsame, Beats, best-beats}
 
 -- ---- there is only one
@@ -173,7 +173,7 @@ module _ (c : ℕ → ℕ → ℕ) (n m : ℕ) where
     pub is-chosen : Chosen n m c (λ k. getD l k 0)
     pub its-total : t ≡ total n c (λ k. getD l k 0)
 
-  whole-of : n ≤ m → (a : Candidate) → Sound c m n 0 [] a → ((q : ℕ → ℕ) → IsChoice n m q → Beats a (total n c q) (tab q n)) → Whole (columnsOf a) (totalOf a)
+  whole-of : n ≤ m → (a : Candidate) → Sound c m n 0 [] a → ((q : ℕ → ℕ) → IsChoice n m q → Beats a (total n c q) (tab q n)) → Whole (columnsOf a) (candidateTotal a)
   unfolding total
   whole-of h none s b = absurd (b (λ k. k) (record { within = λ k l. omega arith; distinct = λ x y lx ly e. e }))
   whole-of h (some t l) s b = record {

@@ -41,16 +41,16 @@ abbrev pub columnsOf : Candidate → List ℕ
 columnsOf none = []
 columnsOf (some t l) = l
 
-abbrev pub totalOf : Candidate → ℕ
-totalOf none = 0
-totalOf (some t l) = t
+abbrev pub candidateTotal : Candidate → ℕ
+candidateTotal none = 0
+candidateTotal (some t l) = t
 
 -- the columns of n cars over m columns with the cells c, one a car in order, and their total
 unfoldable pub chosen : (ℕ → ℕ → ℕ) → ℕ → ℕ → List ℕ
 chosen c n m = columnsOf (best c m n 0 [])
 
 unfoldable pub leastTotal : (ℕ → ℕ → ℕ) → ℕ → ℕ → ℕ
-leastTotal c n m = totalOf (best c m n 0 [])
+leastTotal c n m = candidateTotal (best c m n 0 [])
 
 -- the column of car i
 abbrev pub columnOf : (ℕ → ℕ → ℕ) → ℕ → ℕ → ℕ → ℕ

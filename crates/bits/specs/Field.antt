@@ -20,10 +20,6 @@ unfoldable pub fieldAt : List ℕ → ℕ → ℕ → ℕ
 fieldAt s at zero = 0
 fieldAt s at (suc w) = fieldAt s at w * 2 + bitAt s (at + w)
 
--- a single bit as a test
-unfoldable pub flagAt : List ℕ → ℕ → Bool
-flagAt s at = eqb (fieldAt s at 1) 1
-
 -- what `field` promises of its result; that it is small lets later sums and casts close
 pub record IsField (s : List ℕ) (at w r : ℕ) : Type 0 where
   pub is : r ≡ fieldAt s at w

@@ -2,7 +2,8 @@
 ghost use mathlib.Core.Path.{_≡_};
 ghost use Prim.Native.Nat.{_+_, _-_, _*_, _/_, _%_, _^_, _<_, _≤_};
 ghost use lib.ListN.{getD, length};
-ghost use Rattle.bits.specs.Field.{fieldAt, flagAt, IsField};
+ghost use lib.Dec.{eqb};
+ghost use Rattle.bits.specs.Field.{fieldAt, IsField};
 
 // Where a bit stands: its byte, and its place in that byte, 0 for the highest.
 struct BitPlace {
@@ -91,7 +92,7 @@ pub fn field(s: &[u8], at: u32, off: u32, w: usize) -> u64
 
 // Whether the bit at off of what starts at bit at is one.
 pub fn flag(s: &[u8], at: u32, off: u32) -> bool
-    ensures { λ r. ⌜ r ≡ flagAt (now (s .entry)) (at + off) ⌝ }
+    ensures { λ r. ⌜ r ≡ eqb (fieldAt (now (s .entry)) (at + off) 1) 1 ⌝ }
 {
     field(s, at, off, 1) == 1
 }

@@ -5,7 +5,7 @@ use mathlib.Core.Bool.{false}
 use mathlib.Core.List.{List, _++_}
 use lib.ListN.{length, getD, drop, replicate}
 use Rattle.laws.specs.Tables.{tab, length-tab, front-length}
-use Rattle.columns.specs.Held.{held}
+use Rattle.fields.specs.Held.{held}
 use lib.Ieee.{Float, nan}
 use Rattle.fp.specs.Num.{zero}
 use Rattle.components.specs.declared.Car.{Car}

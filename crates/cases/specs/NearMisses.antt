@@ -19,7 +19,7 @@ use Rattle.components.specs.declared.Threshold.the-variants as threshold
 use Rattle.components.specs.Sheet.{Sheet}
 use Rattle.dispatch.specs.Waits.{waitTicksSum}
 use Rattle.assignment.specs.Pending.{serves, lineCapacity, capacityAt, weightAt, lineServed, covered, idle, idleBound, pending}
-use Rattle.assignment.specs.Candidates.{keeps, precedes, lineServes, viable, nearer, kept}
+use Rattle.assignment.specs.Candidates.{keeps, precedes, kept, keptOf, lineServesOf, nearerOf, viableOf}
 use Rattle.assignment.specs.Cells.{rank, cell}
 use Rattle.cases.specs.Table.{everything}
 
@@ -97,5 +97,5 @@ pub record NearMisses : Type 0 where
   pub covered-to-the-last : (covered (sheetWith (0 ∷ 0 ∷ [])) 0 ≡ true) × (covered (sheetWith (0 ∷ 0 ∷ 0 ∷ [])) 0 ≡ false)
 
 pub near-misses : NearMisses
-unfolding everything serves lineCapacity capacityAt weightAt lineServed covered idle idleBound pending keeps precedes lineServes viable nearer kept rank cell policy carOf sheetWith sheet
+unfolding everything serves lineCapacity capacityAt weightAt lineServed covered idle idleBound pending keeps precedes lineServesOf viableOf nearerOf keptOf rank cell policy carOf sheetWith sheet
 near-misses = record { limit-after-line = (refl, refl, refl, refl, refl); covered-stops-count = refl; sum-in-record-order = refl; covered-to-the-last = (refl, refl) }

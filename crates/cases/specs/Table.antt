@@ -31,8 +31,9 @@ use Rattle.manifest.specs.Manifest.{someoneWaits, riderlessCall, riddenTo, hasD
 use Rattle.sweep.specs.Sweeps.{sweepRank}
 use Rattle.dispatch.specs.Useful.{riderCanBoard, canExitHere, servable, onAboardPath, pairIsUseful}
 use Rattle.dispatch.specs.Waits.{fairnessBonus, withBonus, sumAt, waitTicksSum, waitTicksSquaredSum}
-use Rattle.etd.specs.Etd.{intervenes, doorCost, extraDelay, isAhead, directionBonus, weighted, finiteRank, travelTime, interveningStops, riderDelay, computeCost, etdRank}
-use Rattle.rsr.specs.Rsr.{withPenalty, withCoincidentCall, rsrCost, rsrRank}
+use Rattle.etd.specs.Etd.{intervenes, doorCost, extraDelay, isAhead, directionBonus, weighted, travelTime, interveningStops, riderDelay, computeCost, etdRank}
+use Rattle.dispatch.specs.FiniteRank.{finiteRank}
+use Rattle.rsr.specs.Rsr.{withPenalty, withCoincidentCall, rsrCostOf, rsrRank}
 use Rattle.assignment_problem.specs.Choice.{cellAt}
 use Rattle.assignment_problem.specs.Recursion.{scan, best, chosen, leastTotal}
 use Rattle.assignment.specs.Pending.{pendingStops}
@@ -101,7 +102,7 @@ sheet p q c =
 
 -- one name that opens every definition on the way
 unfoldable pub everything : ℕ
-unfolding ofBits add sub mul div neg lt le eq round ofInt fold any every count nth lookup distance whole scaleCost has stopPosition goal inGroup someoneWaits riderlessCall riddenTo hasDemand demandStop sweepRank riderCanBoard canExitHere servable onAboardPath pairIsUseful fairnessBonus withBonus sumAt waitTicksSum waitTicksSquaredSum intervenes doorCost extraDelay isAhead directionBonus weighted finiteRank travelTime interveningStops riderDelay computeCost etdRank withPenalty withCoincidentCall rsrCost rsrRank scan best chosen leastTotal policy car sheet
+unfolding ofBits add sub mul div neg lt le eq round ofInt fold any every count nth lookup distance whole scaleCost has stopPosition goal inGroup someoneWaits riderlessCall riddenTo hasDemand demandStop sweepRank riderCanBoard canExitHere servable onAboardPath pairIsUseful fairnessBonus withBonus sumAt waitTicksSum waitTicksSquaredSum intervenes doorCost extraDelay isAhead directionBonus weighted finiteRank travelTime interveningStops riderDelay computeCost etdRank withPenalty withCoincidentCall rsrCostOf rsrRank scan best chosen leastTotal policy car sheet
 everything = 0
 
 -- a car at 0 that sweeps up, and a stop at 1e-9

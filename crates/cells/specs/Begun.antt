@@ -12,9 +12,9 @@ use Rattle.layout.specs.Verdict.{verdict}
 use Rattle.accepted.specs.Accepted.{accepted}
 use Rattle.manifest.specs.World.{stopId, stopAt}
 use Rattle.manifest.specs.Stops.{HoldsStops}
-use Rattle.outcome.specs.TwoSheets.{rising-of}
 use Rattle.pending.specs.Masks.{HoldsNames, Boarded}
 use Rattle.cells.specs.Survey.{holds-stops}
+use Rattle.accepted.specs.Ids.{rising-of}
 
 pub record Begun (bytes : List ℕ) (c : Counts) (ids : List ℕ) (xs : List Float) : Type 0 where
   pub stops-held : HoldsStops (sheetOf bytes c) ids xs (c .stops)

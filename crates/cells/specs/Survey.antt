@@ -14,7 +14,7 @@ use Rattle.laws.specs.Folds.{count-le}
 use Rattle.laws.specs.Tables.{tab, filtered, length-filtered, front-length}
 use Rattle.mask.specs.Mask.{has, built}
 use Rattle.mask.specs.MaskLaws.{built-cong}
-use Rattle.columns.specs.Held.{held}
+use Rattle.fields.specs.Held.{held}
 use Rattle.components.specs.declared.Car.{Car}
 use Rattle.components.specs.Sheet.{Sheet}
 use Rattle.layout.specs.declared.Counts.{Counts}
@@ -34,11 +34,11 @@ use Rattle.manifest.specs.Holds.{HoldsAboard, HoldsWaiting}
 use Rattle.manifest.specs.Stops.{HoldsStops}
 use Rattle.dispatch.specs.WaitersLaws.{Weighed}
 use Rattle.assignment.specs.Pending.{pending, idle, idleCars, rowCar}
-use Rattle.outcome.specs.TwoSheets.{rising-of}
 use Rattle.pending.specs.Masks.{stopMask}
 use Rattle.rows.specs.RowLaws.{Listed}
 use Rattle.rows.specs.Gathered.{gatheredOf, gathered-held}
 use Rattle.rows.specs.MatrixLaws.{Ready, Rows, listed-number, listed-at, listed-below}
+use Rattle.accepted.specs.Ids.{rising-of}
 
 -- the stops with their ids and positions, the masks of those with a call without a rider, with demand, and pending; the cars; the pending stops and the idle
 -- cars, listed

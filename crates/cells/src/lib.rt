@@ -32,8 +32,8 @@ pub fn fill_stops(s: &[u8], c: Counts, ids: &mut [u32], xs: &mut [f64])
 {
     let n = c.stops as usize;
     let at = c.stops_from();
-    columns::fill32(s, at, stop::BITS, stop::ID, n, ids);
-    columns::fill_doubles(s, at, stop::BITS, stop::POSITION, n, xs);
+    fields::fill32(s, at, stop::BITS, stop::ID, n, ids);
+    fields::fill_doubles(s, at, stop::BITS, stop::POSITION, n, xs);
 }
 
 // The cars and the destinations of those aboard.
@@ -44,8 +44,8 @@ pub fn fill_aboard(s: &[u8], c: Counts, acar: &mut [u32], adest: &mut [u32])
 {
     let n = c.aboards as usize;
     let at = c.aboards_from();
-    columns::fill32(s, at, aboard::BITS, aboard::CAR, n, acar);
-    columns::fill32(s, at, aboard::BITS, aboard::DESTINATION, n, adest);
+    fields::fill32(s, at, aboard::BITS, aboard::CAR, n, acar);
+    fields::fill32(s, at, aboard::BITS, aboard::DESTINATION, n, adest);
 }
 
 // The stops, destinations, weights and wait ticks of those who wait.
@@ -65,10 +65,10 @@ fn fill_waits(
 {
     let n = c.waits as usize;
     let at = c.waits_from();
-    columns::fill32(s, at, waiting::BITS, waiting::STOP, n, wstop);
-    columns::fill32(s, at, waiting::BITS, waiting::DESTINATION, n, wdest);
-    columns::fill_doubles(s, at, waiting::BITS, waiting::WEIGHT, n, wweight);
-    columns::fill64(s, at, waiting::BITS, waiting::WAIT, n, wwait);
+    fields::fill32(s, at, waiting::BITS, waiting::STOP, n, wstop);
+    fields::fill32(s, at, waiting::BITS, waiting::DESTINATION, n, wdest);
+    fields::fill_doubles(s, at, waiting::BITS, waiting::WEIGHT, n, wweight);
+    fields::fill64(s, at, waiting::BITS, waiting::WAIT, n, wwait);
 }
 
 // What waits at each stop.

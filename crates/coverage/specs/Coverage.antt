@@ -8,7 +8,7 @@ use lib.ListN.{getD}
 use lib.Ieee.{Float, nan, le}
 use Rattle.laws.specs.Folds.{fold, any, every}
 use Rattle.fp.specs.Num.{zero, plus}
-use Rattle.columns.specs.Named.{contains}
+use Rattle.fields.specs.Named.{contains}
 
 -- car i serves the stop with this id
 abbrev pub servesBy : List ℕ → ℕ → ℕ → Bool

@@ -149,7 +149,7 @@ pub fn is_covered<'a>(
     requires { ⌜ (nw ≤ length (now stops)) × (nw ≤ length (now required)) × (nw ≤ length (now weights)) ⌝ }
     ensures { λ r. ⌜ r ≡ coveredBy (now (targets .entry)) (now (lines .entry)) (now (rooms .entry)) n (now (ids .entry)) nl (now (stops .entry)) (now (required .entry)) (now (weights .entry)) nw id ⌝ }
 {
-    if !columns::contains(targets, n, id) {
+    if !fields::contains(targets, n, id) {
         return false;
     }
     if !lines_served(targets, lines, n, stops, required, nw, id) {

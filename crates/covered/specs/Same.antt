@@ -17,12 +17,12 @@ use Rattle.components.specs.Sheet.{Sheet}
 use Rattle.manifest.specs.World.{stopId}
 use Rattle.manifest.specs.Manifest.{waitsAt}
 use Rattle.assignment.specs.Pending.{serves, lineCapacity, capacityAt, weightAt, lineServed, covered}
-use Rattle.columns.specs.Named.{contains}
+use Rattle.fields.specs.Named.{contains}
 use Rattle.coverage.specs.Coverage.{servesBy, roomStep, lineRoom, capacityStep, capacityBy, weightStep, weightBy, onServedLine, lineServedBy, waiterServed, linesServed, coveredBy}
 use Rattle.covered.specs.Columns.{servedTarget, HoldsIds}
 
 -- lists that hold the columns that coverage asks for, of the cars and lines, and of those who wait
-pub record HoldsCars (s : Sheet) (targets lines : List ℕ) (rooms : List Float) (ids : List ℕ) : Type 0 where
+pub record HoldsServing (s : Sheet) (targets lines : List ℕ) (rooms : List Float) (ids : List ℕ) : Type 0 where
   pub target : (i : ℕ) → i < s .cars → getD targets i 0 ≡ servedTarget (s .car i)
   pub line : (i : ℕ) → i < s .cars → getD lines i 0 ≡ s .car i .line
   pub room : (i : ℕ) → i < s .cars → getD rooms i nan ≡ remaining (s .car i)
@@ -39,7 +39,7 @@ coveredIn targets lines rooms n ids nl stops required weights nw asked names j =
     has asked j && coveredBy targets lines rooms n ids nl stops required weights nw (getD names j 0)
 
 module _ (s : Sheet) (targets lines : List ℕ) (rooms : List Float) (ids stops required : List ℕ) (weights : List Float)
-    (h : HoldsCars s targets lines rooms ids) (k : HoldsWaits s stops required weights) (j : ℕ) (pos : 0 < stopId s j) where
+    (h : HoldsServing s targets lines rooms ids) (k : HoldsWaits s stops required weights) (j : ℕ) (pos : 0 < stopId s j) where
   serves-same : (i : ℕ) → i < s .cars → servesBy targets (stopId s j) i ≡ serves s j i
   unfolding serves
   serves-same i l =
@@ -85,7 +85,7 @@ module _ (s : Sheet) (targets lines : List ℕ) (rooms : List Float) (ids stops 
 
 -- the mask of what is asked for and covered
 pub mask-same : (s : Sheet) (targets lines : List ℕ) (rooms : List Float) (ids stops required : List ℕ) (weights : List Float) (asked : ℕ) (names : List ℕ)
-    → HoldsCars s targets lines rooms ids → HoldsWaits s stops required weights → HoldsIds s asked names
+    → HoldsServing s targets lines rooms ids → HoldsWaits s stops required weights → HoldsIds s asked names
     → built (coveredIn targets lines rooms (s .cars) ids (s .lines) stops required weights (s .waits) asked names) 64 ≡ built (λ j. has asked j && covered s j) 64
 unfolding coveredIn
 mask-same s targets lines rooms ids stops required weights asked names h k names-held =

@@ -13,7 +13,7 @@ ghost use Rattle.layout.specs.Records.{from, carOf, sheetOf};
 ghost use Rattle.assignment.specs.Pending.{covered};
 ghost use Rattle.coverage.specs.Coverage.{coveredBy};
 ghost use Rattle.covered.specs.Columns.{servedTarget, HoldsIds};
-ghost use Rattle.covered.specs.Same.{coveredIn, HoldsCars};
+ghost use Rattle.covered.specs.Same.{coveredIn, HoldsServing};
 use components::Phase;
 use layout::Counts;
 use layout::car;
@@ -159,7 +159,7 @@ fn covered_waits<'a>(
     names: &'a [u32],
 ) -> u64
     requires { ⌜ Small c × (length (now targets) ≡ 32) × (length (now lines) ≡ 32) × (length (now rooms) ≡ 32) × (length (now ids) ≡ 8) × (length (now names) ≡ 64) ⌝ }
-    requires { ⌜ HoldsCars (sheetOf (now s) c) (now targets) (now lines) (now rooms) (now ids) × HoldsIds (sheetOf (now s) c) asked (now names) ⌝ }
+    requires { ⌜ HoldsServing (sheetOf (now s) c) (now targets) (now lines) (now rooms) (now ids) × HoldsIds (sheetOf (now s) c) asked (now names) ⌝ }
     ensures { λ r. ⌜ r ≡ built (λ j. has asked j && covered (sheetOf (now (s .entry)) c) j) 64 ⌝ }
 {
     let mut stops = [0u32; 512];
@@ -167,9 +167,9 @@ fn covered_waits<'a>(
     let mut weights = [0.0f64; 512];
     let n = c.waits as usize;
     let at = c.waits_from();
-    columns::fill32(s, at, waiting::BITS, waiting::STOP, n, &mut stops);
-    columns::fill32(s, at, waiting::BITS, waiting::LINE, n, &mut required);
-    columns::fill_doubles(s, at, waiting::BITS, waiting::WEIGHT, n, &mut weights);
+    fields::fill32(s, at, waiting::BITS, waiting::STOP, n, &mut stops);
+    fields::fill32(s, at, waiting::BITS, waiting::LINE, n, &mut required);
+    fields::fill_doubles(s, at, waiting::BITS, waiting::WEIGHT, n, &mut weights);
     covered_mask(
         targets,
         lines,
@@ -198,9 +198,9 @@ pub fn covered_stops<'a>(s: &'a [u8], c: Counts, asked: u64, names: &'a [u32]) -
     let n = c.cars as usize;
     let at = c.cars_from();
     fill_targets(s, at, n, &mut targets);
-    columns::fill32(s, at, car::BITS, car::LINE, n, &mut lines);
+    fields::fill32(s, at, car::BITS, car::LINE, n, &mut lines);
     fill_rooms(s, at, n, &mut rooms);
-    columns::fill32(
+    fields::fill32(
         s,
         c.lines_from(),
         line::BITS,

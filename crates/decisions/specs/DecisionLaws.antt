@@ -17,7 +17,7 @@ use Rattle.assignment_problem.specs.Recursion.{leastTotal, columnOf}
 use Rattle.assignment_problem.specs.Chosen.{chosen-same, chosen-choice}
 use Rattle.assignment.specs.Pending.{pending, idleCars, pendingStops, columnStop, columns}
 use Rattle.assignment.specs.Cells.{matrix, column, answeredTotal, goes, decision}
-use Rattle.assignment.specs.CellLaws.{Small, matrix-le, rows-fit, idle-le, pending-le, columns-le}
+use Rattle.assignment.specs.CellLaws.{SmallSheet, matrix-le, rows-fit, idle-le, pending-le, columns-le}
 use Rattle.decisions.specs.Decisions.{Filled, told, decisionBy}
 
 module _ (s : Sheet) (limit : ℕ) (cells : List ℕ) (e : cells ≡ tabs (matrix s limit) (columns s) (idleCars s)) where
@@ -46,7 +46,7 @@ module _ (s : Sheet) (limit : ℕ) (cells : List ℕ) (e : cells ≡ tabs (matri
     stop-below k l = nth-is (pending s) (s .stops) k (omega arith) .below
 
     -- such cells are what the matcher takes
-    pub filled : (room : ℕ) → Small s → length stops ≡ 64 → length ids ≡ 64 → 32 ≤ room → Filled cells (idleCars s) (columns s) m stops ids room
+    pub filled : (room : ℕ) → SmallSheet s → length stops ≡ 64 → length ids ≡ 64 → 32 ≤ room → Filled cells (idleCars s) (columns s) m stops ids room
     filled room small size names l =
         let cars = small .cars in
         let most = small .stops in

@@ -8,9 +8,11 @@ ghost use Rattle.fp.specs.Num.{zero, over};
 ghost use Rattle.components.specs.declared.Place.the-variants.{At};
 ghost use Rattle.dispatch.specs.Useful.{loadedTo, bypass, onPathTo};
 ghost use Rattle.dispatch.specs.Pairs.{canBoard, servableBy, onPathIn, pathAllows, usefulBy};
+ghost use Rattle.dispatch.specs.FiniteRank.{finiteRank};
 ghost use Rattle.dispatch.specs.Waits.{fairnessBonus, withBonus};
 use components::Car;
 use components::Place;
+use components::Rank;
 use components::Threshold;
 use manifest::Waiters;
 use riders::Riders;
@@ -178,5 +180,16 @@ pub fn with_bonus(cost: f64, weight: f64, term: f64) -> f64
         apply_fairness_bonus(cost, weight, term)
     } else {
         cost
+    }
+}
+
+// A cost that is finite is a rank.
+pub fn finite_rank(cost: f64) -> Rank
+    ensures { λ r. ⌜ r ≡ finiteRank cost ⌝ }
+{
+    if fp::finite(cost) {
+        Rank::Cost(cost)
+    } else {
+        Rank::Never
     }
 }

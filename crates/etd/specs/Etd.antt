@@ -14,6 +14,7 @@ use Rattle.components.specs.Sheet.{Sheet}
 use Rattle.manifest.specs.World.{stopAt, stopPosition, goal, rides}
 use Rattle.manifest.specs.Manifest.{demandStop}
 use Rattle.dispatch.specs.Useful.{pairIsUseful}
+use Rattle.dispatch.specs.FiniteRank.{finiteRank}
 use Rattle.dispatch.specs.Waits.{waitTicksSum, waitTicksSquaredSum, withBonus}
 
 -- ---- on values: x the car's position, p the stop's
@@ -52,10 +53,6 @@ directionBonus phase g x p travel =
 -- the weighted sum: wait, delay, door
 unfoldable pub weighted : Float → Float → Float → Float → Float → Float → Float → Float
 weighted wait delayWeight door travel delay doors bonus = maxZero (fma wait travel (fma delayWeight delay (fma door doors bonus)))
-
--- a cost that is finite is a rank
-unfoldable pub finiteRank : Float → Rank
-finiteRank x = cond (finite x) (Cost x) Never
 
 -- ---- over a sheet
 

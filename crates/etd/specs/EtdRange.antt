@@ -24,19 +24,10 @@ use Rattle.manifest.specs.Manifest.{demandStop}
 use Rattle.dispatch.specs.Useful.{pairIsUseful}
 use Rattle.dispatch.specs.Waits.{withBonus, waitTicksSum, waitTicksSquaredSum}
 use Rattle.dispatch.specs.Admitted.{Admitted, Placed, placed, grow, fma-size, withBonus-size, withBonus-nonneg, zero-size, waitsum-size, squares-size}
-use Rattle.etd.specs.Etd.{intervenes, doorCost, extraDelay, addDelay, isAhead, movingBonus, directionBonus, weighted, finiteRank, travelTime, interveningStops, riderDelay, computeCost, etdRank}
+use Rattle.etd.specs.Etd.{intervenes, doorCost, extraDelay, addDelay, isAhead, movingBonus, directionBonus, weighted, travelTime, interveningStops, riderDelay, computeCost, etdRank}
+use Rattle.dispatch.specs.FiniteRank.{finiteRank, ranked}
 
 -- ---- on every sheet
-
--- a rank that is given is the cost, and finite
-pub ranked : (b : Bool) (c x : Float) → cond b (finiteRank c) Never ≡ Cost x → (c ≡ x) × (finite c ≡ true)
-unfolding finiteRank
-ranked true c x h = by (finite c) refl h
-  where
-    by : (f : Bool) → finite c ≡ f → cond f (Cost c) Never ≡ Cost x → (c ≡ x) × (finite c ≡ true)
-    by true e g = (cc, e)
-    by false e g = let z : _≡_ {A = ℕ} 0 1 = cc in absurd (omega arith)
-ranked false c x h = let z : _≡_ {A = ℕ} 0 1 = cc in absurd (omega arith)
 
 module _ (s : Sheet) (i j : ℕ) where
   abbrev pub fairCost : Float

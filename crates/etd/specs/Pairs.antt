@@ -19,7 +19,8 @@ use Rattle.manifest.specs.declared.Waiters.{Waiters}
 use Rattle.riders.specs.declared.Riders.{Riders}
 use Rattle.dispatch.specs.Waits.{withBonus}
 use Rattle.dispatch.specs.Pairs.{usefulBy}
-use Rattle.etd.specs.Etd.{intervenes, doorCost, extraDelay, isAhead, movingBonus, directionBonus, weighted, finiteRank}
+use Rattle.etd.specs.Etd.{intervenes, doorCost, extraDelay, isAhead, movingBonus, directionBonus, weighted}
+use Rattle.dispatch.specs.FiniteRank.{finiteRank}
 
 -- the bonus of a moving car, by whether its goal lies ahead
 module _ (x p travel : Float) (goal : Place) {g : Float} (at : goal ≡ At g) {ahead : Bool} (e : ahead ≡ isAhead x p g) where

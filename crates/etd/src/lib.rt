@@ -6,7 +6,7 @@ ghost use lib.ListN.{length};
 ghost use lib.Ieee.{lt};
 ghost use Rattle.laws.specs.Bools.{bit};
 ghost use Rattle.mask.specs.Mask.{has};
-ghost use Rattle.etd.specs.Etd.{intervenes, doorCost, extraDelay, isAhead, movingBonus, directionBonus, weighted, finiteRank};
+ghost use Rattle.etd.specs.Etd.{intervenes, doorCost, extraDelay, isAhead, movingBonus, directionBonus, weighted};
 ghost use Rattle.etd.specs.Pairs.{interveningIn, delayIn, costBy, fairCostBy, rankBy};
 use components::Car;
 use components::Phase;
@@ -191,17 +191,6 @@ fn fair_cost(
     dispatch::with_bonus(squared, policy.w4, waiters.waitsum)
 }
 
-// A cost that is finite is a rank.
-pub fn finite_rank(cost: f64) -> Rank
-    ensures { λ r. ⌜ r ≡ finiteRank cost ⌝ }
-{
-    if fp::finite(cost) {
-        Rank::Cost(cost)
-    } else {
-        Rank::Never
-    }
-}
-
 // rank, of stop j of the n at xs.
 pub fn rank(
     policy: Policy,
@@ -223,7 +212,18 @@ pub fn rank(
     let here = mask::has(riders.exits, j);
     if dispatch::pair_is_useful(car, goal, riders, dests, waiters, here, p, false) {
         if car.speed > 0.0 {
-            finite_rank(fair_cost(policy, car, goal, count, dests, waiters, demand, xs, n, p))
+            dispatch::finite_rank(fair_cost(
+                policy,
+                car,
+                goal,
+                count,
+                dests,
+                waiters,
+                demand,
+                xs,
+                n,
+                p,
+            ))
         } else {
             Rank::Never
         }

@@ -4,8 +4,9 @@ use mathlib.Core.Path.{_≡_}
 use mathlib.Core.List.{List}
 use Rattle.laws.specs.Tables.{tab, tabs}
 use Rattle.dispatch.specs.Waits.{fairnessBonus, withBonus, sumAt, waitTicksSum, waitTicksSquaredSum}
-use Rattle.etd.specs.Etd.{intervenes, doorCost, extraDelay, isAhead, directionBonus, weighted, finiteRank, travelTime, interveningStops, riderDelay, computeCost, etdRank}
-use Rattle.rsr.specs.Rsr.{withPenalty, withCoincidentCall, rsrCost, rsrRank}
+use Rattle.etd.specs.Etd.{intervenes, doorCost, extraDelay, isAhead, directionBonus, weighted, travelTime, interveningStops, riderDelay, computeCost, etdRank}
+use Rattle.dispatch.specs.FiniteRank.{finiteRank}
+use Rattle.rsr.specs.Rsr.{withPenalty, withCoincidentCall, rsrCostOf, rsrRank}
 use Rattle.components.specs.Sheet.{Sheet}
 use Rattle.sweep.specs.Sweeps.{sweepCode}
 use Rattle.assignment.specs.Pending.{idleCars, pendingStops, columns}
@@ -22,5 +23,5 @@ pub record Passes (s : Sheet) (limit n m : ℕ) (cells : List ℕ) (total : ℕ)
   pub swept : tab (λ i. sweepCode (sweepAfter s i)) (s .cars) ≡ sweeps
 
 unfoldable pub pass : ℕ
-unfolding everything tabs fairnessBonus withBonus sumAt waitTicksSum waitTicksSquaredSum intervenes doorCost extraDelay isAhead directionBonus weighted finiteRank travelTime interveningStops riderDelay computeCost etdRank withPenalty withCoincidentCall rsrCost rsrRank
+unfolding everything tabs fairnessBonus withBonus sumAt waitTicksSum waitTicksSquaredSum intervenes doorCost extraDelay isAhead directionBonus weighted finiteRank travelTime interveningStops riderDelay computeCost etdRank withPenalty withCoincidentCall rsrCostOf rsrRank
 pass = 0

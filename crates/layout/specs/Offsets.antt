@@ -83,23 +83,23 @@ abbrev pub demandsFrom : Counts → ℕ
 demandsFrom c = waitsFrom c + recordLength Waiting * c .waits
 
 -- where the record with index i of each kind starts
-abbrev pub stopAt : Counts → ℕ → ℕ
-stopAt c i = stopsFrom c + recordLength Stop * i
+abbrev pub stopStart : Counts → ℕ → ℕ
+stopStart c i = stopsFrom c + recordLength Stop * i
 
-abbrev pub lineAt : Counts → ℕ → ℕ
-lineAt c i = linesFrom c + recordLength Line * i
+abbrev pub lineStart : Counts → ℕ → ℕ
+lineStart c i = linesFrom c + recordLength Line * i
 
-abbrev pub carAt : Counts → ℕ → ℕ
-carAt c i = carsFrom c + recordLength Car * i
+abbrev pub carStart : Counts → ℕ → ℕ
+carStart c i = carsFrom c + recordLength Car * i
 
-abbrev pub aboardAt : Counts → ℕ → ℕ
-aboardAt c i = aboardsFrom c + recordLength Aboard * i
+abbrev pub aboardStart : Counts → ℕ → ℕ
+aboardStart c i = aboardsFrom c + recordLength Aboard * i
 
-abbrev pub waitingAt : Counts → ℕ → ℕ
-waitingAt c i = waitsFrom c + recordLength Waiting * i
+abbrev pub waitingStart : Counts → ℕ → ℕ
+waitingStart c i = waitsFrom c + recordLength Waiting * i
 
-abbrev pub demandAt : Counts → ℕ → ℕ
-demandAt c i = demandsFrom c + recordLength Demand * i
+abbrev pub demandStart : Counts → ℕ → ℕ
+demandStart c i = demandsFrom c + recordLength Demand * i
 
 -- where the next record starts
 abbrev pub endOf : Counts → ℕ

@@ -19,8 +19,8 @@ use Rattle.components.specs.declared.Threshold.the-variants as threshold
 use Rattle.components.specs.Codes.{strategyOf, trafficOf, phaseOf, directionOf, modeOf}
 use Rattle.components.specs.Sheet.{Sheet}
 use Rattle.layout.specs.declared.Counts.{Counts}
-use Rattle.layout.specs.Table.{Field, policyStrategy, policyLimit, policyRate, policyTraffic, policyW0, policyW1, policyW2, policyW3, policyW4, policyW5, stopId, stopPosition, lineId, lineServes, carId, carLine, carPhase, carStop, carTarget, carListed, carUp, carDown, carSweep, carMode, carPosition, carSpeed, carCapacity, carLoad, carHasBypassUp, carBypassUp, carHasBypassDown, carBypassDown, carTransition, carDwell, carRestricted, carCalls, aboardCar, aboardDestination, waitingStop, waitingLine, waitingDestination, waitingWeight, waitingWait, demandStop, demandRiding, demandCall}
-use Rattle.layout.specs.Offsets.{headLength, stopAt, lineAt, carAt, aboardAt, waitingAt, demandAt}
+use Rattle.layout.specs.Table.{Field, policy·strategy, policy·limit, policy·rate, policy·traffic, policy·w0, policy·w1, policy·w2, policy·w3, policy·w4, policy·w5, stop·id, stop·position, line·id, line·serves, car·id, car·line, car·phase, car·stop, car·target, car·listed, car·up, car·down, car·sweep, car·mode, car·position, car·speed, car·capacity, car·load, car·hasBypassUp, car·bypassUp, car·hasBypassDown, car·bypassDown, car·transition, car·dwell, car·restricted, car·calls, aboard·car, aboard·destination, waiting·stop, waiting·line, waiting·destination, waiting·weight, waiting·wait, demand·stop, demand·riding, demand·call}
+use Rattle.layout.specs.Offsets.{headLength, stopStart, lineStart, carStart, aboardStart, waitingStart, demandStart}
 
 -- what stands at an offset of a record, with a width
 abbrev pub Fields : Type 0
@@ -47,61 +47,61 @@ optional f present x = cond (flag f present) (threshold.At (double f x)) thresho
 unfoldable pub policyOf : Fields → Policy
 policyOf f =
     record {
-      strategy = strategyOf (read f policyStrategy);
-      rate = double f policyRate;
-      traffic = trafficOf (read f policyTraffic);
-      w0 = double f policyW0;
-      w1 = double f policyW1;
-      w2 = double f policyW2;
-      w3 = double f policyW3;
-      w4 = double f policyW4;
-      w5 = double f policyW5;
+      strategy = strategyOf (read f policy·strategy);
+      rate = double f policy·rate;
+      traffic = trafficOf (read f policy·traffic);
+      w0 = double f policy·w0;
+      w1 = double f policy·w1;
+      w2 = double f policy·w2;
+      w3 = double f policy·w3;
+      w4 = double f policy·w4;
+      w5 = double f policy·w5;
     }
 
 -- kind 2, stop
 unfoldable pub stopOf : Fields → Stop
-stopOf f = record { id = read f stopId; position = double f stopPosition }
+stopOf f = record { id = read f stop·id; position = double f stop·position }
 
 -- kind 3, line
 unfoldable pub lineOf : Fields → Line
-lineOf f = record { id = read f lineId; serves = read f lineServes }
+lineOf f = record { id = read f line·id; serves = read f line·serves }
 
 -- kind 4, car
 unfoldable pub carOf : Fields → Car
 carOf f =
     record {
-      id = read f carId;
-      line = read f carLine;
-      phase = phaseOf (read f carPhase) (read f carStop);
-      target = read f carTarget;
-      listed = flag f carListed;
-      up = flag f carUp;
-      down = flag f carDown;
-      direction = directionOf (flag f carSweep);
-      mode = modeOf (flag f carMode);
-      position = double f carPosition;
-      speed = double f carSpeed;
-      capacity = double f carCapacity;
-      load = double f carLoad;
-      bypassup = optional f carHasBypassUp carBypassUp;
-      bypassdown = optional f carHasBypassDown carBypassDown;
-      transition = read f carTransition;
-      dwell = read f carDwell;
-      restricted = read f carRestricted;
-      calls = read f carCalls;
+      id = read f car·id;
+      line = read f car·line;
+      phase = phaseOf (read f car·phase) (read f car·stop);
+      target = read f car·target;
+      listed = flag f car·listed;
+      up = flag f car·up;
+      down = flag f car·down;
+      direction = directionOf (flag f car·sweep);
+      mode = modeOf (flag f car·mode);
+      position = double f car·position;
+      speed = double f car·speed;
+      capacity = double f car·capacity;
+      load = double f car·load;
+      bypassup = optional f car·hasBypassUp car·bypassUp;
+      bypassdown = optional f car·hasBypassDown car·bypassDown;
+      transition = read f car·transition;
+      dwell = read f car·dwell;
+      restricted = read f car·restricted;
+      calls = read f car·calls;
     }
 
 -- kind 5, aboard
 unfoldable pub aboardOf : Fields → Aboard
-aboardOf f = record { car = read f aboardCar; destination = read f aboardDestination }
+aboardOf f = record { car = read f aboard·car; destination = read f aboard·destination }
 
 -- kind 6, waiting
 unfoldable pub waitingOf : Fields → Waiting
-waitingOf f = record { stop = read f waitingStop; line = read f waitingLine; destination = read f waitingDestination; weight = double f waitingWeight; wait = read f waitingWait }
+waitingOf f = record { stop = read f waiting·stop; line = read f waiting·line; destination = read f waiting·destination; weight = double f waiting·weight; wait = read f waiting·wait }
 
 -- kind 7, demand
 unfoldable pub demandOf : Fields → Demand
-demandOf f = record { stop = read f demandStop; riding = read f demandRiding; call = flag f demandCall }
+demandOf f = record { stop = read f demand·stop; riding = read f demand·riding; call = flag f demand·call }
 
 -- the sheet that bytes with these counts hold
 unfoldable pub sheetOf : List ℕ → Counts → Sheet
@@ -109,19 +109,19 @@ sheetOf s c =
     record {
       policy = policyOf (from s headLength);
       stops = c .stops;
-      stop = λ i. stopOf (from s (stopAt c i));
+      stop = λ i. stopOf (from s (stopStart c i));
       lines = c .lines;
-      line = λ i. lineOf (from s (lineAt c i));
+      line = λ i. lineOf (from s (lineStart c i));
       cars = c .cars;
-      car = λ i. carOf (from s (carAt c i));
+      car = λ i. carOf (from s (carStart c i));
       aboards = c .aboards;
-      aboard = λ i. aboardOf (from s (aboardAt c i));
+      aboard = λ i. aboardOf (from s (aboardStart c i));
       waits = c .waits;
-      waiting = λ i. waitingOf (from s (waitingAt c i));
+      waiting = λ i. waitingOf (from s (waitingStart c i));
       demands = c .demands;
-      demand = λ i. demandOf (from s (demandAt c i));
+      demand = λ i. demandOf (from s (demandStart c i));
     }
 
 -- the candidate limit: bits 48 to 63, so bytes 6 and 7
 unfoldable pub limitOf : List ℕ → ℕ
-limitOf s = read (from s headLength) policyLimit
+limitOf s = read (from s headLength) policy·limit

@@ -21,17 +21,17 @@ use Rattle.components.specs.declared.Phase.the-variants as phase
 use Rattle.components.specs.Codes.{kindCode, strategyOf, strategyCode, phaseOf, phaseCode}
 use Rattle.components.specs.Cars.{isMoving}
 use Rattle.layout.specs.declared.Counts.{Counts}
-use Rattle.layout.specs.Offsets.{headLength, bodyFrom, bodyLength, recordLength, lastKind, stopsFrom, linesFrom, carsFrom, demandsFrom, stopAt, endOf}
-use Rattle.layout.specs.Table.{Field, headEdition, headCount, recordKind, recordStated, first, policyStrategy, policyLimit, policyRate, policyW0, policyW1, policyW2, policyW3, policyW4, policyW5, stopId, stopPosition, lineId, lineServes, carId, carLine, carPhase, carStop, carHasTarget, carTarget, carPosition, carSpeed, carCapacity, carLoad, carHasBypassUp, carBypassUp, carHasBypassDown, carBypassDown, carTransition, carDwell, carRestricted, carCalls, aboardCar, aboardHasDestination, aboardDestination, waitingStop, waitingHasLine, waitingLine, waitingHasDestination, waitingDestination, waitingWeight, waitingWait, demandStop}
+use Rattle.layout.specs.Offsets.{headLength, bodyFrom, bodyLength, recordLength, lastKind, stopsFrom, linesFrom, carsFrom, demandsFrom, stopStart, endOf}
+use Rattle.layout.specs.Table.{Field, head·edition, head·count, record·kind, record·stated, first, policy·strategy, policy·limit, policy·rate, policy·w0, policy·w1, policy·w2, policy·w3, policy·w4, policy·w5, stop·id, stop·position, line·id, line·serves, car·id, car·line, car·phase, car·stop, car·hasTarget, car·target, car·position, car·speed, car·capacity, car·load, car·hasBypassUp, car·bypassUp, car·hasBypassDown, car·bypassDown, car·transition, car·dwell, car·restricted, car·calls, aboard·car, aboard·hasDestination, aboard·destination, waiting·stop, waiting·hasLine, waiting·line, waiting·hasDestination, waiting·destination, waiting·weight, waiting·wait, demand·stop}
 use Rattle.layout.specs.Records.{Fields, from, read, flag, double}
 
 -- ---- the head
 
 abbrev pub edition : List ℕ → ℕ
-edition s = read (from s 0) headEdition
+edition s = read (from s 0) head·edition
 
 abbrev pub recordCount : List ℕ → ℕ
-recordCount s = read (from s 0) headCount
+recordCount s = read (from s 0) head·count
 
 -- bit e lies past the end
 abbrev pub pastEnd : List ℕ → ℕ → Bool
@@ -52,11 +52,11 @@ refusal6Empty s = eqb (recordCount s) 0
 -- ---- every record
 
 abbrev pub kindAt : List ℕ → Counts → ℕ
-kindAt s c = read (from s (endOf c)) recordKind
+kindAt s c = read (from s (endOf c)) record·kind
 
 -- the stated length of its body
 abbrev pub lengthAt : List ℕ → Counts → ℕ
-lengthAt s c = read (from s (endOf c)) recordStated
+lengthAt s c = read (from s (endOf c)) record·stated
 
 -- "2, .. a record's 22 bits or its stated body passes the end": where the 22 bits do, so does a body of any length
 unfoldable pub refusal2 : List ℕ → Counts → Bool
@@ -122,7 +122,7 @@ hasDemand s c id = seen s (demandsFrom c) (recordLength Demand) (c .demands) id
 
 -- the id of the last stop record, 0 before the first
 unfoldable pub lastStop : List ℕ → Counts → ℕ
-lastStop s c = cond (eqb (c .stops) 0) 0 (read (from s (stopAt c (c .stops - 1))) stopId)
+lastStop s c = cond (eqb (c .stops) 0) 0 (read (from s (stopStart c (c .stops - 1))) stop·id)
 
 -- a field that is absent has a one bit
 abbrev pub absentSet : Fields → Field → Field → Bool
@@ -135,19 +135,19 @@ presentZero f present x = flag f present && eqb (read f x) 0
 -- ---- kind 1, policy
 
 abbrev pub strategyAt : Fields → Strategy
-strategyAt f = strategyOf (read f policyStrategy)
+strategyAt f = strategyOf (read f policy·strategy)
 
 -- "Unused are ETD's sixth weight, SCAN's six": one of them has a one bit
 abbrev pub unusedWeights : Strategy → Fields → Bool
-unusedWeights Etd f = not (eqb (read f policyW5) 0)
+unusedWeights Etd f = not (eqb (read f policy·w5) 0)
 unusedWeights Rsr f = false
 unusedWeights Scan f =
-    not (eqb (read f policyW0) 0)
-    || (not (eqb (read f policyW1) 0)
-    || (not (eqb (read f policyW2) 0)
-    || (not (eqb (read f policyW3) 0)
-    || (not (eqb (read f policyW4) 0)
-    || not (eqb (read f policyW5) 0)))))
+    not (eqb (read f policy·w0) 0)
+    || (not (eqb (read f policy·w1) 0)
+    || (not (eqb (read f policy·w2) 0)
+    || (not (eqb (read f policy·w3) 0)
+    || (not (eqb (read f policy·w4) 0)
+    || not (eqb (read f policy·w5) 0)))))
 unusedWeights strategy.Unknown f = false
 
 -- "8, strategy 3, .. or a one bit in an absent or unused field"
@@ -157,22 +157,22 @@ refusal8Policy f = eqb (strategyCode (strategyAt f)) 3 || unusedWeights (strateg
 -- "11, a double outside: .. the six weights 0 to 1,000,000,000; .. tick rate 1 to 1,000,000"
 unfoldable pub refusal11Policy : Fields → Bool
 refusal11Policy f =
-    not (isTickRate (double f policyRate)
-    && (isMass (double f policyW0)
-    && (isMass (double f policyW1)
-    && (isMass (double f policyW2)
-    && (isMass (double f policyW3)
-    && (isMass (double f policyW4)
-    && isMass (double f policyW5)))))))
+    not (isTickRate (double f policy·rate)
+    && (isMass (double f policy·w0)
+    && (isMass (double f policy·w1)
+    && (isMass (double f policy·w2)
+    && (isMass (double f policy·w3)
+    && (isMass (double f policy·w4)
+    && isMass (double f policy·w5)))))))
 
 -- "12, limit 0"
 unfoldable pub refusal12 : Fields → Bool
-refusal12 f = eqb (read f policyLimit) 0
+refusal12 f = eqb (read f policy·limit) 0
 
 -- "15, RSR with a load weight above 0"
 abbrev pub loadWeighed : Strategy → Fields → Bool
 loadWeighed Etd f = false
-loadWeighed Rsr f = lt zero (double f policyW3)
+loadWeighed Rsr f = lt zero (double f policy·w3)
 loadWeighed Scan f = false
 loadWeighed strategy.Unknown f = false
 
@@ -183,26 +183,26 @@ refusal15 f = loadWeighed (strategyAt f) f
 
 -- "9, id 0 in any id field that is present and used, a stop id not above the last"
 unfoldable pub refusal9Stop : List ℕ → Counts → Fields → Bool
-refusal9Stop s c f = eqb (read f stopId) 0 || leb (read f stopId) (lastStop s c)
+refusal9Stop s c f = eqb (read f stop·id) 0 || leb (read f stop·id) (lastStop s c)
 
 -- "11, .. positions -1,000,000 to 1,000,000"
 unfoldable pub refusal11Stop : Fields → Bool
-refusal11Stop f = not (isPosition (double f stopPosition))
+refusal11Stop f = not (isPosition (double f stop·position))
 
 -- ---- kind 3, line
 
 -- "9, id 0 .., a line id of an earlier line"
 unfoldable pub refusal9Line : List ℕ → Counts → Fields → Bool
-refusal9Line s c f = eqb (read f lineId) 0 || hasLine s c (read f lineId)
+refusal9Line s c f = eqb (read f line·id) 0 || hasLine s c (read f line·id)
 
 -- "10, .. a mask bit past the stops"
 unfoldable pub refusal10Line : Counts → Fields → Bool
-refusal10Line c f = pastStops (read f lineServes) (c .stops)
+refusal10Line c f = pastStops (read f line·serves) (c .stops)
 
 -- ---- kind 4, car
 
 abbrev pub phaseAt : Fields → Phase
-phaseAt f = phaseOf (read f carPhase) (read f carStop)
+phaseAt f = phaseOf (read f car·phase) (read f car·stop)
 
 -- "Unused are .. the stop of any phase but 1 and 2": it has a one bit
 abbrev pub unusedStop : Phase → Bool → Bool
@@ -219,81 +219,81 @@ unusedStop phase.Unknown set = false
 unfoldable pub refusal8Car : Fields → Bool
 refusal8Car f =
     eqb (phaseCode (phaseAt f)) 7
-    || (unusedStop (phaseAt f) (not (eqb (read f carStop) 0))
-    || (absentSet f carHasTarget carTarget
-    || (absentSet f carHasBypassUp carBypassUp
-    || absentSet f carHasBypassDown carBypassDown)))
+    || (unusedStop (phaseAt f) (not (eqb (read f car·stop) 0))
+    || (absentSet f car·hasTarget car·target
+    || (absentSet f car·hasBypassUp car·bypassUp
+    || absentSet f car·hasBypassDown car·bypassDown)))
 
 -- "9, id 0 in any id field that is present and used, .. a car id of an earlier car"
 unfoldable pub refusal9Car : List ℕ → Counts → Fields → Bool
 refusal9Car s c f =
-    eqb (read f carId) 0
-    || (eqb (read f carLine) 0
-    || ((isMoving (phaseAt f) && eqb (read f carStop) 0)
-    || (presentZero f carHasTarget carTarget
-    || hasCar s c (read f carId))))
+    eqb (read f car·id) 0
+    || (eqb (read f car·line) 0
+    || ((isMoving (phaseAt f) && eqb (read f car·stop) 0)
+    || (presentZero f car·hasTarget car·target
+    || hasCar s c (read f car·id))))
 
 -- "10, no record for a car's line, .. a mask bit past the stops"
 unfoldable pub refusal10Car : List ℕ → Counts → Fields → Bool
-refusal10Car s c f = not (hasLine s c (read f carLine)) || (pastStops (read f carRestricted) (c .stops) || pastStops (read f carCalls) (c .stops))
+refusal10Car s c f = not (hasLine s c (read f car·line)) || (pastStops (read f car·restricted) (c .stops) || pastStops (read f car·calls) (c .stops))
 
 -- "11, a double outside: positions ..; speed 0, or 1/1,024 to 1,000; capacity, load .. 0 to 1,000,000,000; thresholds 0 to 1,000"; an absent
 -- threshold is zero by then
 unfoldable pub refusal11Car : Fields → Bool
 refusal11Car f =
-    not (isPosition (double f carPosition)
-    && (isSpeed (double f carSpeed)
-    && (isMass (double f carCapacity)
-    && (isMass (double f carLoad)
-    && (isThreshold (double f carBypassUp)
-    && isThreshold (double f carBypassDown))))))
+    not (isPosition (double f car·position)
+    && (isSpeed (double f car·speed)
+    && (isMass (double f car·capacity)
+    && (isMass (double f car·load)
+    && (isThreshold (double f car·bypassUp)
+    && isThreshold (double f car·bypassDown))))))
 
 -- "13, twice the transition ticks plus open ticks above 4,294,967,295"
 unfoldable pub refusal13 : Fields → Bool
-refusal13 f = ltb 4294967295 (2 * read f carTransition + read f carDwell)
+refusal13 f = ltb 4294967295 (2 * read f car·transition + read f car·dwell)
 
 -- ---- kind 5, aboard
 
 -- "8, .. a one bit in an absent or unused field"
 unfoldable pub refusal8Aboard : Fields → Bool
-refusal8Aboard f = absentSet f aboardHasDestination aboardDestination
+refusal8Aboard f = absentSet f aboard·hasDestination aboard·destination
 
 -- "9, id 0 in any id field that is present and used"
 unfoldable pub refusal9Aboard : Fields → Bool
-refusal9Aboard f = eqb (read f aboardCar) 0 || presentZero f aboardHasDestination aboardDestination
+refusal9Aboard f = eqb (read f aboard·car) 0 || presentZero f aboard·hasDestination aboard·destination
 
 -- "10, no record for .. an aboard rider's car"
 unfoldable pub refusal10Aboard : List ℕ → Counts → Fields → Bool
-refusal10Aboard s c f = not (hasCar s c (read f aboardCar))
+refusal10Aboard s c f = not (hasCar s c (read f aboard·car))
 
 -- ---- kind 6, waiting
 
 -- "8, .. a one bit in an absent or unused field"
 unfoldable pub refusal8Waiting : Fields → Bool
-refusal8Waiting f = absentSet f waitingHasLine waitingLine || absentSet f waitingHasDestination waitingDestination
+refusal8Waiting f = absentSet f waiting·hasLine waiting·line || absentSet f waiting·hasDestination waiting·destination
 
 -- "9, id 0 in any id field that is present and used"
 unfoldable pub refusal9Waiting : Fields → Bool
-refusal9Waiting f = eqb (read f waitingStop) 0 || (presentZero f waitingHasLine waitingLine || presentZero f waitingHasDestination waitingDestination)
+refusal9Waiting f = eqb (read f waiting·stop) 0 || (presentZero f waiting·hasLine waiting·line || presentZero f waiting·hasDestination waiting·destination)
 
 -- "10, no record for .. the stop of kinds 6 and 7"
 unfoldable pub refusal10Waiting : List ℕ → Counts → Fields → Bool
-refusal10Waiting s c f = not (hasStop s c (read f waitingStop))
+refusal10Waiting s c f = not (hasStop s c (read f waiting·stop))
 
 -- "11, .. rider weight .. 0 to 1,000,000,000"
 unfoldable pub refusal11Waiting : Fields → Bool
-refusal11Waiting f = not (isMass (double f waitingWeight))
+refusal11Waiting f = not (isMass (double f waiting·weight))
 
 -- "14, wait ticks above 9,007,199,254,740,992"
 unfoldable pub refusal14 : Fields → Bool
-refusal14 f = ltb 9007199254740992 (read f waitingWait)
+refusal14 f = ltb 9007199254740992 (read f waiting·wait)
 
 -- ---- kind 7, demand
 
 -- "9, id 0 .., a second kind 7 for a stop"
 unfoldable pub refusal9Demand : List ℕ → Counts → Fields → Bool
-refusal9Demand s c f = eqb (read f demandStop) 0 || hasDemand s c (read f demandStop)
+refusal9Demand s c f = eqb (read f demand·stop) 0 || hasDemand s c (read f demand·stop)
 
 -- "10, no record for .. the stop of kinds 6 and 7"
 unfoldable pub refusal10Demand : List ℕ → Counts → Fields → Bool
-refusal10Demand s c f = not (hasStop s c (read f demandStop))
+refusal10Demand s c f = not (hasStop s c (read f demand·stop))

@@ -1,4 +1,5 @@
 pub mod World
+pub mod Rising
 pub mod Manifest
 pub mod Stops
 pub mod Holds

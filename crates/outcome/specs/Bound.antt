@@ -25,7 +25,7 @@ use Rattle.accepted.specs.Accepted.{accepted}
 use Rattle.components.specs.Sheet.{Sheet}
 use Rattle.manifest.specs.World.{stopId, stopAt}
 use Rattle.assignment.specs.Pending.{pending, idle, idleCars, rowCar, pendingStops}
-use Rattle.assignment.specs.Candidates.{noLimit, keeps, precedes, viable, away, nearer, kept}
+use Rattle.assignment.specs.Candidates.{noLimit, keeps, precedes, viable, away, nearer, kept, keptOf, nearerOf}
 use Rattle.assignment.specs.CellLaws.{viable-parts}
 use Rattle.outcome.specs.Outcome.{rankedMost}
 
@@ -33,7 +33,7 @@ use Rattle.outcome.specs.Outcome.{rankedMost}
 
 -- never more than are pending
 pub kept-pending : (s : Sheet) (i limit : ℕ) → count (kept s i limit) (s .stops) ≤ pendingStops s
-unfolding kept pendingStops
+unfolding keptOf pendingStops
 kept-pending s i limit =
     count-mono (kept s i limit) (pending s) (s .stops) (λ j l e. viable-parts s i j (both-left (viable s i j) (keeps limit (nearer s i j)) e) .0)
 
@@ -128,7 +128,7 @@ module _ (s : Sheet) (i : ℕ) (here : finite (s .car i .position) ≡ true) (th
 
   -- exactly so many
   pub kept-few : (limit : ℕ) → limit ≢ noLimit → count (kept s i limit) (s .stops) ≡ min limit (count (viable s i) (s .stops))
-  unfolding kept keeps nearer before
+  unfolding keptOf keeps nearerOf before
   kept-few limit ne =
       count-cong (kept s i limit) (λ j. viable s i j && ltb (count (before j) (s .stops)) limit) (s .stops) (λ j l. rw (ne-eqb limit noLimit ne))
       ∙ first-few (viable s i) before (s .stops) in-order limit

@@ -19,8 +19,8 @@ use Rattle.accepted.specs.Accepted.{accepted}
 use Rattle.components.specs.Sheet.{Sheet}
 use Rattle.components.specs.declared.Strategy.{Strategy}
 use Rattle.components.specs.declared.Strategy.the-variants.{Etd, Rsr, Scan, Unknown}
-use Rattle.scan.specs.Scan.{sheetSweep, preparedSweep}
-use Rattle.sweep.specs.Sweeps.{sweepCode}
+use Rattle.scan.specs.Scan.{preparedSweep}
+use Rattle.sweep.specs.Sweeps.{sweepCode, sweepOf}
 use Rattle.assignment_problem.specs.Choice.{IsChoice, total, Chosen}
 use Rattle.assignment_problem.specs.Chosen.{chosen-is, chosen-total}
 use Rattle.assignment_problem.specs.Recursion.{columnOf}
@@ -120,11 +120,11 @@ module _ (s : Sheet) (limit : ℕ) (none : pendingStops s ≡ 0) where
   no-stop-decision r = rw (le-ltb (column s limit r) (pendingStops s) (omega arith))
 
 -- "SCAN's prepare_car runs .. not with no pending stop": the sheet's sweeps stay
-pub no-stop-sweep : (s : Sheet) → pendingStops s ≡ 0 → (i : ℕ) → sweepAfter s i ≡ sheetSweep s i
+pub no-stop-sweep : (s : Sheet) → pendingStops s ≡ 0 → (i : ℕ) → sweepAfter s i ≡ sweepOf (s .car i)
 unfolding sweepAfter
 no-stop-sweep s none i = rw (le-ltb 0 (pendingStops s) (omega arith)) (stays (s .policy .strategy) (idle s i))
   where
-    stays : (t : Strategy) (b : Bool) → byStrategy t (sheetSweep s i) (sheetSweep s i) (cond (b && false) (preparedSweep s i) (sheetSweep s i)) (sheetSweep s i) ≡ sheetSweep s i
+    stays : (t : Strategy) (b : Bool) → byStrategy t (sweepOf (s .car i)) (sweepOf (s .car i)) (cond (b && false) (preparedSweep s i) (sweepOf (s .car i))) (sweepOf (s .car i)) ≡ sweepOf (s .car i)
     stays Etd b = refl
     stays Rsr b = refl
     stays Scan true = refl

@@ -26,7 +26,8 @@ use Rattle.etd.specs.Etd.{etdRank}
 use Rattle.etd.specs.EtdRange.{fairCost, etd-nonneg, etd-ranked}
 use Rattle.rsr.specs.Rsr.{rsrCost, rsrRank}
 use Rattle.rsr.specs.RsrRange.{rsr-nonneg, rsr-ranked}
-use Rattle.assignment.specs.Cells.{byStrategy, sweepAfter, scanRank, rank}
+use Rattle.assignment.specs.Cells.{byStrategy, sweepAfter, rank}
+use Rattle.scan.specs.Scan.{rankOf, scanRank}
 
 -- an accepted sheet is in the admitted ranges
 pub admitted-of : (bytes : List ℕ) (c : Counts) → verdict bytes ≡ Accepted c → Admitted (sheetOf bytes c)
@@ -63,15 +64,15 @@ pub record Ranked (s : Sheet) (i j : ℕ) : Type 0 where
   pub rsr : s .policy .strategy ≡ Rsr → pairIsUseful s i j true ≡ true → lt Num.zero (s .car i .speed) ≡ true → rank s i j ≡ Cost (rsrCost s i j)
 
 module _ (s : Sheet) (a : Admitted s) (i j : ℕ) (li : i < s .cars) (lj : j < s .stops) where
-  scan-nonneg : (x : Float) → scanRank s i j ≡ Cost x → (le Num.zero x ≡ true) × (finite x ≡ true)
-  unfolding scanRank
+  scan-nonneg : (x : Float) → scanRank s (sweepAfter s i) i j ≡ Cost x → (le Num.zero x ≡ true) × (finite x ≡ true)
+  unfolding scanRank rankOf
   scan-nonneg x h = by (pairIsUseful s i j false) h
     where
       by : (b : Bool) → cond b (sweepRank (sweepAfter s i) (s .car i .position) (stopAt s j)) Never ≡ Cost x → (le Num.zero x ≡ true) × (finite x ≡ true)
       by true e = sweep-nonneg (sweepAfter s i) (s .car i .position) (stopAt s j) x (a .car-at i li) (a .stop-at j lj) e
       by false e = let z : _≡_ {A = ℕ} 0 1 = cc in absurd (omega arith)
 
-  by-nonneg : (t : Strategy) (x : Float) → byStrategy t (etdRank s i j) (rsrRank s i j) (scanRank s i j) Never ≡ Cost x
+  by-nonneg : (t : Strategy) (x : Float) → byStrategy t (etdRank s i j) (rsrRank s i j) (scanRank s (sweepAfter s i) i j) Never ≡ Cost x
       → (le Num.zero x ≡ true) × (finite x ≡ true)
   by-nonneg Etd x h = etd-nonneg s i j x h
   by-nonneg Rsr x h = rsr-nonneg s i j x h
@@ -81,7 +82,7 @@ module _ (s : Sheet) (a : Admitted s) (i j : ℕ) (li : i < s .cars) (lj : j < s
   admitted-ranked : Ranked s i j
   unfolding rank
   admitted-ranked =
-      let by : Strategy → Rank = λ t. byStrategy t (etdRank s i j) (rsrRank s i j) (scanRank s i j) Never in
+      let by : Strategy → Rank = λ t. byStrategy t (etdRank s i j) (rsrRank s i j) (scanRank s (sweepAfter s i) i j) Never in
       record {
         nonneg = λ x h. by-nonneg (s .policy .strategy) x h;
         etd = λ q u m. ap by q ∙ etd-ranked s a i j li lj m u;

@@ -1,6 +1,6 @@
 -- Masks of a sheet's stops, each of stops with a record only. Assumes nothing.
 use Rattle.layout.specs.Records.{from, read}
-use Rattle.layout.specs.Table.{aboardCar, aboardDestination}
+use Rattle.layout.specs.Table.{aboard·car, aboard·destination}
 use Prim.Native.Nat.{ℕ, _<_}
 use mathlib.Core.Path.{_≡_}
 use mathlib.Core.Bool.{Bool, _&&_, _||_, cond}
@@ -8,7 +8,7 @@ use mathlib.Core.List.{List}
 use lib.Dec.{eqb, ltb}
 use lib.ListN.{getD}
 use Rattle.laws.specs.Folds.{any}
-use Rattle.columns.specs.Named.{contains}
+use Rattle.fields.specs.Named.{contains}
 use Rattle.mask.specs.Mask.{has, built}
 use Rattle.components.specs.Sheet.{Sheet}
 use Rattle.manifest.specs.World.{stopId}
@@ -28,7 +28,7 @@ pub record HoldsNames (s : Sheet) (names : List ℕ) : Type 0 where
 
 -- the destination of the aboard record at a bit, where its car is among the first n ids, else 0
 unfoldable pub boundId : List ℕ → List ℕ → ℕ → ℕ → ℕ
-boundId b idle n at = cond (contains idle n (read (from b at) aboardCar)) (read (from b at) aboardDestination) 0
+boundId b idle n at = cond (contains idle n (read (from b at) aboard·car)) (read (from b at) aboard·destination) 0
 
 -- every aboard rider names a car
 pub record Boarded (s : Sheet) : Type 0 where

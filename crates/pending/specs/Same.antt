@@ -19,7 +19,7 @@ use Rattle.manifest.specs.World.{stopId, inGroup}
 use Rattle.manifest.specs.Manifest.{someoneWaits, riderlessCall, riddenTo, hasDemand, demandStop}
 use Rattle.assignment.specs.Pending.{covered, idleBound, pending}
 use Rattle.covered.specs.Columns.{HoldsIds}
-use Rattle.columns.specs.Named.{contains, named, guarded}
+use Rattle.fields.specs.Named.{contains, named, guarded}
 use Rattle.pending.specs.Masks.{stopMask, lineStop, HoldsNames}
 
 -- ---- stops named in a column

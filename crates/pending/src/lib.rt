@@ -56,7 +56,7 @@ pub fn call_stops<'a>(s: &'a [u8], c: Counts, names: &'a [u32]) -> u64
 {
     let mut ids = [0u32; 64];
     let n = c.demands as usize;
-    columns::fill_guarded(
+    fields::fill_guarded(
         s,
         c.demands_from(),
         demand::BITS,
@@ -66,7 +66,7 @@ pub fn call_stops<'a>(s: &'a [u8], c: Counts, names: &'a [u32]) -> u64
         n,
         &mut ids,
     );
-    columns::named_stops(&ids, n, names, c.stops as usize)
+    fields::named_stops(&ids, n, names, c.stops as usize)
 }
 
 // The stops that someone rides to.
@@ -76,7 +76,7 @@ fn ridden_stops<'a>(s: &'a [u8], c: Counts, names: &'a [u32]) -> u64
 {
     let mut ids = [0u32; 64];
     let n = c.demands as usize;
-    columns::fill_guarded(
+    fields::fill_guarded(
         s,
         c.demands_from(),
         demand::BITS,
@@ -86,7 +86,7 @@ fn ridden_stops<'a>(s: &'a [u8], c: Counts, names: &'a [u32]) -> u64
         n,
         &mut ids,
     );
-    columns::named_stops(&ids, n, names, c.stops as usize)
+    fields::named_stops(&ids, n, names, c.stops as usize)
 }
 
 // The stops where someone waits.
@@ -96,8 +96,8 @@ fn waited_stops<'a>(s: &'a [u8], c: Counts, names: &'a [u32]) -> u64
 {
     let mut ids = [0u32; 512];
     let n = c.waits as usize;
-    columns::fill32(s, c.waits_from(), waiting::BITS, waiting::STOP, n, &mut ids);
-    columns::named_stops(&ids, n, names, c.stops as usize)
+    fields::fill32(s, c.waits_from(), waiting::BITS, waiting::STOP, n, &mut ids);
+    fields::named_stops(&ids, n, names, c.stops as usize)
 }
 
 // The demand stops of the group.
@@ -117,7 +117,7 @@ fn bound_at<'a>(s: &'a [u8], at: u32, idle: &'a [u32], n: usize) -> u32
     requires { ⌜ n ≤ length (now idle) ⌝ }
     ensures { λ r. ⌜ r ≡ boundId (now (s .entry)) (now (idle .entry)) n at ⌝ }
 {
-    if columns::contains(idle, n, bits::field32(s, at, aboard::CAR)) {
+    if fields::contains(idle, n, bits::field32(s, at, aboard::CAR)) {
         bits::field32(s, at, aboard::DESTINATION)
     } else {
         0
@@ -144,7 +144,7 @@ fn bound_stops<'a>(s: &'a [u8], c: Counts, names: &'a [u32]) -> u64
     let mut ids = [0u32; 512];
     let n = c.cars as usize;
     let k = c.aboards as usize;
-    columns::fill_guarded(
+    fields::fill_guarded(
         s,
         c.cars_from(),
         car::BITS,
@@ -155,7 +155,7 @@ fn bound_stops<'a>(s: &'a [u8], c: Counts, names: &'a [u32]) -> u64
         &mut idle,
     );
     fill_bound(s, c.aboards_from(), k, &idle, n, &mut ids);
-    columns::named_stops(&ids, k, names, c.stops as usize)
+    fields::named_stops(&ids, k, names, c.stops as usize)
 }
 
 // The pending stops.

@@ -14,7 +14,7 @@ use Rattle.components.specs.Sheet.{Sheet}
 use Rattle.manifest.specs.declared.Waiters.{Waiters}
 use Rattle.manifest.specs.World.{goal}
 use Rattle.manifest.specs.Stops.{HoldsStops, HoldsDemand}
-use Rattle.scan.specs.Scan.{sheetSweep, preparedSweep, rankOf}
+use Rattle.scan.specs.Scan.{preparedSweep, rankOf, scanRank}
 use Rattle.scan.specs.ScanLaws.{prepared-is}
 use Rattle.dispatch.specs.WaitersLaws.{HoldsWaiters, Weighed}
 use Rattle.dispatch.specs.RidersLaws.{HoldsRiders, useful-is}
@@ -26,9 +26,10 @@ use Rattle.rsr.specs.Rsr.{rsrRank}
 use Rattle.rsr.specs.RsrLaws.{rank-is as rsr-is}
 use Rattle.assignment.specs.Pending.{idle, pendingStops}
 use Rattle.assignment.specs.Candidates.{kept}
-use Rattle.assignment.specs.Cells.{byStrategy, sweepAfter, scanRank, rank, cell}
+use Rattle.assignment.specs.Cells.{byStrategy, sweepAfter, rank, cell}
 use Rattle.ranking.specs.declared.Row.{Row}
 use Rattle.ranking.specs.Ranking.{scanBy, rankBy, cellBy, sweepBy}
+use Rattle.sweep.specs.Sweeps.{sweepOf}
 
 -- a row holds car i's part of the sheet, under a limit
 pub record HoldsRow (s : Sheet) (i limit : ℕ) (row : Row) (dests : List Float) : Type 0 where
@@ -58,7 +59,7 @@ by-parts Unknown d x y z p q r = refl
 
 module _ (s : Sheet) (ids : List ℕ) (xs : List Float) (hs : HoldsStops s ids xs (s .stops)) (i limit : ℕ) (weighed : Weighed s i)
     (row : Row) (dests : List Float) (h : HoldsRow s i limit row dests) (j : ℕ) (v : Waiters) (hv : HoldsWaiters s j v) (l : j < s .stops) where
-  scan-is : scanBy row dests v xs j ≡ scanRank s i j
+  scan-is : scanBy row dests v xs j ≡ scanRank s (sweepAfter s i) i j
   unfolding scanBy rankOf scanRank
   scan-is =
       rw (h .sweep, h .car, h .goal-is, hs .at j l, useful-is s i j weighed (row .riders) dests (h .riders) v hv false l)
@@ -72,7 +73,7 @@ module _ (s : Sheet) (ids : List ℕ) (xs : List Float) (hs : HoldsStops s ids x
       (rsrBy (row .policy) (row .car) (row .goal) (row .riders) dests v xs j)
       (scanBy row dests v xs j) Never)
       (ap (λ (p : Policy). p .strategy) (h .policy))
-      ∙ by-parts (s .policy .strategy) Never (etdRank s i j) (rsrRank s i j) (scanRank s i j)
+      ∙ by-parts (s .policy .strategy) Never (etdRank s i j) (rsrRank s i j) (scanRank s (sweepAfter s i) i j)
       (rw (h .policy, h .car, h .goal-is) (etd-is s ids xs (s .stops) (row .demand) hs (h .demand) i j (row .riders) dests (h .riders) weighed v hv l))
       (rw (h .policy, h .car, h .goal-is) (rsr-is s ids xs (s .stops) hs i j (row .riders) dests (h .riders) v hv weighed l))
       scan-is
@@ -84,9 +85,9 @@ module _ (s : Sheet) (ids : List ℕ) (xs : List Float) (hs : HoldsStops s ids x
 -- the sweep of car i after the pass
 pub sweep-is : (s : Sheet) (ids : List ℕ) (xs : List Float) (pending demand : ℕ) → HoldsStops s ids xs (s .stops) → HoldsDemand s demand (s .stops)
     → not (eqb pending 0) ≡ ltb 0 (pendingStops s) → (i : ℕ) → sweepBy (s .policy .strategy) (s .car i) pending demand xs (s .stops) ≡ sweepAfter s i
-unfolding sweepBy sweepAfter sheetSweep idle
+unfolding sweepBy sweepAfter idle
 sweep-is s ids xs pending demand hs hd e i =
-    by-parts (s .policy .strategy) (sheetSweep s i) (sheetSweep s i) (sheetSweep s i)
-    (cond (idle s i && ltb 0 (pendingStops s)) (preparedSweep s i) (sheetSweep s i))
+    by-parts (s .policy .strategy) (sweepOf (s .car i)) (sweepOf (s .car i)) (sweepOf (s .car i))
+    (cond (idle s i && ltb 0 (pendingStops s)) (preparedSweep s i) (sweepOf (s .car i)))
     refl refl
-    (rw e (ap (λ w. cond (s .car i .listed && ltb 0 (pendingStops s)) w (sheetSweep s i)) (prepared-is s ids xs (s .stops) demand hs hd i)))
+    (rw e (ap (λ w. cond (s .car i .listed && ltb 0 (pendingStops s)) w (sweepOf (s .car i))) (prepared-is s ids xs (s .stops) demand hs hd i)))

@@ -1,30 +1,19 @@
 // The records of a sheet, each decoded in place from the bit where it starts.
 ghost use mathlib.Core.Path.{_≡_};
-ghost use mathlib.Core.Bool.{cond};
-ghost use Prim.Native.Nat.{_+_};
-ghost use Rattle.bits.specs.Field.{flagAt};
 ghost use Rattle.layout.specs.Table.{field};
-ghost use Rattle.layout.specs.Records.{from, double, policyOf, lineOf, carOf};
-use components::Aboard;
+ghost use Rattle.layout.specs.Records.{from, double, optional, policyOf, lineOf, carOf};
 use components::Car;
-use components::Demand;
 use components::Direction;
 use components::Line;
 use components::Mode;
 use components::Phase;
 use components::Policy;
-use components::Stop;
 use components::Strategy;
 use components::Threshold;
 use components::Traffic;
-use components::Waiting;
-use layout::aboard;
 use layout::car;
-use layout::demand;
 use layout::line;
 use layout::policy;
-use layout::stop;
-use layout::waiting;
 
 // The double in the 64 bits at an offset.
 pub fn double_at(s: &[u8], at: u32, off: u32) -> f64
@@ -35,7 +24,7 @@ pub fn double_at(s: &[u8], at: u32, off: u32) -> f64
 
 // An optional double: its present bit, and where the double stands.
 fn threshold_at(s: &[u8], at: u32, present: u32, value: u32) -> Threshold
-    ensures { λ r. ⌜ r ≡ cond (flagAt (now (s .entry)) (at + present)) (Threshold.At (double (from (now (s .entry)) at) (field value 64))) Threshold.Absent ⌝ }
+    ensures { λ r. ⌜ r ≡ optional (from (now (s .entry)) at) (field present 1) (field value 64) ⌝ }
 {
     if bits::flag(s, at, present) {
         Threshold::At(double_at(s, at, value))

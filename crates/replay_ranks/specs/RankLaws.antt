@@ -23,18 +23,18 @@ use Rattle.manifest.specs.Holds.{HoldsAboard}
 use Rattle.manifest.specs.Stops.{HoldsStops}
 use Rattle.assignment.specs.Pending.{pending}
 use Rattle.assignment.specs.Cells.{rank}
-use Rattle.outcome.specs.TwoSheets.{rising-of}
 use Rattle.pending.specs.Masks.{stopMask}
 use Rattle.ranking.specs.declared.Row.{Row}
 use Rattle.ranking.specs.Ranking.{rankBy}
 use Rattle.ranking.specs.RankingLaws.{HoldsRow, rank-is}
-use Rattle.rows.specs.RowLaws.{nobody}
+use Rattle.rows.specs.RowLaws.{noWaiters}
 use Rattle.rows.specs.HeldLaws.{Held}
 use Rattle.rows.specs.Gathered.{gatheredOf, gathered-held}
 use Rattle.cells.specs.Survey.{weighed-of}
 use Rattle.replay_ranks.specs.declared.Answer.{Answer}
 use Rattle.replay_ranks.specs.declared.Pair.{Pair}
 use Rattle.replay_ranks.specs.Ranks.{bitsOf, answerFor, same, differs}
+use Rattle.accepted.specs.Ids.{rising-of}
 
 -- ---- bits
 
@@ -91,6 +91,6 @@ module _ (bytes : List ℕ) (c : Counts) (e : verdict bytes ≡ Accepted c) (ids
 
   pub ranked : (i j limit : ℕ) → i < sheetOf bytes c .cars → j < sheetOf bytes c .stops → (row : Row) {dests : List Float} → HoldsRow (sheetOf bytes c) i limit row dests
       → (waiters : List Waiters) → waiters ≡ gatheredOf (sheetOf bytes c)
-      → rankBy row dests (getD waiters j nobody) xs (sheetOf bytes c .stops) j ≡ rank (sheetOf bytes c) i j
+      → rankBy row dests (getD waiters j noWaiters) xs (sheetOf bytes c .stops) j ≡ rank (sheetOf bytes c) i j
   ranked i j limit li lj row {dests} hr waiters hw =
-      rank-is (sheetOf bytes c) ids xs hs i limit (weighed-of (sheetOf bytes c) (accepted bytes c e .sheet) i li) row dests hr j (getD waiters j nobody) (gathered-held (sheetOf bytes c) waiters hw j lj) lj
+      rank-is (sheetOf bytes c) ids xs hs i limit (weighed-of (sheetOf bytes c) (accepted bytes c e .sheet) i li) row dests hr j (getD waiters j noWaiters) (gathered-held (sheetOf bytes c) waiters hw j lj) lj

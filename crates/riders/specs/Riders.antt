@@ -93,24 +93,24 @@ module _ (ids : List ℕ) (n : ℕ) (acar adest : List ℕ) (id : ℕ) where
 
 module _ (ids : List ℕ) (xs : List Float) (n : ℕ) (acar adest : List ℕ) (id : ℕ) where
   -- the buffer after a records
-  pub record Held (a at : ℕ) (entry now : List Float) : Type 0 where
+  pub record Seating (a at : ℕ) (entry now : List Float) : Type 0 where
     pub counted : at ≡ count (knownAt ids n acar adest id) a
     pub held : now ≡ destsIn ids n acar adest id xs a ++ drop at entry
 
-  pub held-start : (entry : List Float) → Held 0 0 entry entry
+  pub held-start : (entry : List Float) → Seating 0 0 entry entry
   unfolding destsIn collected count
   held-start entry = record { counted = refl; held = refl }
 
-  pub held-le : (a at : ℕ) (entry now : List Float) → Held a at entry now → at ≤ a
+  pub held-le : (a at : ℕ) (entry now : List Float) → Seating a at entry now → at ≤ a
   held-le a at entry now h = rw (h .counted) (count-le (knownAt ids n acar adest id) a)
 
-  pub held-length : (a at : ℕ) (entry now : List Float) → Held a at entry now → a ≤ length entry → length now ≡ length entry
+  pub held-length : (a at : ℕ) (entry now : List Float) → Seating a at entry now → a ≤ length entry → length now ≡ length entry
   unfolding destsIn
   held-length a at entry now h l =
       let m = held-le a at entry now h in
       collected-length (knownAt ids n acar adest id) (λ c. getD xs (stopIndex ids n (getD adest c 0)) nan) a at entry now (h .counted) (omega arith) (h .held)
 
-  by : (b : Bool) (a at r : ℕ) (entry now exit : List Float) → knownAt ids n acar adest id a ≡ b → Held a at entry now → at < length entry
+  by : (b : Bool) (a at r : ℕ) (entry now exit : List Float) → knownAt ids n acar adest id a ≡ b → Seating a at entry now → at < length entry
       → r ≡ at + bit b → exit ≡ cond b (set now at (getD xs (stopIndex ids n (getD adest a 0)) nan)) now
       → exit ≡ destsIn ids n acar adest id xs (a + 1) ++ drop r entry
   unfolding destsIn
@@ -123,13 +123,13 @@ module _ (ids : List ℕ) (xs : List Float) (n : ℕ) (acar adest : List ℕ) (i
       d ∙ collected-skip (knownAt ids n acar adest id) (λ c. getD xs (stopIndex ids n (getD adest c 0)) nan) a at entry now k (h .held)
       ∙ ap (λ (z : ℕ). destsIn ids n acar adest id xs (a + 1) ++ drop z entry) (sym q)
 
-  pub held-next : (a at r : ℕ) (entry now exit : List Float) → Held a at entry now → at < length entry
-      → Seated ids xs n id (getD acar a 0) (getD adest a 0) at now r exit → Held (a + 1) r entry exit
+  pub held-next : (a at r : ℕ) (entry now exit : List Float) → Seating a at entry now → at < length entry
+      → Seated ids xs n id (getD acar a 0) (getD adest a 0) at now r exit → Seating (a + 1) r entry exit
   held-next a at r entry now exit h l d =
       record {
         counted = d .counted ∙ count-step (knownAt ids n acar adest id) a (h .counted) refl;
         held = by (knownAt ids n acar adest id a) a at r entry now exit refl h l (d .counted) (d .stored);
       }
 
-  pub held-end : (a na at : ℕ) (entry now : List Float) → a ≤ na → na ≤ a → Held a at entry now → Held na at entry now
+  pub held-end : (a na at : ℕ) (entry now : List Float) → a ≤ na → na ≤ a → Seating a at entry now → Seating na at entry now
   held-end a na at entry now l m h = let e : a ≡ na = omega arith in rw e at h

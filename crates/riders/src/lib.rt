@@ -2,7 +2,7 @@
 ghost use mathlib.Core.Path.{_≡_};
 ghost use Prim.Native.Nat.{_≤_, _<_};
 ghost use lib.ListN.{length};
-ghost use Rattle.riders.specs.Riders.{withExit, exitsIn, routed, routedIn, Seated, Held, Seats};
+ghost use Rattle.riders.specs.Riders.{withExit, exitsIn, routed, routedIn, Seated, Seating, Seats};
 
 // The riders of a car: how many destinations have a position, the stops they are bound for, and whether any has a route. It depends on no stop.
 pub struct Riders {
@@ -102,7 +102,7 @@ fn destinations(
     dests: &mut [f64],
 ) -> usize
     requires { ⌜ (n ≤ length (now ids)) × (n ≤ length (now xs)) × (na ≤ length (now acar)) × (na ≤ length (now adest)) × (na ≤ length (now dests)) ⌝ }
-    ensures { λ r. ⌜ Held (now (ids .entry)) (now (xs .entry)) n (now (acar .entry)) (now (adest .entry)) id na r (now (dests .entry)) (now (dests .exit)) ⌝ }
+    ensures { λ r. ⌜ Seating (now (ids .entry)) (now (xs .entry)) n (now (acar .entry)) (now (adest .entry)) id na r (now (dests .entry)) (now (dests .exit)) ⌝ }
 {
     let mut at = 0;
     let mut a = 0;

@@ -7,7 +7,7 @@ use lib.ListN.{getD, drop, replicate}
 use lib.Ieee.{Float}
 use Rattle.laws.specs.Tables.{tab, tab-cong}
 use Rattle.mask.specs.Mask.{has}
-use Rattle.columns.specs.Held as columns
+use Rattle.fields.specs.Held as fields
 use Rattle.fp.specs.Least.{least}
 use Rattle.components.specs.Sheet.{Sheet}
 use Rattle.manifest.specs.declared.Waiters.{Waiters}
@@ -19,7 +19,7 @@ use Rattle.manifest.specs.Stops.{HoldsStops}
 use Rattle.dispatch.specs.Waits.{waitTicksSum, waitTicksSquaredSum}
 use Rattle.dispatch.specs.WaitersLaws.{HoldsWaiters, waitsUp, waitsDown, waitsLevel, weightOf, waiters-held}
 use Rattle.pending.specs.Masks.{stopMask}
-use Rattle.rows.specs.RowLaws.{nobody}
+use Rattle.rows.specs.RowLaws.{noWaiters}
 use Rattle.rows.specs.HeldLaws.{below-has}
 
 -- 64 entries: of the first n stops, and past them that nobody waits
@@ -64,8 +64,8 @@ gathered-is s ids xs calls wstop wdest wweight wwait hs few hw e h =
     (λ j l. waiters-are s j _
     (waiters-held s ids xs (s .stops) hs wstop wdest wweight wwait (s .waits) hw j (has calls j) l (below-has s (riderlessCall s) calls few e j l))))
 
-pub gathered-held : (s : Sheet) (all : List Waiters) → all ≡ gatheredOf s → (j : ℕ) → j < s .stops → HoldsWaiters s j (getD all j nobody)
+pub gathered-held : (s : Sheet) (all : List Waiters) → all ≡ gatheredOf s → (j : ℕ) → j < s .stops → HoldsWaiters s j (getD all j noWaiters)
 unfolding gatheredOf
 gathered-held s all e j l =
-    rw (columns.held (waitersOf s) (s .stops) (drop (s .stops) (replicate 64 (waiters.nobody false))) all e nobody j l)
+    rw (fields.held (waitersOf s) (s .stops) (drop (s .stops) (replicate 64 (waiters.nobody false))) all e noWaiters j l)
     (record { someone = refl; call = refl; waitsum = refl; squares = refl; up = refl; down = refl; level = refl })

@@ -31,16 +31,16 @@ use Rattle.riders.specs.declared.Riders.{Riders}
 use Rattle.riders.specs.Riders.{ridersIn, destsIn}
 use Rattle.dispatch.specs.WaitersLaws.{Weighed, HoldsWaiters}
 use Rattle.assignment.specs.Pending.{pending, pendingStops, columnStop, idleCars, rowCar}
-use Rattle.assignment.specs.Candidates.{kept}
+use Rattle.assignment.specs.Candidates.{kept, keptOf}
 use Rattle.assignment.specs.Cells.{matrix}
 use Rattle.pending.specs.Masks.{stopMask}
 use Rattle.sweep.specs.declared.Sweep.{Sweep}
 use Rattle.ranking.specs.declared.Row.{Row}
 use Rattle.ranking.specs.Ranking.{sweepBy}
 use Rattle.ranking.specs.RankingLaws.{HoldsRow, cell-is}
-use Rattle.rows.specs.KeptLaws.{keptOf, keptNumber, kept-of}
+use Rattle.rows.specs.KeptLaws.{keptNumber}
 use Rattle.rows.specs.HeldLaws.{Held, row-held}
-use Rattle.rows.specs.RowLaws.{nobody, rowCell, padded, Listed}
+use Rattle.rows.specs.RowLaws.{noWaiters, rowCell, padded, Listed}
 
 -- ---- the pending stops, listed from their mask, are the columns'; the idle cars, the rows'
 
@@ -95,7 +95,7 @@ module _ (s : Sheet) (few : s .stops ≤ 64) (mask : ℕ) (e : mask ≡ stopMask
 
   pub cells-are : (ids : List ℕ) (xs : List Float) → HoldsStops s ids xs (s .stops) → (r limit : ℕ) → Weighed s (rowCar s r)
       → (row : Row) (dests : List Float) → HoldsRow s (rowCar s r) limit row dests → (waiters : List Waiters)
-      → ((j : ℕ) → j < s .stops → HoldsWaiters s j (getD waiters j nobody)) → (k : ℕ)
+      → ((j : ℕ) → j < s .stops → HoldsWaiters s j (getD waiters j noWaiters)) → (k : ℕ)
       → padded (rowCell row dests waiters xs (s .stops) stops) m k ≡ matrix s limit r k
   unfolding padded rowCell matrix
   cells-are ids xs hs r limit weighed row dests hr waiters hw k =
@@ -104,13 +104,13 @@ module _ (s : Sheet) (few : s .stops ≤ 64) (mask : ℕ) (e : mask ≡ stopMask
       (λ (l : k < m).
       let b = column-below k l in
       rw (lt-ltb k m l, lt-ltb k (pendingStops s) (omega arith), listed-stop k l)
-      (cell-is s ids xs hs (rowCar s r) limit weighed row dests hr (columnStop s k) (getD waiters (columnStop s k) nobody) (hw (columnStop s k) b) b))
+      (cell-is s ids xs hs (rowCar s r) limit weighed row dests hr (columnStop s k) (getD waiters (columnStop s k) noWaiters) (hw (columnStop s k) b) b))
       (λ (l : m ≤ k). rw (le-ltb k m l, le-ltb k (pendingStops s) (omega arith)))
       (less? k m)
 
   pub row-is : (ids : List ℕ) (xs : List Float) → HoldsStops s ids xs (s .stops) → (r limit : ℕ) → Weighed s (rowCar s r)
       → (row : Row) (dests : List Float) → HoldsRow s (rowCar s r) limit row dests → (waiters : List Waiters)
-      → ((j : ℕ) → j < s .stops → HoldsWaiters s j (getD waiters j nobody)) → (n : ℕ)
+      → ((j : ℕ) → j < s .stops → HoldsWaiters s j (getD waiters j noWaiters)) → (n : ℕ)
       → tab (padded (rowCell row dests waiters xs (s .stops) stops) m) n ≡ tab (matrix s limit r) n
   row-is ids xs hs r limit weighed row dests hr waiters hw n =
       tab-cong (padded (rowCell row dests waiters xs (s .stops) stops) m) (matrix s limit r) n
@@ -167,7 +167,7 @@ pub record FilledRow (s : Sheet) (limit i n : ℕ) (exit : List ℕ) : Type 0 wh
 
 pub record Ready (s : Sheet) (ids : List ℕ) (xs : List Float) (acar adest : List ℕ) (mask demand : ℕ) (waiters : List Waiters) (stops : List ℕ) (m : ℕ) : Type 0 where
   pub held : Held s ids xs acar adest mask demand
-  pub waiting : (j : ℕ) → j < s .stops → HoldsWaiters s j (getD waiters j nobody)
+  pub waiting : (j : ℕ) → j < s .stops → HoldsWaiters s j (getD waiters j noWaiters)
   pub weighed : (i : ℕ) → i < s .cars → Weighed s i
   pub entry : List ℕ
   pub listed : Listed mask entry m stops
@@ -220,7 +220,7 @@ filled-at s ids xs acar adest mask demand waiters stops m h limit i n ranked car
     let car = getD cars i noCar in
     let row = row-of s ids xs acar adest mask demand (h .held) limit car (rowFor s ids xs acar adest mask demand limit car) (replicate 512 zero) refl refl in (
       record { row = λ r q. f .row ∙ ready-row s ids xs acar adest mask demand waiters stops m h i limit (rowFor s ids xs acar adest mask demand limit car) l (row .held i e) r n q },
-      f .number ∙ count-cong (keptOf s car limit) (kept s i limit) (s .stops) (λ j _. ap (λ (k : Car). keptOf s k limit j) e ∙ kept-of s i limit j),
+      f .number ∙ count-cong (keptOf s car limit) (kept s i limit) (s .stops) (λ j _. ap (λ (k : Car). keptOf s k limit j) e),
     )
 
 -- a car is ranked for no more than 64 stops

@@ -19,13 +19,13 @@ use Rattle.manifest.specs.declared.Waiters.{Waiters}
 use Rattle.ranking.specs.declared.Row.{Row}
 use Rattle.ranking.specs.Ranking.{cellBy}
 
--- past the last stop there is nobody
-abbrev pub nobody : Waiters
-nobody = record { someone = false; call = false; waitsum = nan; squares = nan; up = nan; down = nan; level = nan }
+-- what is read past the last stop
+abbrev pub noWaiters : Waiters
+noWaiters = record { someone = false; call = false; waitsum = nan; squares = nan; up = nan; down = nan; level = nan }
 
 -- the cell of column k, whose stop is listed
 unfoldable pub rowCell : Row → List Float → List Waiters → List Float → ℕ → List ℕ → ℕ → ℕ
-rowCell row dests waiters xs n stops k = cellBy row dests (getD waiters (getD stops k 0) nobody) xs n (getD stops k 0)
+rowCell row dests waiters xs n stops k = cellBy row dests (getD waiters (getD stops k 0) noWaiters) xs n (getD stops k 0)
 
 -- ---- the stops of a mask, listed
 

@@ -15,24 +15,12 @@ use Rattle.manifest.specs.declared.Waiters.{Waiters}
 use Rattle.riders.specs.declared.Riders.{Riders}
 use Rattle.dispatch.specs.Waits.{withBonus}
 use Rattle.dispatch.specs.Pairs.{usefulBy}
-use Rattle.etd.specs.Etd.{finiteRank}
-use Rattle.rsr.specs.Rsr.{wrongDirection, peakScaling, withPenalty, withCoincidentCall}
-
--- eta, wrong direction, coincident call, age: of a stop at p for which the car has a call, or not
-unfoldable pub costBy : Policy → Car → Place → Waiters → Bool → Float → Float
-costBy y c goal w call p =
-    maxZero
-    (withBonus
-    (withCoincidentCall
-    (withPenalty
-    (times (y .w0) (over (distance (c .position) p) (c .speed)))
-    (y .w1) (peakScaling (y .traffic) (y .w5)) (wrongDirection goal (c .position) p))
-    (y .w2) call)
-    (y .w4) (w .waitsum))
+use Rattle.dispatch.specs.FiniteRank.{finiteRank}
+use Rattle.rsr.specs.Rsr.{rsrCostOf}
 
 -- rank, of stop j
 unfoldable pub rankBy : Policy → Car → Place → Riders → List Float → Waiters → List Float → ℕ → Rank
 rankBy y c goal r dests w xs j =
     cond (usefulBy c goal r dests w (has (r .exits) j) (getD xs j nan) true && not (le (c .speed) zero))
-    (finiteRank (costBy y c goal w (has (c .calls) j) (getD xs j nan)))
+    (finiteRank (rsrCostOf y c goal (w .waitsum) (has (c .calls) j) (getD xs j nan)))
     Never

@@ -4,6 +4,8 @@ use mathlib.Core.Bool.{Bool, true, false, not, _&&_, _||_, cond}
 use lib.Ieee.{Float, lt, le}
 use Rattle.fp.specs.Num.{zero, one, plus, minus, times, over, maxZero, distance}
 use Rattle.mask.specs.Mask.{has}
+use Rattle.components.specs.declared.Car.{Car}
+use Rattle.components.specs.declared.Policy.{Policy}
 use Rattle.components.specs.declared.Place.{Place}
 use Rattle.components.specs.declared.Place.the-variants as place
 use Rattle.components.specs.declared.Traffic.{Traffic}
@@ -14,7 +16,7 @@ use Rattle.components.specs.Sheet.{Sheet}
 use Rattle.manifest.specs.World.{stopAt, goal}
 use Rattle.dispatch.specs.Useful.{pairIsUseful}
 use Rattle.dispatch.specs.Waits.{waitTicksSum, withBonus}
-use Rattle.etd.specs.Etd.{finiteRank}
+use Rattle.dispatch.specs.FiniteRank.{finiteRank}
 
 -- ---- on values: x the car's position, p the stop's
 
@@ -38,21 +40,24 @@ withPenalty cost weight scaling wrong = cond (lt zero weight && wrong) (plus cos
 unfoldable pub withCoincidentCall : Float → Float → Bool → Float
 withCoincidentCall cost weight call = cond (lt zero weight && call) (minus cost weight) cost
 
+-- compute_cost: eta, wrong direction, coincident call, age; of a car that moves to goal, for a stop at p where so many ticks were waited, and for which
+-- the car has a call, or not
+unfoldable pub rsrCostOf : Policy → Car → Place → Float → Bool → Float → Float
+rsrCostOf y c goal waited call p =
+    maxZero
+    (withBonus
+    (withCoincidentCall
+    (withPenalty
+    (times (y .w0) (over (distance (c .position) p) (c .speed)))
+    (y .w1) (peakScaling (y .traffic) (y .w5)) (wrongDirection goal (c .position) p))
+    (y .w2) call)
+    (y .w4) waited)
+
 -- ---- over a sheet
 
 module _ (s : Sheet) (i j : ℕ) where
-  -- eta, wrong direction, coincident call, age
-  unfoldable pub rsrCost : Float
-  rsrCost =
-      maxZero
-      (withBonus
-      (withCoincidentCall
-      (withPenalty
-      (times (s .policy .w0) (over (distance (s .car i .position) (stopAt s j)) (s .car i .speed)))
-      (s .policy .w1) (peakScaling (s .policy .traffic) (s .policy .w5))
-      (wrongDirection (goal s i) (s .car i .position) (stopAt s j)))
-      (s .policy .w2) (has (s .car i .calls) j))
-      (s .policy .w4) (waitTicksSum s j))
+  abbrev pub rsrCost : Float
+  rsrCost = rsrCostOf (s .policy) (s .car i) (goal s i) (waitTicksSum s j) (has (s .car i .calls) j) (stopAt s j)
 
   -- rank. "Speed 0 gives ETD and RSR no rank"
   unfoldable pub rsrRank : Rank

@@ -13,13 +13,12 @@ use Rattle.manifest.specs.Stops.{HoldsStops}
 use Rattle.riders.specs.declared.Riders.{Riders}
 use Rattle.dispatch.specs.WaitersLaws.{HoldsWaiters, Weighed}
 use Rattle.dispatch.specs.RidersLaws.{HoldsRiders, useful-is}
-use Rattle.rsr.specs.Rsr.{rsrCost, rsrRank}
-use Rattle.rsr.specs.Pairs.{costBy, rankBy}
+use Rattle.rsr.specs.Rsr.{rsrCostOf, rsrCost, rsrRank}
+use Rattle.rsr.specs.Pairs.{rankBy}
 
 module _ (s : Sheet) (ids : List ℕ) (xs : List Float) (n : ℕ) (hs : HoldsStops s ids xs n) (i j : ℕ)
     (r : Riders) (dests : List Float) (hr : HoldsRiders s i r dests) (v : Waiters) (hv : HoldsWaiters s j v) where
-  cost-is : costBy (s .policy) (s .car i) (goal s i) v (has (s .car i .calls) j) (stopAt s j) ≡ rsrCost s i j
-  unfolding costBy rsrCost
+  cost-is : rsrCostOf (s .policy) (s .car i) (goal s i) (v .waitsum) (has (s .car i .calls) j) (stopAt s j) ≡ rsrCost s i j
   cost-is = rw (hv .waitsum)
 
   -- the rank of stop j

@@ -20,13 +20,12 @@ use Rattle.manifest.specs.World.{stopAt, goal}
 use Rattle.dispatch.specs.Useful.{pairIsUseful}
 use Rattle.dispatch.specs.Waits.{withBonus, waitTicksSum}
 use Rattle.dispatch.specs.Admitted.{Admitted, grow, withBonus-size, waitsum-size}
-use Rattle.etd.specs.Etd.{finiteRank}
-use Rattle.etd.specs.EtdRange.{ranked}
-use Rattle.rsr.specs.Rsr.{wrongDirection, peakScaling, withPenalty, withCoincidentCall, rsrCost, rsrRank}
+use Rattle.dispatch.specs.FiniteRank.{finiteRank, ranked}
+use Rattle.rsr.specs.Rsr.{wrongDirection, peakScaling, withPenalty, withCoincidentCall, rsrCostOf, rsrCost, rsrRank}
 
 -- a rank is never negative and never a NaN: 0 is at most it
 pub rsr-nonneg : (s : Sheet) (i j : ℕ) (x : Float) → rsrRank s i j ≡ Cost x → (le Num.zero x ≡ true) × (finite x ≡ true)
-unfolding rsrRank rsrCost
+unfolding rsrRank rsrCostOf
 rsr-nonneg s i j x h =
     let (e, f) = ranked (pairIsUseful s i j true && not (le (s .car i .speed) Num.zero)) (rsrCost s i j) x h in
     let n : le Num.zero (rsrCost s i j) ≡ true = maxZero-nonneg _ in
@@ -71,7 +70,7 @@ module _ (s : Sheet) (a : Admitted s) (i j : ℕ) (li : i < s .cars) (lj : j < s
       (speed-power (s .car i .speed) (a .speed i li) moves))
 
   cost-finite : finite (rsrCost s i j) ≡ true
-  unfolding rsrCost
+  unfolding rsrCostOf
   cost-finite =
       let eta = times (s .policy .w0) (over (distance (s .car i .position) (stopAt s j)) (s .car i .speed)) in
       let scaling = peakScaling (s .policy .traffic) (s .policy .w5) in

@@ -3,8 +3,8 @@ ghost use mathlib.Core.Path.{_≡_};
 ghost use Prim.Native.Nat.{_≤_, _<_};
 ghost use lib.ListN.{length};
 ghost use Rattle.components.specs.declared.Place.the-variants.{At};
-ghost use Rattle.rsr.specs.Rsr.{wrongDirection, peakScaling, withPenalty, withCoincidentCall};
-ghost use Rattle.rsr.specs.Pairs.{costBy, rankBy};
+ghost use Rattle.rsr.specs.Rsr.{wrongDirection, peakScaling, withPenalty, withCoincidentCall, rsrCostOf};
+ghost use Rattle.rsr.specs.Pairs.{rankBy};
 use components::Car;
 use components::Place;
 use components::Policy;
@@ -66,7 +66,7 @@ fn with_coincident_call(cost: f64, weight: f64, call: bool) -> f64
 
 // The cost of a stop at p for which the car has a call, or not.
 fn compute_cost(policy: Policy, car: Car, goal: Place, waiters: Waiters, call: bool, p: f64) -> f64
-    ensures { λ r. ⌜ r ≡ costBy policy car goal waiters call p ⌝ }
+    ensures { λ r. ⌜ r ≡ rsrCostOf policy car goal (waiters .waitsum) call p ⌝ }
 {
     let x = car.position;
     let traffic = policy.traffic;
@@ -100,7 +100,7 @@ pub fn rank(
         if car.speed <= 0.0 {
             Rank::Never
         } else {
-            etd::finite_rank(compute_cost(policy, car, goal, waiters, call, p))
+            dispatch::finite_rank(compute_cost(policy, car, goal, waiters, call, p))
         }
     } else {
         Rank::Never

@@ -1,6 +1,6 @@
 -- SCAN over a sheet: scan.rs. Assumes nothing.
 use Prim.Native.Nat.{ℕ}
-use mathlib.Core.Bool.{Bool, _&&_, cond}
+use mathlib.Core.Bool.{Bool, false, _&&_, cond}
 use mathlib.Core.List.{List}
 use lib.ListN.{getD}
 use lib.Ieee.{Float, nan}
@@ -12,8 +12,9 @@ use Rattle.components.specs.declared.Rank.the-variants.{Never}
 use Rattle.components.specs.Sheet.{Sheet}
 use Rattle.manifest.specs.World.{stopAt}
 use Rattle.manifest.specs.Manifest.{demandStop}
-use Rattle.sweep.specs.Sweeps.{strictlyAhead, prepared, sweepRank}
+use Rattle.sweep.specs.Sweeps.{sweepOf, strictlyAhead, prepared, sweepRank}
 use Rattle.sweep.specs.declared.Sweep.{Sweep}
+use Rattle.dispatch.specs.Useful.{pairIsUseful}
 
 -- ---- by lists: n stops at xs, the demand stops as a mask
 
@@ -32,14 +33,14 @@ rankOf w useful x p = cond useful (sweepRank w x p) Never
 -- ---- over a sheet
 
 module _ (s : Sheet) where
-  -- the sweep that the sheet gives car i
-  unfoldable pub sheetSweep : ℕ → Sweep
-  sheetSweep i = record { direction = s .car i .direction; mode = s .car i .mode }
-
   -- strict_demand_ahead: some demand stop of the group, a covered one too, is strictly ahead of the car
   unfoldable pub strictDemandAhead : ℕ → Bool
   strictDemandAhead i = any (λ j. demandStop s j && strictlyAhead (s .car i .direction) (s .car i .position) (stopAt s j)) (s .stops)
 
   -- prepare_car
   unfoldable pub preparedSweep : ℕ → Sweep
-  preparedSweep i = prepared (sheetSweep i) (strictDemandAhead i)
+  preparedSweep i = prepared (sweepOf (s .car i)) (strictDemandAhead i)
+
+  -- rank, of car i with a sweep for stop j
+  unfoldable pub scanRank : Sweep → ℕ → ℕ → Rank
+  scanRank w i j = rankOf w (pairIsUseful s i j false) (s .car i .position) (stopAt s j)

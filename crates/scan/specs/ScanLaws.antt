@@ -11,8 +11,8 @@ use Rattle.components.specs.Sheet.{Sheet}
 use Rattle.manifest.specs.World.{stopAt}
 use Rattle.manifest.specs.Manifest.{demandStop}
 use Rattle.manifest.specs.Stops.{HoldsStops, HoldsDemand}
-use Rattle.sweep.specs.Sweeps.{strictlyAhead, prepared}
-use Rattle.scan.specs.Scan.{demandAhead, preparedBy, sheetSweep, strictDemandAhead, preparedSweep}
+use Rattle.sweep.specs.Sweeps.{strictlyAhead, prepared, sweepOf}
+use Rattle.scan.specs.Scan.{demandAhead, preparedBy, strictDemandAhead, preparedSweep}
 
 module _ (s : Sheet) (ids : List ℕ) (xs : List Float) (n demand : ℕ) (h : HoldsStops s ids xs n) (d : HoldsDemand s demand n) (i : ℕ) where
   pub ahead-is : demandAhead (s .car i .direction) (s .car i .position) demand xs n ≡ strictDemandAhead s i
@@ -25,6 +25,6 @@ module _ (s : Sheet) (ids : List ℕ) (xs : List Float) (n demand : ℕ) (h : Ho
       (λ j l. ap₂ (λ (b : Bool) (p : Float). b && strictlyAhead (s .car i .direction) (s .car i .position) p) (d .is-demand j l) (h .at j l))
       ∙ ap (any (λ j. demandStop s j && strictlyAhead (s .car i .direction) (s .car i .position) (stopAt s j))) (h .counted)
 
-  pub prepared-is : preparedBy (sheetSweep s i) (s .car i .position) demand xs n ≡ preparedSweep s i
-  unfolding preparedBy preparedSweep sheetSweep
-  prepared-is = ap (prepared (sheetSweep s i)) ahead-is
+  pub prepared-is : preparedBy (sweepOf (s .car i)) (s .car i .position) demand xs n ≡ preparedSweep s i
+  unfolding preparedBy preparedSweep
+  prepared-is = ap (prepared (sweepOf (s .car i))) ahead-is

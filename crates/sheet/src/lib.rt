@@ -16,15 +16,11 @@ use components::Stop;
 use components::Waiting;
 use layout::Counts;
 use layout::Reading;
-use layout::aboard;
 use layout::car;
-use layout::demand;
 use layout::head;
 use layout::line;
 use layout::policy;
 use layout::record;
-use layout::stop;
-use layout::waiting;
 use refusals::pick;
 
 // Whether bit e lies past the end.

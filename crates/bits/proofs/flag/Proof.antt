@@ -1,11 +1,9 @@
 -- bits::flag meets its contract.
 use borrow.Author.Needs.{needs}
-use Rattle.bits.specs.Field.{flagAt}
 use Rattle.bits.proofs.flag.Statement.{statement}
 use Rattle.bits.proofs.flag.Tie as tie
 
 returns : tie.Need-returns
-unfolding flagAt
 returns c = rw (c .field .ensures .is)
 
 pub flag-spec : {M : Type 1} → statement M

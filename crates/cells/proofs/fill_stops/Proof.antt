@@ -1,5 +1,5 @@
 -- cells::fill_stops meets its contract.
-use Rattle.layout.specs.Table.{stopId, stopPosition}
+use Rattle.layout.specs.Table.{stop·id, stop·position}
 use Rattle.layout.specs.Offsets.{recordLength}
 use Rattle.components.specs.declared.Kind.the-variants.{Stop}
 use Prim.Native.Nat.{ℕ, _+_, _*_}
@@ -23,8 +23,8 @@ returns c =
     let at = c .before .before .before .before .before .before .before .before .stops-from in
     let first = c .before .before .before .before .before .before .fill32 in
     let second = c .before .before .fill-doubles in (
-      (first .ensures .0, first .ensures .1 ∙ ap (λ (x : ℕ). tab (λ i. read (from b (x + recordLength Stop * i)) stopId) n ++ drop n (a .ids .now)) (at .ensures)),
-      (second .ensures .0, second .ensures .1 ∙ ap (λ (x : ℕ). tab (λ i. double (from b (x + recordLength Stop * i)) stopPosition) n ++ drop n (a .xs .now)) (at .ensures)),
+      (first .ensures .0, first .ensures .1 ∙ ap (λ (x : ℕ). tab (λ i. read (from b (x + recordLength Stop * i)) stop·id) n ++ drop n (a .ids .now)) (at .ensures)),
+      (second .ensures .0, second .ensures .1 ∙ ap (λ (x : ℕ). tab (λ i. double (from b (x + recordLength Stop * i)) stop·position) n ++ drop n (a .xs .now)) (at .ensures)),
     )
 
 pub fill-stops-spec : {M : Type 1} → statement M

@@ -1,10 +1,10 @@
 -- covered::covered_waits meets its contract.
-use Rattle.layout.specs.Table.{waitingLine, waitingStop, waitingWeight}
+use Rattle.layout.specs.Table.{waiting·line, waiting·stop, waiting·weight}
 use Rattle.layout.specs.Offsets.{recordLength}
 use Rattle.components.specs.declared.Kind.the-variants.{Waiting}
 use Prim.Native.Nat.{ℕ, _+_, _*_}
 use Rattle.bits.specs.Field.{fieldAt}
-use Rattle.columns.specs.Held.{held}
+use Rattle.fields.specs.Held.{held}
 use Rattle.covered.specs.Same.{HoldsWaits, mask-same}
 use Rattle.layout.specs.Records.{waitingOf, sheetOf, from, read, double}
 use borrow.Author.Needs.{needs}
@@ -31,9 +31,9 @@ returns c =
     ∙ mask-same (sheetOf b (a .c)) _ _ _ _ _ _ _ (a .asked) _
     (c .before .before .before .before .before .before .before .before .before .before .before .before .before .before .before .before .before .before .before .before .before .before .before .pre .1 .0)
     (record {
-      stop = λ w l. held (λ k. read (from b (c .before .before .before .before .before .before .before .before .before .before .before .before .before .before .before .waits-from .result + recordLength Waiting * k)) waitingStop) (a .c .waits) _ _ (c .before .before .before .before .before .before .before .before .before .before .before .before .before .fill32 .ensures .1) 0 w l ∙ ap (λ (x : ℕ). read (from b (x + recordLength Waiting * w)) waitingStop) at;
-      required-line = λ w l. held (λ k. read (from b (c .before .before .before .before .before .before .before .before .before .before .before .before .before .before .before .waits-from .result + recordLength Waiting * k)) waitingLine) (a .c .waits) _ _ (c .before .before .before .before .before .before .before .before .before .before .fill322 .ensures .1) 0 w l ∙ ap (λ (x : ℕ). read (from b (x + recordLength Waiting * w)) waitingLine) at;
-      weight = λ w l. held (λ k. double (from b (c .before .before .before .before .before .before .before .before .before .before .before .before .before .before .before .waits-from .result + recordLength Waiting * k)) waitingWeight) (a .c .waits) _ _ (c .before .before .before .before .before .before .before .fill-doubles .ensures .1) nan w l ∙ ap (λ (x : ℕ). double (from b (x + recordLength Waiting * w)) waitingWeight) at;
+      stop = λ w l. held (λ k. read (from b (c .before .before .before .before .before .before .before .before .before .before .before .before .before .before .before .waits-from .result + recordLength Waiting * k)) waiting·stop) (a .c .waits) _ _ (c .before .before .before .before .before .before .before .before .before .before .before .before .before .fill32 .ensures .1) 0 w l ∙ ap (λ (x : ℕ). read (from b (x + recordLength Waiting * w)) waiting·stop) at;
+      required-line = λ w l. held (λ k. read (from b (c .before .before .before .before .before .before .before .before .before .before .before .before .before .before .before .waits-from .result + recordLength Waiting * k)) waiting·line) (a .c .waits) _ _ (c .before .before .before .before .before .before .before .before .before .before .fill322 .ensures .1) 0 w l ∙ ap (λ (x : ℕ). read (from b (x + recordLength Waiting * w)) waiting·line) at;
+      weight = λ w l. held (λ k. double (from b (c .before .before .before .before .before .before .before .before .before .before .before .before .before .before .before .waits-from .result + recordLength Waiting * k)) waiting·weight) (a .c .waits) _ _ (c .before .before .before .before .before .before .before .fill-doubles .ensures .1) nan w l ∙ ap (λ (x : ℕ). double (from b (x + recordLength Waiting * w)) waiting·weight) at;
     })
     (c .before .before .before .before .before .before .before .before .before .before .before .before .before .before .before .before .before .before .before .before .before .before .before .pre .1 .1)
 

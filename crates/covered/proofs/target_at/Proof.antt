@@ -1,5 +1,5 @@
 -- covered::target_at meets its contract.
-use Rattle.layout.specs.Table.{carPhase, carStop, carTarget}
+use Rattle.layout.specs.Table.{car·phase, car·stop, car·target}
 use Prim.Native.Nat.{ℕ, _+_}
 use Rattle.components.specs.Cars.{servicing}
 use Rattle.components.specs.Codes.{phaseOf}
@@ -14,20 +14,20 @@ use Rattle.covered.proofs.target_at.Statement.{statement}
 use Rattle.covered.proofs.target_at.Tie as tie
 
 serving : (s : List ℕ) (at : ℕ) {code stop target : ℕ} {phase : Phase} {serves : Bool} →
-    code ≡ read (from s at) carPhase →
-    stop ≡ read (from s at) carStop →
+    code ≡ read (from s at) car·phase →
+    stop ≡ read (from s at) car·stop →
     phase ≡ phaseOf code stop →
     serves ≡ servicing phase →
     serves ≡ true →
-    target ≡ read (from s at) carTarget →
+    target ≡ read (from s at) car·target →
     target ≡ servedTarget (carOf (from s at))
 unfolding carOf
 serving s at code-is stop-is phase-is serves-is is target-is =
     rw (← code-is, ← stop-is, ← phase-is, ← serves-is, is) target-is
 
 not-serving : (s : List ℕ) (at : ℕ) {code stop : ℕ} {phase : Phase} {serves : Bool} →
-    code ≡ read (from s at) carPhase →
-    stop ≡ read (from s at) carStop →
+    code ≡ read (from s at) car·phase →
+    stop ≡ read (from s at) car·stop →
     phase ≡ phaseOf code stop →
     serves ≡ servicing phase →
     serves ≡ false →

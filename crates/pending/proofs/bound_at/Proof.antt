@@ -1,6 +1,6 @@
 -- pending::bound_at meets its contract.
 use Prim.Native.Nat.{ℕ}
-use Rattle.columns.specs.Named.{contains}
+use Rattle.fields.specs.Named.{contains}
 use Rattle.pending.specs.Masks.{boundId}
 use borrow.Author.Needs.{needs}
 use mathlib.Core.Path.{_≡_, sym, ap, _∙_}

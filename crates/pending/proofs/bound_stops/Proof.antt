@@ -1,13 +1,13 @@
 -- pending::bound_stops meets its contract.
-use Rattle.layout.specs.Table.{carId, carListed}
+use Rattle.layout.specs.Table.{car·id, car·listed}
 use Rattle.layout.specs.Offsets.{recordLength}
 use Rattle.components.specs.declared.Kind.the-variants.{Car, Aboard}
 use Prim.Native.Nat.{ℕ, _+_, _*_, _<_}
 use Rattle.laws.specs.Bools.{kept-id}
 use Rattle.assignment.specs.Pending.{idle, idleBound}
 use Rattle.bits.specs.Field.{fieldAt}
-use Rattle.columns.specs.Held.{held}
-use Rattle.columns.specs.Named.{contains, guarded}
+use Rattle.fields.specs.Held.{held}
+use Rattle.fields.specs.Named.{contains, guarded}
 use Rattle.laws.specs.Folds.{any, any-cong}
 use Rattle.laws.specs.Tables.{tab}
 use Rattle.layout.specs.Records.{carOf, aboardOf, sheetOf, from, read}
@@ -39,10 +39,10 @@ in-idle c x pos =
     let at = c .before .before .before .before .before .before .before .before .before .before .before .cars-from in
     any-cong (λ i. eqb (getD (c .before .before .before .before .before .before .before .before .before .fill-guarded .last .1 .1 .1 .1 .1 .1 .1 .0) i 0) x) (λ i. idle s i && eqb (s .car i .id) x) (a .c .cars)
     (λ i li.
-    ap (λ (y : ℕ). eqb y x) (held-as (λ k. guarded b (at .result + recordLength Car * k) (carId .start) (carListed .start) 1) (a .c .cars) _ _ _ (c .before .before .before .before .before .before .before .before .before .fill-guarded .ensures .1) refl 0 i li)
-    ∙ guarded-column b (at .result + recordLength Car * i) (carId .start) (carListed .start) 1 x pos
-    ∙ ap (λ (t : Bool). eqb (read (from b (at .result + recordLength Car * i)) carId) x && t) (flag-is b (at .result + recordLength Car * i + carListed .start))
-    ∙ ap (λ (y : ℕ). eqb (read (from b (y + recordLength Car * i)) carId) x && eqb (read (from b (y + recordLength Car * i)) carListed) 1) (at .ensures)
+    ap (λ (y : ℕ). eqb y x) (held-as (λ k. guarded b (at .result + recordLength Car * k) (car·id .start) (car·listed .start) 1) (a .c .cars) _ _ _ (c .before .before .before .before .before .before .before .before .before .fill-guarded .ensures .1) refl 0 i li)
+    ∙ guarded-column b (at .result + recordLength Car * i) (car·id .start) (car·listed .start) 1 x pos
+    ∙ ap (λ (t : Bool). eqb (read (from b (at .result + recordLength Car * i)) car·id) x && t) (flag-is b (at .result + recordLength Car * i + car·listed .start))
+    ∙ ap (λ (y : ℕ). eqb (read (from b (y + recordLength Car * i)) car·id) x && eqb (read (from b (y + recordLength Car * i)) car·listed) 1) (at .ensures)
     ∙ and-comm (eqb (s .car i .id) x) (s .car i .listed))
 
 returns : tie.Need-returns

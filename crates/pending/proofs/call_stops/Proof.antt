@@ -1,11 +1,11 @@
 -- pending::call_stops meets its contract.
-use Rattle.layout.specs.Table.{demandCall, demandStop}
+use Rattle.layout.specs.Table.{demand·call, demand·stop}
 use Rattle.layout.specs.Offsets.{recordLength}
 use Rattle.components.specs.declared.Kind.the-variants.{Demand}
 use Prim.Native.Nat.{ℕ, _+_, _*_}
 use Rattle.bits.specs.Field.{fieldAt}
-use Rattle.columns.specs.Held.{held}
-use Rattle.columns.specs.Named.{guarded}
+use Rattle.fields.specs.Held.{held}
+use Rattle.fields.specs.Named.{guarded}
 use Rattle.layout.specs.Records.{demandOf, sheetOf, from, read}
 use Rattle.manifest.specs.Manifest.{riderlessCall}
 use Rattle.manifest.specs.World.{stopId}
@@ -29,10 +29,10 @@ returns c =
     c .named-stops .ensures
     ∙ named-mask s _ (a .c .demands) (a .names .now) (λ j d. eqb (s .demand d .stop) (stopId s j) && s .demand d .call) names
     (λ j i lj li.
-    ap (λ (x : ℕ). eqb x (stopId s j)) (held (λ k. guarded b (at .result + recordLength Demand * k) (demandStop .start) (demandCall .start) 1) (a .c .demands) _ _ (c .before .before .before .before .fill-guarded .ensures .1) 0 i li)
-    ∙ guarded-column b (at .result + recordLength Demand * i) (demandStop .start) (demandCall .start) 1 (stopId s j) (names .above-zero j lj)
-    ∙ ap (λ (t : Bool). eqb (read (from b (at .result + recordLength Demand * i)) demandStop) (stopId s j) && t) (flag-is b (at .result + recordLength Demand * i + demandCall .start))
-    ∙ ap (λ (x : ℕ). eqb (read (from b (x + recordLength Demand * i)) demandStop) (stopId s j) && eqb (read (from b (x + recordLength Demand * i)) demandCall) 1) (at .ensures))
+    ap (λ (x : ℕ). eqb x (stopId s j)) (held (λ k. guarded b (at .result + recordLength Demand * k) (demand·stop .start) (demand·call .start) 1) (a .c .demands) _ _ (c .before .before .before .before .fill-guarded .ensures .1) 0 i li)
+    ∙ guarded-column b (at .result + recordLength Demand * i) (demand·stop .start) (demand·call .start) 1 (stopId s j) (names .above-zero j lj)
+    ∙ ap (λ (t : Bool). eqb (read (from b (at .result + recordLength Demand * i)) demand·stop) (stopId s j) && t) (flag-is b (at .result + recordLength Demand * i + demand·call .start))
+    ∙ ap (λ (x : ℕ). eqb (read (from b (x + recordLength Demand * i)) demand·stop) (stopId s j) && eqb (read (from b (x + recordLength Demand * i)) demand·call) 1) (at .ensures))
 
 pub call-stops-spec : {M : Type 1} → statement M
 call-stops-spec =

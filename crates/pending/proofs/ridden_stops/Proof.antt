@@ -1,11 +1,11 @@
 -- pending::ridden_stops meets its contract.
-use Rattle.layout.specs.Table.{demandRiding, demandStop}
+use Rattle.layout.specs.Table.{demand·riding, demand·stop}
 use Rattle.layout.specs.Offsets.{recordLength}
 use Rattle.components.specs.declared.Kind.the-variants.{Demand}
 use Prim.Native.Nat.{ℕ, _+_, _*_}
 use Rattle.bits.specs.Field.{fieldAt}
-use Rattle.columns.specs.Held.{held}
-use Rattle.columns.specs.Named.{guarded}
+use Rattle.fields.specs.Held.{held}
+use Rattle.fields.specs.Named.{guarded}
 use Rattle.layout.specs.Records.{demandOf, sheetOf, from, read}
 use Rattle.manifest.specs.Manifest.{riddenTo}
 use Rattle.manifest.specs.World.{stopId}
@@ -30,10 +30,10 @@ returns c =
     c .named-stops .ensures
     ∙ named-mask s _ (a .c .demands) (a .names .now) (λ j d. eqb (s .demand d .stop) (stopId s j) && ltb 0 (s .demand d .riding)) names
     (λ j i lj li.
-    ap (λ (x : ℕ). eqb x (stopId s j)) (held (λ k. guarded b (at .result + recordLength Demand * k) (demandStop .start) (demandRiding .start) 16) (a .c .demands) _ _ (c .before .before .before .before .fill-guarded .ensures .1) 0 i li)
-    ∙ guarded-column b (at .result + recordLength Demand * i) (demandStop .start) (demandRiding .start) 16 (stopId s j) (names .above-zero j lj)
-    ∙ ap (λ (t : Bool). eqb (read (from b (at .result + recordLength Demand * i)) demandStop) (stopId s j) && t) (positive-is (read (from b (at .result + recordLength Demand * i)) demandRiding))
-    ∙ ap (λ (x : ℕ). eqb (read (from b (x + recordLength Demand * i)) demandStop) (stopId s j) && ltb 0 (read (from b (x + recordLength Demand * i)) demandRiding)) (at .ensures))
+    ap (λ (x : ℕ). eqb x (stopId s j)) (held (λ k. guarded b (at .result + recordLength Demand * k) (demand·stop .start) (demand·riding .start) 16) (a .c .demands) _ _ (c .before .before .before .before .fill-guarded .ensures .1) 0 i li)
+    ∙ guarded-column b (at .result + recordLength Demand * i) (demand·stop .start) (demand·riding .start) 16 (stopId s j) (names .above-zero j lj)
+    ∙ ap (λ (t : Bool). eqb (read (from b (at .result + recordLength Demand * i)) demand·stop) (stopId s j) && t) (positive-is (read (from b (at .result + recordLength Demand * i)) demand·riding))
+    ∙ ap (λ (x : ℕ). eqb (read (from b (x + recordLength Demand * i)) demand·stop) (stopId s j) && ltb 0 (read (from b (x + recordLength Demand * i)) demand·riding)) (at .ensures))
 
 pub ridden-stops-spec : {M : Type 1} → statement M
 ridden-stops-spec =

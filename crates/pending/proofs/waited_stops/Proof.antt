@@ -1,10 +1,10 @@
 -- pending::waited_stops meets its contract.
-use Rattle.layout.specs.Table.{waitingStop}
+use Rattle.layout.specs.Table.{waiting·stop}
 use Rattle.layout.specs.Offsets.{recordLength}
 use Rattle.components.specs.declared.Kind.the-variants.{Waiting}
 use Prim.Native.Nat.{ℕ, _+_, _*_}
 use Rattle.bits.specs.Field.{fieldAt}
-use Rattle.columns.specs.Held.{held}
+use Rattle.fields.specs.Held.{held}
 use Rattle.layout.specs.Records.{waitingOf, sheetOf, from, read}
 use Rattle.manifest.specs.Manifest.{someoneWaits}
 use Rattle.manifest.specs.World.{stopId}
@@ -28,8 +28,8 @@ returns c =
     c .named-stops .ensures
     ∙ named-mask s _ (a .c .waits) (a .names .now) (λ j w. eqb (s .waiting w .stop) (stopId s j)) names
     (λ j i lj li.
-    ap (λ (x : ℕ). eqb x (stopId s j)) (held (λ k. read (from b (at .result + recordLength Waiting * k)) waitingStop) (a .c .waits) _ _ (c .before .before .before .before .fill32 .ensures .1) 0 i li)
-    ∙ ap (λ (x : ℕ). eqb (read (from b (x + recordLength Waiting * i)) waitingStop) (stopId s j)) (at .ensures))
+    ap (λ (x : ℕ). eqb x (stopId s j)) (held (λ k. read (from b (at .result + recordLength Waiting * k)) waiting·stop) (a .c .waits) _ _ (c .before .before .before .before .fill32 .ensures .1) 0 i li)
+    ∙ ap (λ (x : ℕ). eqb (read (from b (x + recordLength Waiting * i)) waiting·stop) (stopId s j)) (at .ensures))
 
 pub waited-stops-spec : {M : Type 1} → statement M
 waited-stops-spec =

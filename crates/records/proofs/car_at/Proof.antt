@@ -1,7 +1,6 @@
 -- records::car_at meets its contract.
-use Rattle.bits.specs.Field.{flagAt}
 use Rattle.components.specs.Codes.{phaseOf, directionOf, modeOf}
-use Rattle.layout.specs.Table.{carCapacity, carLoad}
+use Rattle.layout.specs.Table.{car·capacity, car·load}
 use Rattle.layout.specs.Records.{from, double, carOf}
 use borrow.Author.Needs.{needs}
 use mathlib.Core.Path.{_≡_, ap, ap₂, _∙_}
@@ -9,7 +8,7 @@ use Rattle.records.proofs.car_at.Statement.{statement}
 use Rattle.records.proofs.car_at.Tie as tie
 
 returns : tie.Need-returns
-unfolding carOf flagAt
+unfolding carOf
 returns c =
     let d1 = c .before .before .before .before in
     let d2 = d1 .before .before .before .before in
@@ -17,8 +16,8 @@ returns c =
     let d4 = d3 .before .before .before .before in
     let d5 = d4 .before .before .before .before in
     let a = d5 .before .before .before .before .args in
-    let capacity : d1 .before .before .before .double-at3 .result ≡ double (from (a .s .now) (a .at)) carCapacity = d1 .before .before .before .double-at3 .ensures in
-    let load : d1 .before .before .double-at4 .result ≡ double (from (a .s .now) (a .at)) carLoad = d1 .before .before .double-at4 .ensures in
+    let capacity : d1 .before .before .before .double-at3 .result ≡ double (from (a .s .now) (a .at)) car·capacity = d1 .before .before .before .double-at3 .ensures in
+    let load : d1 .before .before .double-at4 .result ≡ double (from (a .s .now) (a .at)) car·load = d1 .before .before .double-at4 .ensures in
     λ i. record {
       id = d5 .before .before .field32 .ensures i;
       line = d5 .before .field322 .ensures i;

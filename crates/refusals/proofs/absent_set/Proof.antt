@@ -1,11 +1,9 @@
 -- refusals::absent_set meets its contract.
-use Rattle.bits.specs.Field.{flagAt}
 use borrow.Author.Needs.{needs}
 use Rattle.refusals.proofs.absent_set.Statement.{statement}
 use Rattle.refusals.proofs.absent_set.Tie as tie
 
 returns : tie.Need-returns
-unfolding flagAt
 returns c = cc
 
 pub absent-set-spec : {M : Type 1} → statement M

@@ -1,11 +1,9 @@
 -- refusals::present_zero meets its contract.
-use Rattle.bits.specs.Field.{flagAt}
 use borrow.Author.Needs.{needs}
 use Rattle.refusals.proofs.present_zero.Statement.{statement}
 use Rattle.refusals.proofs.present_zero.Tie as tie
 
 returns : tie.Need-returns
-unfolding flagAt
 returns c = cc
 
 pub present-zero-spec : {M : Type 1} → statement M

@@ -3,7 +3,7 @@ use Prim.Native.Nat.{ℕ, _+_}
 use Rattle.bits.specs.Field.{fieldAt}
 use Rattle.fp.specs.Ranges.{isPosition}
 use Rattle.layout.specs.Offsets.{endOf}
-use Rattle.layout.specs.Table.{stopPosition, stopId}
+use Rattle.layout.specs.Table.{stop·position, stop·id}
 use Rattle.layout.specs.Records.{from, double, read}
 use Rattle.layout.specs.Refusals.{lastStop, refusal9Stop, refusal11Stop}
 use Rattle.layout.specs.Verdict.{pick, firstOf, bodyRefusal}
@@ -21,9 +21,9 @@ use Rattle.refusals.proofs.stop_refusal.Tie as tie
 -- the conditions as they are read, then the picks from the last to the first
 by-number : (s : List ℕ) (c : Counts) {at id last r11 r9 : ℕ} {position : Float} {placed : Bool} →
     at ≡ endOf c →
-    id ≡ read (from s at) stopId →
+    id ≡ read (from s at) stop·id →
     last ≡ lastStop s c →
-    position ≡ double (from s at) stopPosition →
+    position ≡ double (from s at) stop·position →
     placed ≡ isPosition position →
     r11 ≡ pick (not placed) 11 0 →
     r9 ≡ pick (eqb id 0 || leb id last) 9 r11 →

@@ -3,7 +3,7 @@ use Prim.Native.Nat.{ℕ, _+_}
 use Rattle.bits.specs.Field.{fieldAt}
 use Rattle.fp.specs.Ranges.{isMass}
 use Rattle.layout.specs.Offsets.{endOf}
-use Rattle.layout.specs.Table.{waitingWeight, waitingStop, waitingWait}
+use Rattle.layout.specs.Table.{waiting·weight, waiting·stop, waiting·wait}
 use Rattle.layout.specs.Records.{from, double, read}
 use Rattle.layout.specs.Refusals.{hasStop, refusal8Waiting, refusal9Waiting, refusal10Waiting, refusal11Waiting, refusal14}
 use Rattle.layout.specs.Verdict.{pick, firstOf, bodyRefusal}
@@ -20,10 +20,10 @@ use Rattle.refusals.proofs.waiting_refusal.Tie as tie
 -- the conditions as they are read, then the picks from the last to the first
 by-number : (s : List ℕ) (c : Counts) {at stop wait r14 r11 r10 r9 r8 : ℕ} {known light unused zero : Bool} →
     at ≡ endOf c →
-    stop ≡ read (from s at) waitingStop →
+    stop ≡ read (from s at) waiting·stop →
     known ≡ hasStop s c stop →
-    light ≡ isMass (double (from s at) waitingWeight) →
-    wait ≡ read (from s at) waitingWait →
+    light ≡ isMass (double (from s at) waiting·weight) →
+    wait ≡ read (from s at) waiting·wait →
     unused ≡ refusal8Waiting (from s at) →
     zero ≡ refusal9Waiting (from s at) →
     r14 ≡ pick (ltb 9007199254740992 wait) 14 0 →

@@ -1,6 +1,6 @@
 -- refusals_car::long_doors meets its contract.
 use Prim.Native.Nat.{ℕ, _+_, _*_}
-use Rattle.layout.specs.Table.{carTransition, carDwell}
+use Rattle.layout.specs.Table.{car·transition, car·dwell}
 use Rattle.layout.specs.Records.{from, read}
 use Rattle.layout.specs.Refusals.{refusal13}
 use borrow.Author.Needs.{needs}
@@ -11,8 +11,8 @@ use Rattle.refusals_car.proofs.long_doors.Statement.{statement}
 use Rattle.refusals_car.proofs.long_doors.Tie as tie
 
 as-read : (s : List ℕ) (at : ℕ) {transition dwell : ℕ} →
-    transition ≡ read (from s at) carTransition →
-    dwell ≡ read (from s at) carDwell →
+    transition ≡ read (from s at) car·transition →
+    dwell ≡ read (from s at) car·dwell →
     ltb 4294967295 (2 * transition + dwell) ≡ refusal13 (from s at)
 unfolding refusal13
 as-read s at transition-is dwell-is = rw (transition-is, dwell-is)

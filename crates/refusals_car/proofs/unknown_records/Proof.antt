@@ -1,7 +1,7 @@
 -- refusals_car::unknown_records meets its contract.
 use Prim.Native.Nat.{ℕ}
 use Rattle.layout.specs.Offsets.{endOf}
-use Rattle.layout.specs.Table.{carLine, carRestricted, carCalls}
+use Rattle.layout.specs.Table.{car·line, car·restricted, car·calls}
 use Rattle.layout.specs.Records.{from, read}
 use Rattle.layout.specs.Refusals.{hasLine, refusal10Car}
 use Rattle.layout.specs.declared.Counts.{Counts}
@@ -15,11 +15,11 @@ use Rattle.refusals_car.proofs.unknown_records.Tie as tie
 
 as-read : (s : List ℕ) (c : Counts) {at line restricted calls : ℕ} {known restricted-past calls-past : Bool} →
     at ≡ endOf c →
-    line ≡ read (from s at) carLine →
+    line ≡ read (from s at) car·line →
     known ≡ hasLine s c line →
-    restricted ≡ read (from s at) carRestricted →
+    restricted ≡ read (from s at) car·restricted →
     restricted-past ≡ pastStops restricted (c .stops) →
-    calls ≡ read (from s at) carCalls →
+    calls ≡ read (from s at) car·calls →
     calls-past ≡ pastStops calls (c .stops) →
     (not known || (restricted-past || calls-past)) ≡ refusal10Car s c (from s (endOf c))
 unfolding refusal10Car

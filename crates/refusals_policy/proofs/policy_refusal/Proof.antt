@@ -1,5 +1,5 @@
 -- refusals_policy::policy_refusal meets its contract.
-use Rattle.layout.specs.Table.{policyLimit}
+use Rattle.layout.specs.Table.{policy·limit}
 use Prim.Native.Nat.{ℕ, _+_}
 use Rattle.bits.specs.Field.{fieldAt}
 use Rattle.layout.specs.Offsets.{endOf}
@@ -19,7 +19,7 @@ use Rattle.refusals_policy.proofs.policy_refusal.Tie as tie
 -- the conditions as they are read, then the picks from the last to the first
 by-number : (s : List ℕ) (c : Counts) {at limit r15 r12 r11 r8 : ℕ} {weighed unused outside : Bool} →
     at ≡ endOf c →
-    limit ≡ read (from s at) policyLimit →
+    limit ≡ read (from s at) policy·limit →
     weighed ≡ refusal15 (from s at) →
     unused ≡ refusal8Policy (from s at) →
     outside ≡ refusal11Policy (from s at) →

@@ -1,13 +1,13 @@
 -- riders::destinations meets its contract.
 use Prim.Native.Nat.{_≤_, _-_}
-use Rattle.riders.specs.Riders.{Held, held-start, held-le, held-length, held-next, held-end}
+use Rattle.riders.specs.Riders.{Seating, held-start, held-le, held-length, held-next, held-end}
 use borrow.Author.Needs.{needs}
 use native.Mathlib.Omega.{arith}
 use Rattle.riders.proofs.destinations.Statement.{statement}
 use Rattle.riders.proofs.destinations.Tie as tie
 
 abbrev Inv-loop : tie.InvT-loop
-Inv-loop ids xs n acar adest na id dests₀ at₀ a₀ dests at a = (a ≤ na) × Held ids xs n acar adest id a at dests₀ dests
+Inv-loop ids xs n acar adest na id dests₀ at₀ a₀ dests at a = (a ≤ na) × Seating ids xs n acar adest id a at dests₀ dests
 
 abbrev μ-loop : tie.MeasureT-loop
 μ-loop ids xs n acar adest na id dests₀ at₀ a₀ dests at a = na - a

@@ -6,12 +6,13 @@ use Rattle.components.specs.declared.Policy.{Policy}
 use Rattle.components.specs.declared.Rank.{Rank}
 use Rattle.components.specs.declared.Rank.the-variants.{Never}
 use Rattle.dispatch.specs.Pairs.{usefulBy}
-use Rattle.etd.specs.Etd.{finiteRank}
+use Rattle.dispatch.specs.FiniteRank.{finiteRank}
 use Rattle.fp.specs.Num.{zero}
 use Rattle.manifest.specs.declared.Waiters.{Waiters}
 use Rattle.mask.specs.Mask.{has}
 use Rattle.riders.specs.declared.Riders.{Riders}
-use Rattle.rsr.specs.Pairs.{costBy, rankBy}
+use Rattle.rsr.specs.Pairs.{rankBy}
+use Rattle.rsr.specs.Rsr.{rsrCostOf}
 use borrow.Author.Needs.{needs}
 use lib.Ieee.{Float, nan, le}
 use lib.ListN.{getD}
@@ -37,7 +38,7 @@ module _ (y : Policy) (car : Car) (goal : Place) (r : Riders) (dests : List Floa
       useful ≡ usefulBy car goal r dests w here (getD xs j nan) true →
       useful ≡ true →
       le (car .speed) zero ≡ false →
-      cost ≡ costBy y car goal w call (getD xs j nan) →
+      cost ≡ rsrCostOf y car goal (w .waitsum) call (getD xs j nan) →
       rank ≡ finiteRank cost →
       rank ≡ rankBy y car goal r dests w xs j
   unfolding rankBy

@@ -1,8 +1,8 @@
--- etd::finite_rank meets its contract.
-use Rattle.etd.specs.Etd.{finiteRank}
+-- dispatch::finite_rank meets its contract.
+use Rattle.dispatch.specs.FiniteRank.{finiteRank}
 use borrow.Author.Needs.{needs}
-use Rattle.etd.proofs.finite_rank.Statement.{statement}
-use Rattle.etd.proofs.finite_rank.Tie as tie
+use Rattle.dispatch.proofs.finite_rank.Statement.{statement}
+use Rattle.dispatch.proofs.finite_rank.Tie as tie
 
 returns : tie.Need-returns
 unfolding finiteRank

@@ -1,14 +1,14 @@
--- columns::named_stops meets its contract.
+-- fields::named_stops meets its contract.
 use Prim.Native.Nat.{ℕ, _≤_, _-_, _+_, _*_}
-use Rattle.columns.specs.Named.{named}
+use Rattle.fields.specs.Named.{named}
 use Rattle.laws.specs.Folds.{ended}
 use Rattle.mask.specs.Mask.{built}
 use Rattle.mask.specs.MaskLaws.{built-room, built-next}
 use borrow.Author.Needs.{needs}
 use mathlib.Core.Path.{_≡_, refl, sym, ap, _∙_}
 use native.Mathlib.Omega.{arith}
-use Rattle.columns.proofs.named_stops.Statement.{statement}
-use Rattle.columns.proofs.named_stops.Tie as tie
+use Rattle.fields.proofs.named_stops.Statement.{statement}
+use Rattle.fields.proofs.named_stops.Tie as tie
 
 abbrev Inv-loop : tie.InvT-loop
 Inv-loop ids k names n m₀ j₀ m j = (j ≤ 64) × (m ≡ built (named ids k names n) j)

@@ -1,7 +1,7 @@
--- columns::fill_doubles meets its contract.
+-- fields::fill_doubles meets its contract.
 use Prim.Native.Nat.{ℕ, _≤_, _-_, _+_, _*_}
 use Rattle.bits.specs.Field.{fieldAt}
-use Rattle.columns.proofs.Offset.{offset-small}
+use Rattle.fields.proofs.Offset.{offset-small}
 use Rattle.laws.specs.Tables.{tab, tab-next, tab-length}
 use borrow.Author.Needs.{needs}
 use lib.Ieee.{ofBits, binary64}
@@ -9,8 +9,8 @@ use lib.ListN.{length, drop, length-set}
 use mathlib.Core.List.{List, _++_}
 use mathlib.Core.Path.{_≡_, refl, ap, _∙_}
 use native.Mathlib.Omega.{arith}
-use Rattle.columns.proofs.fill_doubles.Statement.{statement}
-use Rattle.columns.proofs.fill_doubles.Tie as tie
+use Rattle.fields.proofs.fill_doubles.Statement.{statement}
+use Rattle.fields.proofs.fill_doubles.Tie as tie
 
 abbrev Inv-loop : tie.InvT-loop
 Inv-loop s base len off n out₀ i₀ out i = (i ≤ n) × (length out ≡ length out₀) × (out ≡ tab (λ k. ofBits binary64 (fieldAt (s) (base + len * k + off) 64)) i ++ drop i out₀)

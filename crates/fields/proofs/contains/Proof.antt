@@ -1,6 +1,6 @@
--- columns::contains meets its contract.
+-- fields::contains meets its contract.
 use Prim.Native.Nat.{ℕ, _≤_, _-_, _+_, _*_}
-use Rattle.columns.specs.Named.{contains}
+use Rattle.fields.specs.Named.{contains}
 use Rattle.laws.specs.Folds.{any, any-at, any-no, ended}
 use borrow.Author.Needs.{needs}
 use borrow.Author.Tests.{eq-eqb, ne-eqb}
@@ -11,8 +11,8 @@ use mathlib.Core.List.{List}
 use mathlib.Core.Logic.{_≢_}
 use mathlib.Core.Path.{_≡_, refl, sym, ap, _∙_}
 use native.Mathlib.Omega.{arith}
-use Rattle.columns.proofs.contains.Statement.{statement}
-use Rattle.columns.proofs.contains.Tie as tie
+use Rattle.fields.proofs.contains.Statement.{statement}
+use Rattle.fields.proofs.contains.Tie as tie
 
 abbrev Inv-loop : tie.InvT-loop
 Inv-loop ids n id i₀ i = (i ≤ n) × (false ≡ contains ids i id)

@@ -1,15 +1,15 @@
--- columns::fill_guarded meets its contract.
+-- fields::fill_guarded meets its contract.
 use Prim.Native.Nat.{ℕ, _≤_, _-_, _+_, _*_}
-use Rattle.columns.proofs.Offset.{offset-small}
-use Rattle.columns.specs.Named.{guarded}
+use Rattle.fields.proofs.Offset.{offset-small}
+use Rattle.fields.specs.Named.{guarded}
 use Rattle.laws.specs.Tables.{tab, tab-next}
 use borrow.Author.Needs.{needs}
 use lib.ListN.{length, drop, length-set}
 use mathlib.Core.List.{List, _++_}
 use mathlib.Core.Path.{_≡_, refl, sym, ap, _∙_}
 use native.Mathlib.Omega.{arith}
-use Rattle.columns.proofs.fill_guarded.Statement.{statement}
-use Rattle.columns.proofs.fill_guarded.Tie as tie
+use Rattle.fields.proofs.fill_guarded.Statement.{statement}
+use Rattle.fields.proofs.fill_guarded.Tie as tie
 
 abbrev Inv-loop : tie.InvT-loop
 Inv-loop s base len off guard w n out₀ i₀ out i = (i ≤ n) × (length out ≡ length out₀) × (out ≡ tab (λ k. guarded (s) (base + len * k) (off) (guard) (w)) i ++ drop i out₀)

@@ -1,14 +1,14 @@
--- columns::guarded_at meets its contract.
+-- fields::guarded_at meets its contract.
 use Prim.Native.Nat.{ℕ, _+_}
 use Rattle.bits.specs.Field.{fieldAt}
-use Rattle.columns.specs.Named.{guarded}
+use Rattle.fields.specs.Named.{guarded}
 use borrow.Author.Needs.{needs}
 use borrow.Author.Tests.{eq-eqb, ne-eqb}
 use mathlib.Core.List.{List}
 use mathlib.Core.Logic.{_≢_}
 use mathlib.Core.Path.{_≡_}
-use Rattle.columns.proofs.guarded_at.Statement.{statement}
-use Rattle.columns.proofs.guarded_at.Tie as tie
+use Rattle.fields.proofs.guarded_at.Statement.{statement}
+use Rattle.fields.proofs.guarded_at.Tie as tie
 
 hidden : (s : List ℕ) (at off guard w : ℕ) {guarding : ℕ} →
     guarding ≡ fieldAt s (at + guard) w →

@@ -7,7 +7,7 @@ ghost use lib.Ieee.{ofBits, binary64};
 ghost use Rattle.bits.specs.Field.{fieldAt};
 ghost use Rattle.laws.specs.Tables.{tab};
 ghost use Rattle.mask.specs.Mask.{built};
-ghost use Rattle.columns.specs.Named.{contains, named, guarded};
+ghost use Rattle.fields.specs.Named.{contains, named, guarded};
 
 // The 32 bits at off of each of n records, len bits each from base.
 pub fn fill32(s: &[u8], base: u32, len: u32, off: u32, n: usize, out: &mut [u32])

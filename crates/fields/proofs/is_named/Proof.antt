@@ -1,9 +1,9 @@
--- columns::is_named meets its contract.
-use Rattle.columns.specs.Named.{named}
+-- fields::is_named meets its contract.
+use Rattle.fields.specs.Named.{named}
 use borrow.Author.Needs.{needs}
 use borrow.Author.Tests.{lt-ltb, le-ltb}
-use Rattle.columns.proofs.is_named.Statement.{statement}
-use Rattle.columns.proofs.is_named.Tie as tie
+use Rattle.fields.proofs.is_named.Statement.{statement}
+use Rattle.fields.proofs.is_named.Tie as tie
 
 returns : tie.Need-returns
 unfolding named
