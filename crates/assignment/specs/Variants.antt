@@ -25,6 +25,19 @@ pub nearest-kept : (kept example.sheet 0 1 1 ≡ true) × (kept example.sheet 0 
 unfolding everything
 nearest-kept = (refl, refl)
 
+-- ---- the example with stop 2 barred to car 7: bit 1,596
+
+unfoldable pub passedBytes : List ℕ
+passedBytes = set example.bytes 199 8
+
+unfoldable pub passedSheet : Sheet
+passedSheet = sheetOf passedBytes example.counts
+
+-- the limit counts viable stops alone: stop 3 is kept, though stop 2 is nearer
+pub barred-passed : (kept passedSheet 0 1 1 ≡ false) × (kept passedSheet 0 1 2 ≡ true)
+unfolding everything passedBytes passedSheet
+barred-passed = (refl, refl)
+
 -- ---- the example with stops 2 and 3 barred to car 8: bits 2,333 and 2,334
 
 unfoldable pub barredBytes : List ℕ
