@@ -2,8 +2,8 @@
 ghost use mathlib.Core.Path.{_≡_};
 ghost use Prim.Native.Nat.{_≤_, _<_};
 ghost use Rattle.layout.specs.declared.Reading.the-variants.{Accepted};
-ghost use Rattle.layout.specs.Offsets.{Small, none, endOf};
-ghost use Rattle.layout.specs.Records.{from, sheetOf, limitOf};
+ghost use Rattle.layout.specs.Offsets.{headLength, Small, none, endOf};
+ghost use Rattle.layout.specs.Records.{from, policyOf, sheetOf, limitOf};
 ghost use Rattle.layout.specs.Refusals.{pastEnd, refusal4, tailFits};
 ghost use Rattle.layout.specs.Verdict.{headRules, firstOf, given, bodyRefusal, recordRefusal, tailVerdict, recordsVerdict, verdict};
 use components::Car;
@@ -165,8 +165,8 @@ pub fn read(s: &[u8]) -> Reading
 }
 
 // The policy record of a sheet, without its limit.
-pub fn policy_at(s: &[u8], c: Counts) -> Policy
-    ensures { λ r. ⌜ r ≡ sheetOf (now (s .entry)) c .policy ⌝ }
+pub fn policy_at(s: &[u8]) -> Policy
+    ensures { λ r. ⌜ r ≡ policyOf (from (now (s .entry)) headLength) ⌝ }
 {
     records::policy_at(s, head::BITS)
 }

@@ -25,7 +25,7 @@ pub fn fill_sweeps<'a>(
     requires { ⌜ Positioned (sheetOf (now s) c) (now xs) pending demand ⌝ }
     ensures { λ _. ⌜ (length (now (out .exit)) ≡ length (now (out .entry))) × (now (out .exit) ≡ tab (codeAfter (sheetOf (now (s .entry)) c)) (sheetOf (now (s .entry)) c .cars) ++ drop (sheetOf (now (s .entry)) c .cars) (now (out .entry))) ⌝ }
 {
-    let policy = sheet::policy_at(s, c);
+    let policy = sheet::policy_at(s);
     let strategy = policy.strategy;
     let n = c.cars as usize;
     let mut i: usize = 0;

@@ -17,7 +17,7 @@ returns c =
     let ds = c .before .before .before .before .before .fill-distances .last .1 .1 .0 in
     c .kept-stops .ensures
     ∙ ap (λ (v : ℕ). built (cut v ds (a .limit)) 64) (c .before .before .viable-stops .ensures)
-    ∙ kept-mask (sheetOf (a .s .now) (a .c)) (a .ids .now) (a .xs .now) (p .0 .2) (p .0 .0 .stops) (p .0 .3) (a .car) (a .stops) (c .before .before .before .line-stops .result) (p .1) (c .before .before .before .line-stops .ensures)
+    ∙ kept-mask (sheetOf (a .s .now) (a .c)) (a .xs .now) (p .0 .2) (p .0 .0 .stops) (p .0 .3) (a .car) (a .stops) (c .before .before .before .line-stops .result) (p .1) (c .before .before .before .line-stops .ensures)
     ds (c .before .before .before .before .before .fill-distances .ensures) (a .limit)
 
 pub kept-by-spec : {M : Type 1} → statement M

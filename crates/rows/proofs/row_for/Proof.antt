@@ -34,7 +34,7 @@ kept-by-requires : tie.Need-kept-by-requires
 unfolding sheetOf
 kept-by-requires c κs =
     let p = c .before .before .before .before .before .before .before .before .before .before .before .before .before .before .before .pre in
-    ((p .0 .0, p .0 .2, p .1 .stops-held, p .1 .rising), p .1 .stops-are)
+    ((p .0 .0, p .0 .2, record { at = p .1 .stops-held .at }, p .1 .rising), p .1 .stops-are)
 
 returns : tie.Need-returns
 unfolding sheetOf

@@ -1,11 +1,9 @@
 -- sheet::policy_at meets its contract.
-use Rattle.layout.specs.Records.{sheetOf}
 use borrow.Author.Needs.{needs}
 use Rattle.sheet.proofs.policy_at.Statement.{statement}
 use Rattle.sheet.proofs.policy_at.Tie as tie
 
 returns : tie.Need-returns
-unfolding sheetOf
 returns c = c .policy-at .ensures
 
 pub policy-at-spec : {M : Type 1} → statement M
