@@ -19,7 +19,7 @@ use Rattle.assignment_problem.specs.Insertion.{lift, lift-in, lift-out, Matched
 use Rattle.assignment_problem.specs.Insertion as Step
 use Rattle.alternating_tree.specs.Lists.{at, big, at-same, at-other, gain, gain-in, gain-out, left, left-in, left-out, Rooted, Nearest, RaisedRows, RaisedColumns, FreeColumn, DistancesRelaxed, Going, Gone}
 
--- a row's cells lie in the matrix
+-- the lengths of the lists
 pub record Sizes (u w ro co : List ℕ) : Type 0 where
   pub u32 : length u ≡ 32
   pub w65 : length w ≡ 65
@@ -31,6 +31,7 @@ pub record Scratch (di fr se : List ℕ) : Type 0 where
   pub fr65 : length fr ≡ 65
   pub se65 : length se ≡ 65
 
+-- n rows and cols columns of cells, none too large
 pub record Matrix (cells : List ℕ) (n cols : ℕ) : Type 0 where
   pub rows32 : n ≤ 32
   pub cols64 : cols ≤ 64
