@@ -19,7 +19,8 @@ ghost use Rattle.alternating_tree.specs.State.{Matrix};
 fn write(cells: &[u64], n: usize, cols: usize, col_of: &[usize], places: &mut [u32]) -> u64
     requires { ⌜ Matrix (now cells) n cols × (length (now «col_of») ≡ 32) × (n ≤ length (now places)) ⌝ }
     requires { ⌜ ((k : ℕ) → k < n → at (now «col_of») k < cols) ⌝ }
-    ensures { λ r. ⌜ (r ≡ total n (cellAt (now (cells .entry)) cols) (at (now («col_of» .entry)))) × (now (places .exit) ≡ tab (at (now («col_of» .entry))) n ++ drop n (now (places .entry))) ⌝ }
+    ensures total { λ r. ⌜ r ≡ total n (cellAt (now (cells .entry)) cols) (at (now («col_of» .entry))) ⌝ }
+    ensures columns { λ _. ⌜ now (places .exit) ≡ tab (at (now («col_of» .entry))) n ++ drop n (now (places .entry)) ⌝ }
 {
     let mut total = 0;
     let mut i = 0;
@@ -35,7 +36,8 @@ fn write(cells: &[u64], n: usize, cols: usize, col_of: &[usize], places: &mut [u
 // The choice of a matrix with cells up to 2^55: its columns stand first in places, and the answer is its total.
 pub fn choose(cells: &[u64], n: usize, cols: usize, places: &mut [u32]) -> u64
     requires { ⌜ Matrix (now cells) n cols × (n ≤ length (now places)) ⌝ }
-    ensures { λ r. ⌜ (r ≡ leastTotal (cellAt (now (cells .entry)) cols) n cols) × (now (places .exit) ≡ chosen (cellAt (now (cells .entry)) cols) n cols ++ drop n (now (places .entry))) ⌝ }
+    ensures total { λ r. ⌜ r ≡ leastTotal (cellAt (now (cells .entry)) cols) n cols ⌝ }
+    ensures columns { λ _. ⌜ now (places .exit) ≡ chosen (cellAt (now (cells .entry)) cols) n cols ++ drop n (now (places .entry)) ⌝ }
 {
     let mut u = [0u64; 32];
     let mut w = [0u64; 65];

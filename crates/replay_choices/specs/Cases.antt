@@ -26,7 +26,13 @@ answerOf m = record { found = foundOf m; total = leastOr m 0 }
 -- the first six bytes of the case at byte at: cars, columns, places, bytes a cell, and in two bytes how many cells
 abbrev pub headAt : List ℕ → ℕ → Case
 headAt s at =
-    record { cars = number s at 1; columns = number s (at + 1) 1; places = number s (at + 2) 1; width = number s (at + 3) 1; cells = number s (at + 4) 2 }
+    record {
+      cars = number s at 1;
+      columns = number s (at + 1) 1;
+      places = number s (at + 2) 1;
+      width = number s (at + 3) 1;
+      cells = number s (at + 4) 2;
+    }
 
 -- cells of w bytes each from byte at on
 abbrev pub cellIn : List ℕ → ℕ → ℕ → ℕ → ℕ
@@ -53,7 +59,8 @@ blanks n = tab (λ k. 99) n
 
 -- an answer, or what it leaves in the places, is not as stored from byte at on
 abbrev pub apart : List ℕ → ℕ → Answer → List ℕ → Bool
-apart s at got left = not (eqb (got .found) (number s at 1)) || (not (eqb (got .total) (number s (at + 1) 8)) || any (misplaced s (at + 9) left) (length left))
+apart s at got left =
+    not (eqb (got .found) (number s at 1)) || (not (eqb (got .total) (number s (at + 1) 8)) || any (misplaced s (at + 9) left) (length left))
 
 -- so it is for the matcher's promise
 unfoldable pub differ : List ℕ → ℕ → Case → Bool
@@ -74,11 +81,13 @@ unfoldable pub turnOf : List ℕ → ℕ → Totals → Step
 turnOf s at t =
     cond (ltb (length s - at) 15) (cutAt s t) (cond (broken (headAt s at) (length s - at)) (cutAt s t) (comparedAt s at (headAt s at) t))
 
+-- no case yet
+abbrev pub start : Step
+start = record { next = 0; totals = record { compared = 0; differ = 0 } }
+
 -- byte at is reached with these totals
 abbrev pub Met : List ℕ → ℕ → Totals → Type 0
-Met s at t =
-    Reached (λ (p : Step). p .next) (λ p. turnOf s (p .next) (p .totals)) (record { next = 0; totals = record { compared = 0; differ = 0 } }) (length s)
-    (record { next = at; totals = t })
+Met s at t = Reached (λ (p : Step). p .next) (λ p. turnOf s (p .next) (p .totals)) start (length s) (record { next = at; totals = t })
 
 -- the totals after the whole list
 abbrev pub Replayed : List ℕ → Totals → Type 0
@@ -181,7 +190,8 @@ cut-short s at t {r} l h e is =
       counted = rw e (record { compared = omega (arith, h .compared); differ = omega (arith, h .differ) });
     }
 
-pub turn-headless : (s : List ℕ) (at : ℕ) (t : Totals) {r : Step} → at < length s → Counted at t → length s - at < 15 → r ≡ cutAt s t → Turned s at t r
+pub turn-headless : (s : List ℕ) (at : ℕ) (t : Totals) {r : Step} → at < length s → Counted at t → length s - at < 15 → r ≡ cutAt s t
+    → Turned s at t r
 unfolding turnOf
 turn-headless s at t l h short e = cut-short s at t l h e (rw (lt-ltb (length s - at) 15 short) e)
 
@@ -196,7 +206,8 @@ pub turn-whole : (s : List ℕ) (at : ℕ) (t : Totals) {h : Case} {b : Bool} {r
 unfolding turnOf
 turn-whole s at t {h} {b} {r} l k long eh eb is e =
     record {
-      is = rw (le-ltb (length s - at) 15 long, ap (λ (c : Case). broken c (length s - at)) (sym eh) ∙ sym eb ∙ is) (e ∙ ap (λ (c : Case). comparedAt s at c t) eh);
+      is = rw (le-ltb (length s - at) 15 long, ap (λ (c : Case). broken c (length s - at)) (sym eh) ∙ sym eb ∙ is)
+          (e ∙ ap (λ (c : Case). comparedAt s at c t) eh);
       on = rw e (omega arith);
       within = rw e (omega (arith, not-broken h (length s - at) (sym eb ∙ is) .within));
       counted = rw e (record { compared = omega (arith, k .compared); differ = omega (arith, k .differ, bit-lt (differ s at h)) });
@@ -204,11 +215,11 @@ turn-whole s at t {h} {b} {r} l k long eh eb is e =
 
 pub met-start : (s : List ℕ) → Met s 0 (record { compared = 0; differ = 0 })
 met-start s =
-    reached-start (λ (p : Step). p .next) (λ p. turnOf s (p .next) (p .totals)) (record { next = 0; totals = record { compared = 0; differ = 0 } }) (length s)
+    reached-start (λ (p : Step). p .next) (λ p. turnOf s (p .next) (p .totals)) start (length s)
 
 pub met-next : (s : List ℕ) (at : ℕ) (t : Totals) {r : Step} → Met s at t → at < length s → r ≡ turnOf s at t → Met s (r .next) (r .totals)
 met-next s at t {r} h l e =
-    reached-next (λ (p : Step). p .next) (λ p. turnOf s (p .next) (p .totals)) (record { next = 0; totals = record { compared = 0; differ = 0 } }) (length s)
+    reached-next (λ (p : Step). p .next) (λ p. turnOf s (p .next) (p .totals)) start (length s)
     (record { next = at; totals = t }) {r = r} h l e
 
 pub met-end : (s : List ℕ) (at : ℕ) (t : Totals) → Met s at t → at ≤ length s → length s ≤ at → Replayed s t
