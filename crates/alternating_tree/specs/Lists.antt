@@ -25,7 +25,7 @@ pub record FreeColumn (ro : List ℕ) (n cols r : ℕ) : Type 0 where
   pub here : r < cols → n ≤ at ro r
 
 -- the new row alone: the distance of each column is its slack, seen from the stand, which is at distance 0
-pub record Begun (cells : List ℕ) (cols i : ℕ) (w di fr : List ℕ) : Type 0 where
+pub record Rooted (cells : List ℕ) (cols i : ℕ) (w di fr : List ℕ) : Type 0 where
   pub distances : (j : ℕ) → j < cols → at di j ≡ at cells (i * cols + j) + at w j
   pub froms : (j : ℕ) → j < cols → at fr j ≡ cols
   pub home : at di cols ≡ 0
@@ -69,14 +69,14 @@ abbrev pub Lowered : (col d ur cj wj k f k′ f′ : ℕ) → Type 0
 Lowered col d ur cj wj k f k′ f′ =
     ((k′ ≡ k) × (f′ ≡ f) × (k + ur ≤ cj + wj + d)) ⊎ ((f′ ≡ col) × (k′ ≤ k) × (k′ + ur ≡ cj + wj + d))
 
-pub record Relaxed (cells : List ℕ) (cols r ur col d : ℕ) (w se di fr di′ fr′ : List ℕ) : Type 0 where
+pub record DistancesRelaxed (cells : List ℕ) (cols r ur col d : ℕ) (w se di fr di′ fr′ : List ℕ) : Type 0 where
   pub kept : (j : ℕ) → j < cols → 0 < at se j → (at di′ j ≡ at di j) × (at fr′ j ≡ at fr j)
   pub lowered : (j : ℕ) → j < cols → at se j ≡ 0
       → Lowered col d ur (at cells (r * cols + j)) (at w j) (at di j) (at fr j) (at di′ j) (at fr′ j)
   pub stand : at di′ cols ≡ at di cols
 
 -- the row r, or nothing, stands at column x
-pub record Put (n r x : ℕ) (ro co ro′ co′ : List ℕ) : Type 0 where
+pub record Stationed (n r x : ℕ) (ro co ro′ co′ : List ℕ) : Type 0 where
   pub here : at ro′ x ≡ r
   pub others : (y : ℕ) → (y ≡ x → ⊥) → at ro′ y ≡ at ro y
   pub column : r < n → at co′ r ≡ x

@@ -17,9 +17,9 @@ use Rattle.assignment_problem.specs.Chosen.{chosen-choice, chosen-total, chosen
 use Rattle.assignment_problem.specs.Prices.{tight-least}
 use Rattle.assignment_problem.specs.Insertion.{lift, lift-in, lift-out, Matched, Priced, Tree, Path, Walk, lift-priced, lift-tree, mark, start-matched, start-priced, start-tree, way, walk-start, walk-matched, walk-priced, some-free, matched-choice, priced-tight}
 use Rattle.assignment_problem.specs.Insertion as Step
-use Rattle.alternating_tree.specs.Lists.{at, big, at-same, at-other, gain, gain-in, gain-out, left, left-in, left-out, Begun, Nearest, RaisedRows, RaisedColumns, FreeColumn, Relaxed, Going, Gone}
+use Rattle.alternating_tree.specs.Lists.{at, big, at-same, at-other, gain, gain-in, gain-out, left, left-in, left-out, Rooted, Nearest, RaisedRows, RaisedColumns, FreeColumn, DistancesRelaxed, Going, Gone}
 
--- a row's cells lie in the matrix
+-- the lengths of the lists
 pub record Sizes (u w ro co : List ℕ) : Type 0 where
   pub u32 : length u ≡ 32
   pub w65 : length w ≡ 65
@@ -31,6 +31,7 @@ pub record Scratch (di fr se : List ℕ) : Type 0 where
   pub fr65 : length fr ≡ 65
   pub se65 : length se ≡ 65
 
+-- n rows and cols columns of cells, none too large
 pub record Matrix (cells : List ℕ) (n cols : ℕ) : Type 0 where
   pub rows32 : n ≤ 32
   pub cols64 : cols ≤ 64
@@ -76,7 +77,7 @@ pub record Cleared (cols : ℕ) (se : List ℕ) : Type 0 where
 pub record Joined (cells : List ℕ) (cols r ur j t d : ℕ) (w se di fr se′ di′ fr′ : List ℕ) : Type 0 where
   pub turned : at se′ j ≡ t
   pub others : (x : ℕ) → (x ≡ j → ⊥) → at se′ x ≡ at se x
-  pub relaxed : Relaxed cells cols r ur j d w se′ di fr di′ fr′
+  pub relaxed : DistancesRelaxed cells cols r ur j d w se′ di fr di′ fr′
 
 -- how many columns are outside the tree
 unfoldable pub unseen : ℕ → List ℕ → ℕ
@@ -395,7 +396,7 @@ unseen-most cols se = le-cols cols
 -- row i at the stand
 pub prepared : {cells : List ℕ} {n cols i f : ℕ} {u w ro co : List ℕ} (di fr se : List ℕ)
     → Matrix cells n cols → i < n → Sizes u w ro co → State cells n cols i u w ro co → FreeColumn ro n cols f
-    → Cleared cols se → Begun cells cols i w di fr
+    → Cleared cols se → Rooted cells cols i w di fr
     → Growing cells n cols i 1 f 0 (set u i 0) w (set ro cols i) (set co i cols) di fr se
 prepared {cells} {n} {cols} {i} {f} {u} {w} {ro} {co} di fr se mx li sz st fc cl be = record {
   U = at (set u i 0);

@@ -14,8 +14,7 @@ use Rattle.assignment_problem.specs.Choice.{cellAt}
 use Rattle.assignment_problem.specs.Recursion.{chosen, leastTotal, columnOf}
 use Rattle.assignment_problem.specs.Chosen.{chosen-length, chosen-choice}
 use Rattle.matcher.specs.declared.Matching.{Matching}
-use Rattle.matcher.specs.Promise.{tooLarge, refused, matching, written, totalOr}
-use Rattle.matcher.specs.Fits.{fits}
+use Rattle.matcher.specs.Promise.{tooLarge, refused, matching, written, leastOr, all-fit}
 
 -- n rows of cells, none above the sentinel; m columns with a listed stop; and room for the decisions
 pub record Filled (cells : List ℕ) (n columns m : ℕ) (stops ids : List ℕ) (places : ℕ) : Type 0 where
@@ -54,13 +53,13 @@ decisionBy cells n columns m stops ids r =
 module _ (cells : List ℕ) (n columns m : ℕ) (stops ids : List ℕ) (room : ℕ) (h : Filled cells n columns m stops ids room) where
   taken : (places : ℕ) → n ≤ places → refused n columns cells places ≡ false
   taken places l =
-      fits n columns cells places (h .few) (h .narrow) (h .wide) (h .whole) l
+      all-fit n columns cells places (h .few) (h .narrow) (h .wide) (h .whole) l
       (none-any (tooLarge cells) (length cells) (λ k lk. le-ltb sentinel (getD cells k 0) (h .small k lk)))
 
-  pub least-told : (places : ℕ) {answer : Matching} {t : ℕ} → n ≤ places → answer ≡ matching n columns cells places → t ≡ totalOr 0 answer
+  pub least-told : (places : ℕ) {answer : Matching} {t : ℕ} → n ≤ places → answer ≡ matching n columns cells places → t ≡ leastOr answer 0
       → t ≡ leastTotal (cellAt cells columns) n columns
   unfolding matching
-  least-told places {answer} {t} l e d = d ∙ ap (totalOr 0) e ∙ rw (taken places l)
+  least-told places {answer} {t} l e d = d ∙ ap (λ (a : Matching). leastOr a 0) e ∙ rw (taken places l)
 
   module _ (entry : List ℕ) (places : List ℕ) (l : n ≤ length entry) (e : places ≡ written n columns cells entry) where
     placed : (r : ℕ) → r < n → getD places r 0 ≡ columnOf (cellAt cells columns) n columns r

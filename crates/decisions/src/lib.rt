@@ -6,7 +6,7 @@ ghost use lib.ListN.{length, getD, drop};
 ghost use Rattle.laws.specs.Tables.{tab};
 ghost use Rattle.assignment_problem.specs.Choice.{cellAt};
 ghost use Rattle.assignment_problem.specs.Recursion.{leastTotal};
-ghost use Rattle.matcher.specs.Promise.{totalOr};
+ghost use Rattle.matcher.specs.Promise.{leastOr};
 ghost use Rattle.decisions.specs.Decisions.{Filled, told, toldAt, decisionBy};
 use matcher::Matching;
 
@@ -58,7 +58,7 @@ fn write<'a>(
 
 // The total of a matching, 0 where there is none.
 fn total(answer: Matching) -> u64
-    ensures { λ r. ⌜ r ≡ totalOr 0 answer ⌝ }
+    ensures { λ r. ⌜ r ≡ leastOr answer 0 ⌝ }
 {
     match answer {
         Matching::Least(least) => least,

@@ -26,7 +26,7 @@ pub record MayIs (cells : List ℕ) (n cols : ℕ) (u w : List ℕ) (r y : ℕ) 
   pub no-may : b ≡ false → MayIn cells n cols u w r y → ⊥
 
 -- the lists of the search: sizes, numbers that fit, and row i at the stand
-pub record Ready (cells : List ℕ) (n cols i : ℕ) (u w ro se fr qu : List ℕ) : Type 0 where
+pub record SearchReady (cells : List ℕ) (n cols i : ℕ) (u w ro se fr qu : List ℕ) : Type 0 where
   pub matrix : Matrix cells n cols
   pub row : i < n
   pub u32 : length u ≡ 32
@@ -38,8 +38,8 @@ pub record Ready (cells : List ℕ) (n cols i : ℕ) (u w ro se fr qu : List ℕ
   pub w-small : (j : ℕ) → j < cols → at w j ≤ big
   pub stand : at ro cols ≡ i
 
-pub ready-keep : {cells : List ℕ} {n cols i : ℕ} {u w ro se fr qu : List ℕ} (se′ fr′ qu′ : List ℕ) → Ready cells n cols i u w ro se fr qu
-    → length se′ ≡ length se → length fr′ ≡ length fr → length qu′ ≡ length qu → Ready cells n cols i u w ro se′ fr′ qu′
+pub ready-keep : {cells : List ℕ} {n cols i : ℕ} {u w ro se fr qu : List ℕ} (se′ fr′ qu′ : List ℕ) → SearchReady cells n cols i u w ro se fr qu
+    → length se′ ≡ length se → length fr′ ≡ length fr → length qu′ ≡ length qu → SearchReady cells n cols i u w ro se′ fr′ qu′
 ready-keep se′ fr′ qu′ r a b d = record {
   matrix = r .matrix;
   row = r .row;
@@ -105,7 +105,7 @@ pub record ExpandedAll (cells : List ℕ) (n cols i h len : ℕ) (u w ro se fr q
   pub space : len′ + unseen cols se′ ≤ len + unseen cols se
 
 -- the search from column j has ended: column k was seen, or every column seen has been looked from
-pub record Reached (cells : List ℕ) (n cols i j k : ℕ) (u w ro se se′ fr′ qu′ : List ℕ) (len′ : ℕ) : Type 0 where
+pub record SearchEnded (cells : List ℕ) (n cols i j k : ℕ) (u w ro se se′ fr′ qu′ : List ℕ) (len′ : ℕ) : Type 0 where
   pub looked : ℕ
   pub search : Search cells n cols i looked len′ (j + 1) u w ro se′ fr′ qu′
   pub all : at se′ k ≡ 0 → len′ ≤ looked
@@ -133,7 +133,7 @@ may-row {cells} {n} {cols} {u} {w} {r} {y} x lr ex = record {
 
 -- y is seen
 pub visit-push : {cells : List ℕ} {n cols i h len top : ℕ} {u w ro se fr qu : List ℕ} (x r y : ℕ)
-    → Ready cells n cols i u w ro se fr qu → Search cells n cols i h len top u w ro se fr qu → Source cols len top ro se x r y
+    → SearchReady cells n cols i u w ro se fr qu → Search cells n cols i h len top u w ro se fr qu → Source cols len top ro se x r y
     → at se y ≡ 0 → i ≤ at ro y → MayIn cells n cols u w r y
     → Visited cells n cols i h len top r y u w ro se qu (set se y (len + 1 + 1)) (set fr y x) (set qu len y) (len + 1)
 visit-push {cells} {n} {cols} {i} {h} {len} {top} {u} {w} {ro} {se} {fr} {qu} x r y rd s so out lr ma =
@@ -162,7 +162,7 @@ visit-push {cells} {n} {cols} {i} {h} {len} {top} {u} {w} {ro} {se} {fr} {qu} x 
       grows = omega arith;
     }
 
-pub push-space : (len : ℕ) {cells : List ℕ} {n cols i y : ℕ} {u w ro se fr qu : List ℕ} → Ready cells n cols i u w ro se fr qu → y < cols → at se y ≡ 0
+pub push-space : (len : ℕ) {cells : List ℕ} {n cols i y : ℕ} {u w ro se fr qu : List ℕ} → SearchReady cells n cols i u w ro se fr qu → y < cols → at se y ≡ 0
     → len + 1 + unseen cols (set se y (len + 1 + 1)) ≤ len + unseen cols se
 push-space len {cells} {n} {cols} {i} {y} {u} {w} {ro} {se} rd ly out =
     let l64 = rd .matrix .cols64 in
@@ -186,7 +186,7 @@ source-of {cells} {n} {cols} {i} {h} {len} {top} {u} {w} {ro} {se} {fr} {qu} x r
     record { within = omega arith; seen = omega arith; turn = omega arith; holds = er; target = ly; first = λ e. absurd (omega arith) }
 
 -- the stand as a source
-pub source-stand : {cells : List ℕ} {n cols i h len : ℕ} {u w ro se fr qu : List ℕ} (y : ℕ) → Ready cells n cols i u w ro se fr qu
+pub source-stand : {cells : List ℕ} {n cols i h len : ℕ} {u w ro se fr qu : List ℕ} (y : ℕ) → SearchReady cells n cols i u w ro se fr qu
     → Search cells n cols i h len (y + 1) u w ro se fr qu → y < cols → Source cols len (y + 1) ro se cols i y
 source-stand y rd s ly =
     let one = s .front .stand in
@@ -246,7 +246,7 @@ expand-done {cells} {n} {cols} {i} {h} {len} {len₁} {y} {u} {w} {ro} {se} {fr}
 }
 
 -- column j was looked at from the stand
-module _ {cells : List ℕ} {n cols i j len len₁ : ℕ} {u w ro se fr qu se₁ fr₁ qu₁ : List ℕ} (rd : Ready cells n cols i u w ro se fr qu) (lj : j < cols)
+module _ {cells : List ℕ} {n cols i j len len₁ : ℕ} {u w ro se fr qu se₁ fr₁ qu₁ : List ℕ} (rd : SearchReady cells n cols i u w ro se fr qu) (lj : j < cols)
     (s : Search cells n cols i len len j u w ro se fr qu) (va : VisitedAll cells n cols i len cols i j u w ro se fr qu se₁ fr₁ qu₁ len₁) where
   tried-first : Visited cells n cols i len len (j + 1) i j u w ro se qu se₁ fr₁ qu₁ len₁
   tried-first = va .visited len (j + 1) (search-top s) (source-stand j rd (search-top s) lj)
@@ -270,13 +270,13 @@ reach-step {cells} {n} {cols} {i} {j} re ea =
     record { search = e .search; tried = λ l ma. e .more j (re .tried l ma); more = λ z p. e .more z (re .more z p) }
 
 pub reach-found : {cells : List ℕ} {n cols i j k h len₁ : ℕ} {u w ro se₀ se se₁ fr₁ qu₁ : List ℕ} → ((z : ℕ) → 0 < at se₀ z → 0 < at se z)
-    → Reaching cells n cols i j h u w ro se se₁ fr₁ qu₁ len₁ → (at se₁ k ≡ 0 → len₁ ≤ h) → Reached cells n cols i j k u w ro se₀ se₁ fr₁ qu₁ len₁
+    → Reaching cells n cols i j h u w ro se se₁ fr₁ qu₁ len₁ → (at se₁ k ≡ 0 → len₁ ≤ h) → SearchEnded cells n cols i j k u w ro se₀ se₁ fr₁ qu₁ len₁
 reach-found {h = h} first re done =
     record { looked = h; search = re .search; all = done; tried = re .tried; more = λ z p. re .more z (first z p) }
 
 -- nothing is seen but the stand
-pub search-start : {cells : List ℕ} {n cols i : ℕ} {u w ro se fr qu : List ℕ} → Cleared cols se → Search cells n cols i 0 0 0 u w ro se fr qu
-search-start {cells} {n} {cols} {i} {u} {w} {ro} {se} cl =
+pub search-empty : {cells : List ℕ} {n cols i : ℕ} {u w ro se fr qu : List ℕ} → Cleared cols se → Search cells n cols i 0 0 0 u w ro se fr qu
+search-empty {cells} {n} {cols} {i} {u} {w} {ro} {se} cl =
     record { front = front-start (cl .stand) (cl .zeros); room = omega (arith, unseen-most cols se) }
 
 -- ---- row after row
@@ -424,7 +424,7 @@ module _ {cells : List ℕ} {n cols i len j : ℕ} {u w ro co se fr qu : List �
 
 -- the columns below j have been tried for row i, whose column is k
 pub record Lowering (cells : List ℕ) (n cols i k len j : ℕ) (u w ro co qu fr se : List ℕ) : Type 0 where
-  pub ready : Ready cells n cols i u w ro se fr qu
+  pub ready : SearchReady cells n cols i u w ro se fr qu
   pub co32 : length co ≡ 32
   pub settled : Settled cells n cols i u w ro co
   pub own : at co i ≡ k
@@ -453,7 +453,7 @@ lower-start {cells} {n} {cols} {i} {u} {w} {ro} {co} {qu} {fr} {se} {se′} sz s
   settled = settled-stand i st;
   own = refl;
   below = omega arith;
-  search = search-start cl;
+  search = search-empty cl;
   away = cl .zeros (at co i) (st .matched .back i li);
   passed = λ x lx. absurd (omega arith);
 }
@@ -470,7 +470,7 @@ module _ {cells : List ℕ} {n cols i k len j : ℕ} {u w ro co qu fr se : List 
 
   -- k was not seen from j either
   pub lower-next : {len′ : ℕ} {se′ fr′ qu′ : List ℕ} → j < k → length se′ ≡ length se → length fr′ ≡ length fr → length qu′ ≡ length qu
-      → Reached cells n cols i j k u w ro se se′ fr′ qu′ len′ → at se′ k ≡ 0 → Lowering cells n cols i k len′ (j + 1) u w ro co qu′ fr′ se′
+      → SearchEnded cells n cols i j k u w ro se se′ fr′ qu′ len′ → at se′ k ≡ 0 → Lowering cells n cols i k len′ (j + 1) u w ro co qu′ fr′ se′
   lower-next {len′} {se′} {fr′} {qu′} lt a b d re away = record {
     ready = ready-keep se′ fr′ qu′ (lo .ready) a b d;
     co32 = lo .co32;
@@ -492,7 +492,7 @@ module _ {cells : List ℕ} {n cols i k len j : ℕ} {u w ro co qu fr se : List 
       (let o = lo .own in let b = lo .below in omega arith)
 
   -- k was seen from j
-  module _ {len′ : ℕ} {se′ fr′ qu′ : List ℕ} (lt : j < k) (re : Reached cells n cols i j k u w ro se se′ fr′ qu′ len′) (found : 0 < at se′ k) where
+  module _ {len′ : ℕ} {se′ fr′ qu′ : List ℕ} (lt : j < k) (re : SearchEnded cells n cols i j k u w ro se se′ fr′ qu′ len′) (found : 0 < at se′ k) where
     found-own : 0 < at se′ (at co i)
     found-own = rw (lo .own) found
 

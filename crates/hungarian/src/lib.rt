@@ -1,97 +1,75 @@
-// The least total by the Hungarian method: rows are put in one by one, each by an augmenting path in the equality graph, with prices. Rows,
-// columns and lists are those of the crate alternating_tree.
+// The choice of an n × cols matrix by the Hungarian method: first a choice with the least total and its prices (least), then among the least
+// choices the one with the lowest columns (lowest), both over alternating trees (tree). Prices and trees are the method's own: they stand in
+// the arrays of `choose`, and no answer depends on them.
+mod least;
+mod lowest;
+mod tree;
+
 ghost use mathlib.Core.Path.{_≡_};
-ghost use Prim.Native.Nat.{ℕ, _+_, _<_};
+ghost use mathlib.Core.List.{_++_};
+ghost use Prim.Native.Nat.{ℕ, _<_, _≤_};
+ghost use lib.ListN.{length, drop};
+ghost use Rattle.laws.specs.Tables.{tab};
 ghost use Rattle.assignment_problem.specs.Choice.{cellAt, total};
-ghost use Rattle.assignment_problem.specs.Recursion.{leastTotal};
+ghost use Rattle.assignment_problem.specs.Recursion.{chosen, leastTotal};
 ghost use Rattle.alternating_tree.specs.Lists.{at};
-ghost use Rattle.alternating_tree.specs.State.{Sizes, Scratch, Matrix, State, Growing};
+ghost use Rattle.alternating_tree.specs.State.{Matrix};
 
-// Row i stands alone in the tree; answers a free column.
-fn prepare(
-    cells: &[u64],
-    n: usize,
-    cols: usize,
-    i: usize,
-    u: &mut [u64],
-    w: &[u64],
-    row_of: &mut [usize],
-    col_of: &mut [usize],
-    dist: &mut [u64],
-    from: &mut [usize],
-    seen: &mut [usize],
-) -> usize
-    requires { ⌜ Sizes (now u) (now w) (now «row_of») (now «col_of») × Scratch (now dist) (now from) (now seen) ⌝ }
-    requires { ⌜ Matrix (now cells) n cols × (i < n) × State (now cells) n cols i (now u) (now w) (now «row_of») (now «col_of») ⌝ }
-    ensures { λ f. ⌜ Growing (now (cells .entry)) n cols i 1 f 0 (now (u .exit)) (now (w .entry)) (now («row_of» .exit)) (now («col_of» .exit)) (now (dist .exit)) (now (from .exit)) (now (seen .exit)) ⌝ }
+// The columns of the first n rows are written, and their cells added.
+fn write(cells: &[u64], n: usize, cols: usize, col_of: &[usize], places: &mut [u32]) -> u64
+    requires { ⌜ Matrix (now cells) n cols × (length (now «col_of») ≡ 32) × (n ≤ length (now places)) ⌝ }
+    requires { ⌜ ((k : ℕ) → k < n → at (now «col_of») k < cols) ⌝ }
+    ensures total { λ r. ⌜ r ≡ total n (cellAt (now (cells .entry)) cols) (at (now («col_of» .entry))) ⌝ }
+    ensures columns { λ _. ⌜ now (places .exit) ≡ tab (at (now («col_of» .entry))) n ++ drop n (now (places .entry)) ⌝ }
 {
-    let f = alternating_tree::free_column(row_of, n, cols);
-    u[i] = 0;
-    row_of[cols] = i;
-    col_of[i] = cols;
-    alternating_tree::clear(seen, cols);
-    alternating_tree::begin(cells, cols, i, w, dist, from);
-    f
-}
-
-// Row i gets a column, and the rows before it keep one each.
-fn insert(
-    cells: &[u64],
-    n: usize,
-    cols: usize,
-    i: usize,
-    u: &mut [u64],
-    w: &mut [u64],
-    row_of: &mut [usize],
-    col_of: &mut [usize],
-    dist: &mut [u64],
-    from: &mut [usize],
-    seen: &mut [usize],
-)
-    requires { ⌜ Sizes (now u) (now w) (now «row_of») (now «col_of») × Scratch (now dist) (now from) (now seen) ⌝ }
-    requires { ⌜ Matrix (now cells) n cols × (i < n) × State (now cells) n cols i (now u) (now w) (now «row_of») (now «col_of») ⌝ }
-    ensures { λ _. ⌜ State (now (cells .entry)) n cols (i + 1) (now (u .exit)) (now (w .exit)) (now («row_of» .exit)) (now («col_of» .exit)) ⌝ }
-{
-    let f = prepare(cells, n, cols, i, u, w, row_of, col_of, dist, from, seen);
-    let mut t = 1;
-    loop {
-        let j = alternating_tree::nearest(seen, dist, cols, f);
-        let d = dist[j];
-        t += 1;
-        let r = row_of[j];
-        if n <= r {
-            seen[j] = t;
-            alternating_tree::raise_rows(seen, col_of, dist, u, i + 1, d);
-            alternating_tree::raise_columns(seen, dist, w, cols, d);
-            alternating_tree::augment(row_of, col_of, from, seen, n, cols, j);
-            return;
-        }
-        alternating_tree::join(cells, cols, r, u[r], j, t, d, w, seen, dist, from);
-    }
-}
-
-// Every row gets a column, and their total is the least. Of least choices it may be any; the prices with which it is tight are named in State,
-// and none is larger than the largest cell.
-pub fn solve(
-    cells: &[u64],
-    n: usize,
-    cols: usize,
-    u: &mut [u64],
-    w: &mut [u64],
-    row_of: &mut [usize],
-    col_of: &mut [usize],
-    dist: &mut [u64],
-    from: &mut [usize],
-    seen: &mut [usize],
-)
-    requires { ⌜ Sizes (now u) (now w) (now «row_of») (now «col_of») × Scratch (now dist) (now from) (now seen) ⌝ }
-    requires { ⌜ Matrix (now cells) n cols × ((j : ℕ) → j < cols → (at (now «row_of») j ≡ n) × (at (now w) j ≡ 0)) ⌝ }
-    ensures prices { λ _. ⌜ State (now (cells .entry)) n cols n (now (u .exit)) (now (w .exit)) (now («row_of» .exit)) (now («col_of» .exit)) ⌝ }
-    ensures least { λ _. ⌜ total n (cellAt (now (cells .entry)) cols) (at (now («col_of» .exit))) ≡ leastTotal (cellAt (now (cells .entry)) cols) n cols ⌝ }
-{
+    let mut total = 0;
     let mut i = 0;
     while i < n {
-        insert(cells, n, cols, i, u, w, row_of, col_of, dist, from, seen);
+        let j = col_of[i];
+        total += tree::cell(cells, cols, i, j);
+        places[i] = j as u32;
         i += 1;
     }
+    total
+}
+
+// The choice of a matrix with cells up to 2^55: its columns stand first in places, and the answer is its total.
+pub fn choose(cells: &[u64], n: usize, cols: usize, places: &mut [u32]) -> u64
+    requires { ⌜ Matrix (now cells) n cols × (n ≤ length (now places)) ⌝ }
+    ensures total { λ r. ⌜ r ≡ leastTotal (cellAt (now (cells .entry)) cols) n cols ⌝ }
+    ensures columns { λ _. ⌜ now (places .exit) ≡ chosen (cellAt (now (cells .entry)) cols) n cols ++ drop n (now (places .entry)) ⌝ }
+{
+    let mut u = [0u64; 32];
+    let mut w = [0u64; 65];
+    let mut row_of = [n; 65];
+    let mut col_of = [0usize; 32];
+    let mut dist = [0u64; 65];
+    let mut from = [0usize; 65];
+    let mut seen = [0usize; 65];
+    let mut queue = [0usize; 65];
+    least::solve(
+        cells,
+        n,
+        cols,
+        &mut u,
+        &mut w,
+        &mut row_of,
+        &mut col_of,
+        &mut dist,
+        &mut from,
+        &mut seen,
+    );
+    lowest::settle(
+        cells,
+        n,
+        cols,
+        &u,
+        &w,
+        &mut row_of,
+        &mut col_of,
+        &mut queue,
+        &mut from,
+        &mut seen,
+    );
+    write(cells, n, cols, &col_of, places)
 }

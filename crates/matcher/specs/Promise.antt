@@ -1,9 +1,11 @@
 -- What the matcher answers and what it writes, for every input. Assumes nothing.
-use mathlib.Core.Bool.{Bool, not, _||_, cond}
+use mathlib.Core.Path.{_≡_}
+use mathlib.Core.Bool.{Bool, false, not, _||_, cond}
 use mathlib.Core.List.{List, _++_}
-use Prim.Native.Nat.{ℕ, _*_, _^_}
+use Prim.Native.Nat.{ℕ, _*_, _^_, _≤_}
 use lib.Dec.{eqb, ltb}
 use lib.ListN.{length, getD, drop}
+use borrow.Author.Tests.{eq-eqb, le-ltb}
 use Rattle.laws.specs.Folds.{any}
 use Rattle.assignment_problem.specs.Choice.{cellAt}
 use Rattle.assignment_problem.specs.Recursion.{chosen, leastTotal}
@@ -34,10 +36,17 @@ written cars columns cells places =
     cond (refused cars columns cells (length places)) places (chosen (cellAt cells columns) cars columns ++ drop cars places)
 
 -- the answer's number, 1 for a choice and 0 for none, and its total, with what stands where there is none
-abbrev pub numberOf : Matching → ℕ
-numberOf (Least t) = 1
-numberOf None = 0
+abbrev pub foundOf : Matching → ℕ
+foundOf (Least t) = 1
+foundOf None = 0
 
-abbrev pub totalOr : ℕ → Matching → ℕ
-totalOr before (Least t) = t
-totalOr before None = before
+abbrev pub leastOr : Matching → ℕ → ℕ
+leastOr (Least t) before = t
+leastOr None before = before
+
+-- where each thing fits, nothing is refused
+pub all-fit : (cars columns : ℕ) (cells : List ℕ) (places : ℕ) → cars ≤ 32 → columns ≤ 64 → cars ≤ columns → length cells ≡ cars * columns
+    → cars ≤ places → any (tooLarge cells) (length cells) ≡ false → refused cars columns cells places ≡ false
+unfolding refused
+all-fit cars columns cells places a b c d e f =
+    rw (le-ltb 32 cars a, le-ltb 64 columns b, le-ltb columns cars c, eq-eqb (length cells) (cars * columns) d, le-ltb places cars e, f)

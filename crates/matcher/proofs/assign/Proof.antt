@@ -7,8 +7,8 @@ use mathlib.Core.Path.{_≡_, sym, _∙_}
 use mathlib.Core.Bool.{true}
 use lib.ListN.{length}
 use Rattle.matcher.specs.declared.Matching.the-variants.{None}
-use Rattle.matcher.specs.Promise.{refused, matching, written}
-use Rattle.matcher.specs.Fits.{fits, fits-matrix, few-cells, many-cars, many-columns, few-columns, wrong-count, few-places, large-cell, refuse, accept}
+use Rattle.matcher.specs.Promise.{refused, matching, written, all-fit}
+use Rattle.matcher.specs.Fits.{fits-matrix, small-product, many-cars, many-columns, few-columns, wrong-count, few-places, large-cell, refuse, accept}
 
 module _ (s : tie.Start) where
   refusal : refused (s .args .cars) (s .args .columns) (s .args .cells .now) (length (s .args .places .now)) ≡ true
@@ -26,7 +26,7 @@ returns-3 : tie.Need-returns-3
 returns-3 c = refusal (c .before .before .before .before .before) (few-columns (c .before .before .before .before .before .args .cars) (c .before .before .before .before .before .args .columns) (c .before .before .before .before .before .args .cells .now) (length (c .before .before .before .before .before .args .places .now)) (c .if3 .taken))
 
 mul-if4 : tie.Need-mul-if4
-mul-if4 c = omega (arith, few-cells (c .before .before .before .before .before .args .cars) (c .before .before .before .before .before .args .columns) (c .before .before .if1 .left) (c .before .if2 .left))
+mul-if4 c = omega (arith, small-product (c .before .before .before .before .before .args .cars) (c .before .before .before .before .before .args .columns) (c .before .before .if1 .left) (c .before .if2 .left))
 
 returns-4 : tie.Need-returns-4
 returns-4 c = refusal (c .before .before .before .before .before .before) (wrong-count (c .before .before .before .before .before .before .args .cars) (c .before .before .before .before .before .before .args .columns) (c .before .before .before .before .before .before .args .cells .now) (length (c .before .before .before .before .before .before .args .places .now)) (c .if4 .taken))
@@ -51,7 +51,7 @@ returns-7 c =
     let g = c .before .before .before .before .before .before .before .before .before .before .before .before .before .args in
     let e = c .before .before .choose .ensures in
     accept (g .cars) (g .columns) (g .cells .now) (g .places .now) (c .before .before .choose .last .1 .1 .1 .0) (c .before .before .choose .result)
-    (fits (g .cars) (g .columns) (g .cells .now) (length (g .places .now)) (c .before .before .before .before .before .before .before .before .before .before .if1 .left) (c .before .before .before .before .before .before .before .before .before .if2 .left) (c .before .before .before .before .before .before .before .before .if3 .left) (c .before .before .before .before .before .before .before .if4 .left) (c .before .before .before .before .before .before .if5 .left)
+    (all-fit (g .cars) (g .columns) (g .cells .now) (length (g .places .now)) (c .before .before .before .before .before .before .before .before .before .before .if1 .left) (c .before .before .before .before .before .before .before .before .before .if2 .left) (c .before .before .before .before .before .before .before .before .if3 .left) (c .before .before .before .before .before .before .before .if4 .left) (c .before .before .before .before .before .before .if5 .left)
     (sym (c .before .before .before .before .before .too-large .ensures) ∙ c .before .before .before .before .if6 .left))
     (e .0) (e .1)
 

@@ -1,0 +1,187 @@
+-- hungarian::tree::relax meets its contract.
+use Rattle.hungarian.proofs.tree.relax.Statement.{statement}
+use Rattle.hungarian.proofs.tree.relax.Tie as tie
+use Prim.Native.Nat.{ℕ, _≤_, _<_, _-_, _+_, _*_}
+use mathlib.Core.Path.{_≡_, refl, sym, ap, _∙_}
+use mathlib.Core.Logic.{⊎-elim}
+use native.Mathlib.Omega.{arith}
+use lib.ListN.{length, length-set, set}
+use Rattle.alternating_tree.specs.Lists.{at, big, at-same, at-other, Lowered}
+use mathlib.Core.List.{List}
+use Rattle.laws.specs.Bools.{same?}
+use mathlib.Core.Logic.{inl, inr}
+
+abbrev Inv-loop : tie.InvT-loop
+Inv-loop cells cols r ur col d w seen dist₀ from₀ j₀ dist from j =
+    (j ≤ cols) × (length dist ≡ 65) × (length from ≡ 65)
+    × ((k : ℕ) → k < j → 0 < at seen k → (at dist k ≡ at dist₀ k) × (at from k ≡ at from₀ k))
+    × ((k : ℕ) → k < j → at seen k ≡ 0 → Lowered col d ur (at cells (r * cols + k)) (at w k) (at dist₀ k) (at from₀ k) (at dist k) (at from k))
+    × ((k : ℕ) → j ≤ k → (at dist k ≡ at dist₀ k) × (at from k ≡ at from₀ k))
+
+abbrev μ-loop : tie.MeasureT-loop
+μ-loop cells cols r ur col d w seen dist₀ from₀ j₀ dist from j = cols - j
+
+module _ (cells : List ℕ) (cols r ur col d : ℕ) (w seen dist₀ from₀ : List ℕ) (j₀ : ℕ) (dist from : List ℕ) (j : ℕ)
+    (iv : Inv-loop cells cols r ur col d w seen dist₀ from₀ j₀ dist from j) (lj : j < cols) (lc : cols ≤ 64) where
+  step-lower : (s : ℕ) → at seen j ≡ 0 → s + ur ≡ at cells (r * cols + j) + at w j + d → s < at dist j
+      → Inv-loop cells cols r ur col d w seen dist₀ from₀ j₀ (set dist j s) (set from j col) (j + 1)
+  step-lower s z e lt = (
+    omega arith,
+    simp length-set (iv .1),
+    simp length-set (iv .2),
+    (λ k lk p. ⊎-elim
+        (λ q. absurd (let a : at seen k ≡ at seen j = ap (at seen) q in omega arith))
+        (λ ne. rw (at-other dist j s k ne, at-other from j col k ne) (iv .3 k (omega arith) p))
+        (same? k j)),
+    (λ k lk p. ⊎-elim
+        (λ q. rw q (rw (at-same dist j s (omega arith), at-same from j col (omega arith))
+        (inr (refl, (let a = iv .5 j (omega arith) .0 in omega arith), e))))
+        (λ ne. rw (at-other dist j s k ne, at-other from j col k ne) (iv .4 k (omega arith) p))
+        (same? k j)),
+    (λ k lk. rw (at-other dist j s k (λ q. omega arith), at-other from j col k (λ q. omega arith)) (iv .5 k (omega arith))),
+  )
+
+  step-keep : (at seen j ≡ 0 → at dist j + ur ≤ at cells (r * cols + j) + at w j + d)
+      → Inv-loop cells cols r ur col d w seen dist₀ from₀ j₀ dist from (j + 1)
+  step-keep le = (
+    omega arith,
+    iv .1,
+    iv .2,
+    (λ k lk p. ⊎-elim (λ q. rw q (iv .5 j (omega arith))) (λ ne. iv .3 k (omega arith) p) (same? k j)),
+    (λ k lk p. ⊎-elim
+        (λ q. rw q (let o = iv .5 j (omega arith) in
+        let l = le (sym (ap (at seen) q) ∙ p) in
+        inl (o .0, o .1, omega arith)))
+        (λ ne. iv .4 k (omega arith) p)
+        (same? k j)),
+    (λ k lk. iv .5 k (omega arith)),
+  )
+
+loop-holds : tie.Need-loop-holds Inv-loop μ-loop
+loop-holds c = (omega arith, omega arith, omega arith, (λ k l. absurd (omega arith)), (λ k l. absurd (omega arith)), (λ k l. (refl, refl)))
+
+mul-if1 : tie.Need-mul-if1 Inv-loop μ-loop
+mul-if1 c = omega arith
+
+shared-slice-read-if1 : tie.Need-shared-slice-read-if1 Inv-loop μ-loop
+shared-slice-read-if1 c = omega arith
+
+cell-requires : tie.Need-cell-requires Inv-loop μ-loop
+cell-requires c κs = omega arith
+
+mul-s : tie.Need-mul-s Inv-loop μ-loop
+mul-s c = omega arith
+
+shared-slice-read-s : tie.Need-shared-slice-read-s Inv-loop μ-loop
+shared-slice-read-s c = omega arith
+
+module _ (c : tie.After-shared-slice-known5 Inv-loop μ-loop) where
+  parts : (c .before .cell .result ≤ big) × (at (c .before .before .before .before .before .before .before .before .before .before .before .args .w .now) (c .before .before .before .before .before .loop .j) ≤ big)
+      × (c .before .before .before .before .before .before .before .before .before .before .before .args .ur ≤ c .before .cell .result + at (c .before .before .before .before .before .before .before .before .before .before .before .args .w .now) (c .before .before .before .before .before .loop .j))
+  parts =
+      let a = c .before .before .before .before .before in
+      let s = c .before .before .before .before .before .before .before .before .before .before .before in
+      let p = s .pre .1 .1 .1 (a .loop .j) (omega arith) in
+      (omega (arith, c .before .cell .ensures, s .pre .1 .1 .0 (s .args .r * s .args .cols + a .loop .j)), p .0, omega (arith, c .before .cell .ensures, p .1 (c .before .before .if1 .taken)))
+
+add-s : tie.Need-add-s Inv-loop μ-loop
+add-s c = omega (arith, parts c)
+
+sub-s : tie.Need-sub-s Inv-loop μ-loop
+sub-s c = omega (arith, parts c)
+
+add-s-2 : tie.Need-add-s-2 Inv-loop μ-loop
+add-s-2 c = omega (arith, parts c, c .before .before .before .before .before .before .before .before .before .before .before .pre .1 .0 .2)
+
+mul-if2 : tie.Need-mul-if2 Inv-loop μ-loop
+mul-if2 c = omega arith
+
+slice-read-if2 : tie.Need-slice-read-if2 Inv-loop μ-loop
+slice-read-if2 c = omega arith
+
+mul-dist : tie.Need-mul-dist Inv-loop μ-loop
+mul-dist c = omega arith
+
+slice-write-dist : tie.Need-slice-write-dist Inv-loop μ-loop
+slice-write-dist c = omega arith
+
+mul-from : tie.Need-mul-from Inv-loop μ-loop
+mul-from c = omega arith
+
+slice-write-from : tie.Need-slice-write-from Inv-loop μ-loop
+slice-write-from c = omega arith
+
+add-j : tie.Need-add-j Inv-loop μ-loop
+add-j c = omega arith
+
+loop-less : tie.Need-loop-less Inv-loop μ-loop
+loop-less c = omega arith
+
+loop-again : tie.Need-loop-again Inv-loop μ-loop
+loop-again c =
+    let a = c .before .before .before in
+    let b = a .before .before .before .before .before .before in
+    let g = b .args in
+    let lc = b .pre .1 .0 .0 in
+    let lj = c .before .before .loop-test .taken in
+    let pj = b .pre .1 .1 .1 (a .loop .j) (omega arith) in
+    ⊎-elim
+    (λ x.
+    rw (x .5, x .6)
+    (step-lower (g .cells .now) (g .cols) (g .r) (g .ur) (g .col) (g .d) (g .w .now) (g .seen .now) (g .dist .now) (g .from .now) 0
+    (a .loop .dist) (a .loop .from) (a .loop .j) (a .loop .inv) lj lc (x .1 .result + at (g .w .now) (a .loop .j) - g .ur + g .d) (x .0 .taken)
+    (omega (arith, x .1 .ensures, pj .1 (x .0 .taken))) (x .4 .taken)))
+    (λ y. ⊎-elim
+    (λ x.
+    rw (x .5, x .6)
+    (step-keep (g .cells .now) (g .cols) (g .r) (g .ur) (g .col) (g .d) (g .w .now) (g .seen .now) (g .dist .now) (g .from .now) 0
+    (a .loop .dist) (a .loop .from) (a .loop .j) (a .loop .inv) lj lc (λ z. omega (arith, x .1 .ensures, x .4 .left, pj .1 z))))
+    (λ x.
+    rw (x .1, x .2)
+    (step-keep (g .cells .now) (g .cols) (g .r) (g .ur) (g .col) (g .d) (g .w .now) (g .seen .now) (g .dist .now) (g .from .now) 0
+    (a .loop .dist) (a .loop .from) (a .loop .j) (a .loop .inv) lj lc (λ z. absurd (x .0 .left z))))
+    y)
+    (c .if1 .came)
+
+same-length : tie.Need-same-length Inv-loop μ-loop
+same-length c = omega arith
+
+same-length-2 : tie.Need-same-length-2 Inv-loop μ-loop
+same-length-2 c = omega arith
+
+returns : tie.Need-returns Inv-loop μ-loop
+returns c =
+    let a = c .before in
+    record {
+      kept = λ k l. a .loop .inv .3 k (omega arith);
+      lowered = λ k l. a .loop .inv .4 k (omega arith);
+      stand = a .loop .inv .5 (c .before .before .before .before .before .before .before .args .cols) (omega arith) .0;
+    }
+
+pub relax-spec : {M : Type 1} → statement M
+relax-spec =
+    tie.close
+    (tie.spec
+    Inv-loop
+    μ-loop
+    loop-holds
+    mul-if1
+    shared-slice-read-if1
+    cell-requires
+    mul-s
+    shared-slice-read-s
+    add-s
+    sub-s
+    add-s-2
+    mul-if2
+    slice-read-if2
+    mul-dist
+    slice-write-dist
+    mul-from
+    slice-write-from
+    add-j
+    loop-less
+    loop-again
+    same-length
+    same-length-2
+    returns)

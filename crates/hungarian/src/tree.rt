@@ -1,0 +1,233 @@
+// The parts of the method: the alternating tree of a row that has no column yet, its prices, and the augmenting path.
+//
+// There are n rows, at most 32, and cols columns, at most 64; column cols is the stand, for the row that has no column yet.
+//   u, w             the price of each row, the discount of each column: u[r] is at most its cell and w[j] together
+//   row_of, col_of   the row of each column, n where it is free, and the column of each row
+//   seen             the turn at which a column joined the alternating tree, 0 outside it; the stand is the root, with turn 1
+//   dist, from       the distance of each column from the root, and the tree column whose row it is reached from
+// The prices of the tree are raised once, when it reaches a free column.
+ghost use mathlib.Core.Path.{_≡_};
+ghost use Prim.Native.Nat.{ℕ, _+_, _*_, _<_, _≤_};
+ghost use lib.ListN.{length};
+ghost use Rattle.assignment_problem.specs.Choice.{cellAt};
+ghost use Rattle.alternating_tree.specs.Lists.{at, big, gain, Rooted, Nearest, RaisedRows, RaisedColumns, FreeColumn, DistancesRelaxed, Stationed, Going, Gone};
+ghost use Rattle.alternating_tree.specs.State.{Cleared, Joined};
+
+// The cell of row i and column j.
+pub(crate) fn cell(cells: &[u64], cols: usize, i: usize, j: usize) -> u64
+    requires { ⌜ i * cols + j < length (now cells) ⌝ }
+    ensures { λ r. ⌜ r ≡ cellAt (now (cells .entry)) cols i j ⌝ }
+{
+    cells[i * cols + j]
+}
+
+// The first column below cols that no row has, or cols.
+pub(crate) fn free_column(row_of: &[usize], n: usize, cols: usize) -> usize
+    requires { ⌜ (length (now «row_of») ≡ 65) ⌝ }
+    requires { ⌜ cols ≤ 64 ⌝ }
+    ensures { λ r. ⌜ FreeColumn (now («row_of» .entry)) n cols r ⌝ }
+{
+    let mut j = 0;
+    while j < cols {
+        if n <= row_of[j] {
+            return j;
+        }
+        j += 1;
+    }
+    j
+}
+
+// Row i alone in the tree: the distance of each column is its slack, and the stand is where it is seen from.
+pub(crate) fn begin(
+    cells: &[u64],
+    cols: usize,
+    i: usize,
+    w: &[u64],
+    dist: &mut [u64],
+    from: &mut [usize],
+)
+    requires { ⌜ (length (now w) ≡ 65) × (length (now dist) ≡ 65) × (length (now from) ≡ 65) ⌝ }
+    requires { ⌜ (cols ≤ 64) × (i * cols + cols ≤ length (now cells)) ⌝ }
+    requires { ⌜ ((k : ℕ) → at (now cells) k ≤ big) ⌝ }
+    requires { ⌜ ((j : ℕ) → j < cols → at (now w) j ≤ big) ⌝ }
+    ensures { λ _. ⌜ Rooted (now (cells .entry)) cols i (now (w .entry)) (now (dist .exit)) (now (from .exit)) ⌝ }
+{
+    let mut j = 0;
+    while j < cols {
+        dist[j] = cell(cells, cols, i, j) + w[j];
+        from[j] = cols;
+        j += 1;
+    }
+    dist[cols] = 0;
+}
+
+// The column outside the tree with the least distance; f is one outside it.
+pub(crate) fn nearest(seen: &[usize], dist: &[u64], cols: usize, f: usize) -> usize
+    requires { ⌜ (length (now seen) ≡ 65) × (length (now dist) ≡ 65) ⌝ }
+    requires { ⌜ (cols ≤ 64) × (f < cols) × (at (now seen) f ≡ 0) ⌝ }
+    ensures { λ r. ⌜ Nearest (now (seen .entry)) (now (dist .entry)) cols r ⌝ }
+{
+    let mut best = f;
+    let mut j = 0;
+    while j < cols {
+        if seen[j] == 0 {
+            if dist[j] < dist[best] {
+                best = j;
+            }
+        }
+        j += 1;
+    }
+    best
+}
+
+// What a price gains until the tree comes to the distance d, where its column joined at the distance k, with the turn s; 0: it did not.
+fn gained(s: usize, d: u64, k: u64) -> u64
+    requires { ⌜ (0 < s → k ≤ d) ⌝ }
+    ensures { λ r. ⌜ r ≡ gain s d k ⌝ }
+{
+    if s == 0 {
+        return 0;
+    }
+    d - k
+}
+
+// The prices of the tree's rows, at the distance d.
+pub(crate) fn raise_rows(
+    seen: &[usize],
+    col_of: &[usize],
+    dist: &[u64],
+    u: &mut [u64],
+    rows: usize,
+    d: u64,
+)
+    requires { ⌜ (length (now seen) ≡ 65) × (length (now «col_of») ≡ 32) × (length (now dist) ≡ 65) × (length (now u) ≡ 32) ⌝ }
+    requires { ⌜ (rows ≤ 32) × (d ≤ big) ⌝ }
+    requires { ⌜ ((r : ℕ) → r < rows → (at (now «col_of») r ≤ 64) × (at (now u) r ≤ big)) ⌝ }
+    requires { ⌜ ((r : ℕ) → r < rows → 0 < at (now seen) (at (now «col_of») r) → at (now dist) (at (now «col_of») r) ≤ d) ⌝ }
+    ensures { λ _. ⌜ RaisedRows (now (seen .entry)) (now («col_of» .entry)) (now (dist .entry)) rows d (now (u .entry)) (now (u .exit)) ⌝ }
+{
+    let mut r = 0;
+    while r < rows {
+        let x = col_of[r];
+        u[r] += gained(seen[x], d, dist[x]);
+        r += 1;
+    }
+}
+
+// The discounts of the tree's columns, at the distance d.
+pub(crate) fn raise_columns(seen: &[usize], dist: &[u64], w: &mut [u64], cols: usize, d: u64)
+    requires { ⌜ (length (now seen) ≡ 65) × (length (now dist) ≡ 65) × (length (now w) ≡ 65) ⌝ }
+    requires { ⌜ (cols ≤ 64) × (d ≤ big) ⌝ }
+    requires { ⌜ ((j : ℕ) → j < cols → (at (now w) j ≤ big) × (0 < at (now seen) j → at (now dist) j ≤ d)) ⌝ }
+    ensures { λ _. ⌜ RaisedColumns (now (seen .entry)) (now (dist .entry)) cols d (now (w .entry)) (now (w .exit)) ⌝ }
+{
+    let mut j = 0;
+    while j < cols {
+        w[j] += gained(seen[j], d, dist[j]);
+        j += 1;
+    }
+}
+
+// The distances outside the tree are lowered to those by row r, whose column is col, at the distance d.
+fn relax(
+    cells: &[u64],
+    cols: usize,
+    r: usize,
+    ur: u64,
+    col: usize,
+    d: u64,
+    w: &[u64],
+    seen: &[usize],
+    dist: &mut [u64],
+    from: &mut [usize],
+)
+    requires { ⌜ (length (now w) ≡ 65) × (length (now seen) ≡ 65) × (length (now dist) ≡ 65) × (length (now from) ≡ 65) ⌝ }
+    requires { ⌜ (cols ≤ 64) × (r * cols + cols ≤ length (now cells)) × (d ≤ big) ⌝ }
+    requires { ⌜ ((k : ℕ) → at (now cells) k ≤ big) ⌝ }
+    requires { ⌜ ((j : ℕ) → j < cols → (at (now w) j ≤ big) × (at (now seen) j ≡ 0 → ur ≤ at (now cells) (r * cols + j) + at (now w) j)) ⌝ }
+    ensures { λ _. ⌜ DistancesRelaxed (now (cells .entry)) cols r ur col d (now (w .entry)) (now (seen .entry)) (now (dist .entry)) (now (from .entry)) (now (dist .exit)) (now (from .exit)) ⌝ }
+{
+    let mut j = 0;
+    while j < cols {
+        if seen[j] == 0 {
+            let s = cell(cells, cols, r, j) + w[j] - ur + d;
+            if s < dist[j] {
+                dist[j] = s;
+                from[j] = col;
+            }
+        }
+        j += 1;
+    }
+}
+
+// The row r, or nothing, is put at column x.
+fn put(row_of: &mut [usize], col_of: &mut [usize], n: usize, r: usize, x: usize)
+    requires { ⌜ (length (now «row_of») ≡ 65) × (length (now «col_of») ≡ 32) × (n ≤ 32) × (x ≤ 64) ⌝ }
+    ensures { λ _. ⌜ Stationed n r x (now («row_of» .entry)) (now («col_of» .entry)) (now («row_of» .exit)) (now («col_of» .exit)) ⌝ }
+{
+    row_of[x] = r;
+    if r < n {
+        col_of[r] = x;
+    }
+}
+
+// Along the augmenting path from the hole j to the stand, the column of turn 1, what each column holds moves on to the one before it.
+pub(crate) fn augment(
+    row_of: &mut [usize],
+    col_of: &mut [usize],
+    from: &[usize],
+    seen: &[usize],
+    n: usize,
+    cols: usize,
+    j: usize,
+)
+    requires { ⌜ (length (now «row_of») ≡ 65) × (length (now «col_of») ≡ 32) × (length (now from) ≡ 65) × (length (now seen) ≡ 65) ⌝ }
+    requires { ⌜ (n ≤ 32) × (cols ≤ 64) × Going n cols (now seen) (now from) (now «row_of») (now «col_of») j ⌝ }
+    ensures { λ _. ⌜ Gone n cols (now (seen .entry)) (now (from .entry)) (now («row_of» .entry)) (now («col_of» .entry)) j (now («row_of» .exit)) (now («col_of» .exit)) cols ⌝ }
+{
+    let mut hole = j;
+    while 1 < seen[hole] {
+        let next = from[hole];
+        let r = row_of[next];
+        put(row_of, col_of, n, r, hole);
+        row_of[next] = n;
+        hole = next;
+    }
+}
+
+// No column is in the tree but the stand.
+pub(crate) fn clear(seen: &mut [usize], cols: usize)
+    requires { ⌜ (length (now seen) ≡ 65) × (cols ≤ 64) ⌝ }
+    ensures { λ _. ⌜ Cleared cols (now (seen .exit)) ⌝ }
+{
+    let mut j = 0;
+    while j < cols {
+        seen[j] = 0;
+        j += 1;
+    }
+    seen[cols] = 1;
+}
+
+// Column j joins the tree, as its turn t at the distance d, and its row r lowers the distances outside.
+pub(crate) fn join(
+    cells: &[u64],
+    cols: usize,
+    r: usize,
+    ur: u64,
+    j: usize,
+    t: usize,
+    d: u64,
+    w: &[u64],
+    seen: &mut [usize],
+    dist: &mut [u64],
+    from: &mut [usize],
+)
+    requires { ⌜ (length (now w) ≡ 65) × (length (now seen) ≡ 65) × (length (now dist) ≡ 65) × (length (now from) ≡ 65) ⌝ }
+    requires { ⌜ (cols ≤ 64) × (r * cols + cols ≤ length (now cells)) × (j < cols) × (0 < t) × (d ≤ big) ⌝ }
+    requires { ⌜ ((k : ℕ) → at (now cells) k ≤ big) ⌝ }
+    requires { ⌜ ((x : ℕ) → x < cols → (at (now w) x ≤ big) × (at (now seen) x ≡ 0 → ur ≤ at (now cells) (r * cols + x) + at (now w) x)) ⌝ }
+    ensures { λ _. ⌜ Joined (now (cells .entry)) cols r ur j t d (now (w .entry)) (now (seen .entry)) (now (dist .entry)) (now (from .entry)) (now (seen .exit)) (now (dist .exit)) (now (from .exit)) ⌝ }
+{
+    seen[j] = t;
+    relax(cells, cols, r, ur, j, d, w, seen, dist, from);
+}
