@@ -14,7 +14,7 @@ use Rattle.assignment_problem.specs.Choice.{cellAt}
 use Rattle.assignment_problem.specs.Recursion.{chosen, leastTotal}
 use Rattle.alternating_tree.specs.State.{Matrix}
 use Rattle.matcher.specs.declared.Matching.the-variants.{Least, None}
-use Rattle.matcher.specs.Promise.{sentinel, tooLarge, refused, matching, written}
+use Rattle.matcher.specs.Promise.{mostCell, tooLarge, refused, matching, written}
 
 -- the method takes the matrix
 pub fits-matrix : {cars columns : ℕ} {cells : List ℕ} → cars ≤ 32 → columns ≤ 64 → cars ≤ columns → length cells ≡ cars * columns
@@ -25,7 +25,7 @@ fits-matrix {cars} {columns} {cells} a b c d e = record {
   wide = c;
   whole = d;
   small = λ k. ⊎-elim
-      (λ l. let s = ltb-false sentinel (getD cells k 0) (any-none (tooLarge cells) (length cells) e k l) in omega arith)
+      (λ l. let s = ltb-false mostCell (getD cells k 0) (any-none (tooLarge cells) (length cells) e k l) in omega arith)
       (λ l. let z = List·getD-eq-default cells 0 l in omega arith)
       (less? k (length cells));
 }
