@@ -1,6 +1,6 @@
 -- replay_passes::run meets its contract.
 use Prim.Native.Nat.{_-_, _≤_}
-use Rattle.replay_passes.specs.Cases.{Counted, Met, met-start, met-next, met-end}
+use Rattle.replay_passes.specs.Replay.{Counted, Met, met-start, met-next, met-end}
 use borrow.Author.Needs.{needs}
 use lib.ListN.{length}
 use native.Mathlib.Omega.{arith}
