@@ -299,7 +299,7 @@ struct Limited {
 const RAISES: [(&str, fn(u16) -> u16); 3] = [
     ("raised by 1", |limit| limit + 1),
     ("raised by 2 or more", |limit| {
-        [limit + 2, limit + 7, 65_534][usize::from(limit - 1)]
+        [limit + 2, 65_534, limit + 7][usize::from(limit - 1)]
     }),
     ("lifted", |_| NO_LIMIT),
 ];
@@ -336,6 +336,11 @@ impl Limited {
     /// Whether a cell that the first limit cut has a rank under the second.
     fn uncut(&self) -> bool {
         self.cases[0].1.cells != self.cases[1].1.cells
+    }
+
+    /// Whether some car is sent to another stop, or sent where it stayed.
+    fn redirected(&self) -> bool {
+        self.cases[0].1.decisions != self.cases[1].1.decisions
     }
 
     fn put(&self, list: &mut Vec<u8>) {
@@ -456,42 +461,51 @@ pub fn pairs(seed: u64) -> (Vec<u8>, usize) {
                     pairs.push(limited(&mut rust, &wanted, seed, &mut next[k]));
                 };
                 add(true, 1, 600);
-                add(true, 1, 600);
                 add(false, 1, 600);
-                if k % 3 == raise {
+                if k % 3 != raise {
                     add(true, 2, 850);
+                }
+                if (k + 1) % 3 != raise {
+                    add(true, 1, 600);
                 }
                 if k == 0 && raise == usize::from(strategy) {
                     add(true, 4, 1900);
                 }
             }
         }
+        // A limit that cuts nothing, lifted.
+        let sheet = Sheet::of_accepted(&pairs[pairs.len() - 1].cases[0].0);
+        pairs.push(Limited::new(&mut rust, &sheet, NO_LIMIT - 1, 2));
     }
     let mut list = Vec::new();
     pairs.iter().for_each(|pair| pair.put(&mut list));
+    assert!(list.len() <= 131_072, "longer than replay_pairs's buffer");
     print_pairs(&pairs);
     (list, pairs.len())
 }
 
 fn print_pairs(pairs: &[Limited]) {
-    println!(
-        "{:<24}{:>8}{:>8}{:>8}{:>8}",
-        "", "pairs", "fall", "uncut", "cells"
-    );
+    type Test = fn(&&&Limited) -> bool;
+    const TESTS: [(&str, Test); 4] = [
+        ("pairs", |_| true),
+        ("total falls", |p| p.falls()),
+        ("a cell falls", |p| p.uncut()),
+        ("other stops", |p| p.redirected()),
+    ];
+    print!("{:<24}", "");
+    TESTS.iter().for_each(|(what, _)| print!("{what:>14}"));
+    println!("{:>14}", "cells");
     for (strategy, name) in ["ETD", "RSR", "SCAN"].into_iter().enumerate() {
         for (raise, (how, _)) in RAISES.into_iter().enumerate() {
-            let of: Vec<_> = pairs
+            let is = |p: &&Limited| usize::from(p.strategy) == strategy && p.raise == raise;
+            let found: Vec<_> = pairs.iter().filter(is).collect();
+            let cells = found.iter().flat_map(|p| &p.cases);
+            let cells: usize = cells.map(|(_, pass)| pass.cells.len()).sum();
+            print!("{name:<5}{how:<19}");
+            TESTS
                 .iter()
-                .filter(|p| usize::from(p.strategy) == strategy && p.raise == raise)
-                .collect();
-            let falls = of.iter().filter(|p| p.falls()).count();
-            let uncut = of.iter().filter(|p| p.uncut()).count();
-            let cells = of.iter().flat_map(|p| &p.cases).map(|c| c.1.cells.len());
-            println!(
-                "{name:<5}{how:<19}{:>8}{falls:>8}{uncut:>8}{:>8}",
-                of.len(),
-                cells.sum::<usize>()
-            );
+                .for_each(|(_, test)| print!("{:>14}", found.iter().filter(test).count()));
+            println!("{cells:>14}");
         }
     }
 }
