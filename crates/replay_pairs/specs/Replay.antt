@@ -8,7 +8,7 @@ use native.Mathlib.Omega.{arith}
 use lib.Dec.{ltb}
 use lib.ListN.{length}
 use Rattle.laws.specs.Bools.{bit, bit-lt}
-use Rattle.lists.specs.Turns.{Reached, reached-start, reached-next}
+use Rattle.lists.specs.Turns.{Reached}
 use Rattle.stored_passes.specs.declared.Place.{Place}
 use Rattle.stored_passes.specs.declared.Place.the-variants.{Whole, Cut}
 use Rattle.stored_passes.specs.declared.Stored.{Stored}
@@ -58,9 +58,7 @@ turnOf s at t = stepBy (caseOf s at) s at t
 
 -- byte at is reached with these totals
 abbrev pub Met : List ℕ → ℕ → Totals → Type 0
-Met s at t =
-    Reached (λ (p : Step). p .next) (λ p. turnOf s (p .next) (p .totals)) (record { next = 0; totals = record { pairs = 0; lower = 0; cells = 0; differ = 0 } })
-    (length s) (record { next = at; totals = t })
+Met s at t = Reached (λ (p : Step). p .next) (λ p. p .totals) (turnOf s) (record { next = 0; totals = record { pairs = 0; lower = 0; cells = 0; differ = 0 } }) (length s) at t
 
 -- the totals after the whole list
 abbrev pub Replayed : List ℕ → Totals → Type 0
@@ -116,16 +114,3 @@ module _ (s : List ℕ) (at : ℕ) (t : Totals) {r : Step} (v : Place) where
 
   pub turned-first : v ≡ caseOf s at → Turned s at (stepBy v s at t) r → Turned s at (turnOf s at t) r
   turned-first e h = turned-as s at (ap (λ (z : Place). stepBy z s at t) e) h
-
-pub met-start : (s : List ℕ) → Met s 0 (record { pairs = 0; lower = 0; cells = 0; differ = 0 })
-met-start s =
-    reached-start (λ (p : Step). p .next) (λ p. turnOf s (p .next) (p .totals))
-    (record { next = 0; totals = record { pairs = 0; lower = 0; cells = 0; differ = 0 } }) (length s)
-
-pub met-next : (s : List ℕ) (at : ℕ) (t : Totals) {r : Step} → Met s at t → at < length s → r ≡ turnOf s at t → Met s (r .next) (r .totals)
-met-next s at t {r} h l e =
-    reached-next (λ (p : Step). p .next) (λ p. turnOf s (p .next) (p .totals))
-    (record { next = 0; totals = record { pairs = 0; lower = 0; cells = 0; differ = 0 } }) (length s) (record { next = at; totals = t }) {r = r} h l e
-
-pub met-end : (s : List ℕ) (at : ℕ) (t : Totals) → Met s at t → at ≤ length s → length s ≤ at → Replayed s t
-met-end s at t h a b = let e : at ≡ length s = omega arith in subst (λ (z : ℕ). Met s z t) e h

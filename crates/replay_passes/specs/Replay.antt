@@ -1,12 +1,12 @@
 -- The totals of a replay: how many sheets, matrices of the Rust's and cells were compared, and how many entries differ. Assumes nothing.
 use Prim.Native.Nat.{ℕ, _+_, _-_, _≤_, _<_}
-use mathlib.Core.Path.{_≡_, ap, ap₂, _∙_, subst}
+use mathlib.Core.Path.{_≡_, ap, ap₂, _∙_}
 use mathlib.Core.List.{List}
 use native.Mathlib.Omega.{arith}
 use lib.Dec.{eqb}
 use lib.ListN.{length, getD}
 use Rattle.laws.specs.Bools.{bit, bit-lt}
-use Rattle.lists.specs.Turns.{Reached, reached-start, reached-next}
+use Rattle.lists.specs.Turns.{Reached}
 use Rattle.stored_passes.specs.declared.Place.{Place}
 use Rattle.stored_passes.specs.declared.Place.the-variants.{Whole, Cut}
 use Rattle.stored_passes.specs.declared.Stored.{Stored}
@@ -41,9 +41,7 @@ turnOf s at t = stepBy (caseOf s at) s at t
 
 -- byte at is reached with these totals
 abbrev pub Met : List ℕ → ℕ → Totals → Type 0
-Met s at t =
-    Reached (λ (p : Step). p .next) (λ p. turnOf s (p .next) (p .totals)) (record { next = 0; totals = record { sheets = 0; built = 0; cells = 0; differ = 0 } })
-    (length s) (record { next = at; totals = t })
+Met s at t = Reached (λ (p : Step). p .next) (λ p. p .totals) (turnOf s) (record { next = 0; totals = record { sheets = 0; built = 0; cells = 0; differ = 0 } }) (length s) at t
 
 -- the totals after the whole list
 abbrev pub Replayed : List ℕ → Totals → Type 0
@@ -95,16 +93,3 @@ turned-by s at t (Whole p) {r} l h e i er k =
 turned-by s at t Cut {r} l h e i er k =
     let next : r .next ≡ length s = ap (λ (z : Step). z .next) er in
     record { is = er ∙ ap (λ (v : Place). stepBy v s at t) e; on = omega (arith, next); within = omega (arith, next); counted = k }
-
-pub met-start : (s : List ℕ) → Met s 0 (record { sheets = 0; built = 0; cells = 0; differ = 0 })
-met-start s =
-    reached-start (λ (p : Step). p .next) (λ p. turnOf s (p .next) (p .totals))
-    (record { next = 0; totals = record { sheets = 0; built = 0; cells = 0; differ = 0 } }) (length s)
-
-pub met-next : (s : List ℕ) (at : ℕ) (t : Totals) {r : Step} → Met s at t → at < length s → r ≡ turnOf s at t → Met s (r .next) (r .totals)
-met-next s at t {r} h l e =
-    reached-next (λ (p : Step). p .next) (λ p. turnOf s (p .next) (p .totals))
-    (record { next = 0; totals = record { sheets = 0; built = 0; cells = 0; differ = 0 } }) (length s) (record { next = at; totals = t }) {r = r} h l e
-
-pub met-end : (s : List ℕ) (at : ℕ) (t : Totals) → Met s at t → at ≤ length s → length s ≤ at → Replayed s t
-met-end s at t h a b = let e : at ≡ length s = omega arith in subst (λ (z : ℕ). Met s z t) e h
