@@ -1,17 +1,17 @@
 // Demand 3, run: passes stored pairs through `bench::pass_two` and holds both answers and all buffers to what is stored of each: idle cars, pending
-// stops, total, decisions, cells and sweeps. A pair is one sheet twice, the second time with its candidate limit raised or lifted, which is tested too.
-// Prints the first difference of each pass that has one, and how much was compared.
+// stops, total, decisions, cells and sweeps. A pair is one sheet twice, the second time with its candidate limit raised or lifted, which is tested
+// too. Prints the first difference of each pass that has one, and how much was compared.
 //
-// The list was made by `oracle list pairs 1 FILE` (tools/oracle) from the published Rust files. A pair is two cases, one after the other, each as in the
-// list of replay_passes (crate stored_passes). 163 have one idle car, 41 have two, 3 have four. The pairs:
+// The list was made by `oracle list pairs 1 FILE` (tools/oracle) from the published Rust files. A pair is two cases, one after the other, each as in
+// the list of replay_passes (crate stored_passes). 163 have one idle car, 41 have two, 3 have four. The pairs:
 //                           ETD    RSR   SCAN
 //     raised by 1            24     23     20
 //     raised by 2 or more    23     24     20
 //     lifted                 25     25     23
 //     the total falls        50     50     43
 //
-// Pairs are counted from 0. It was tried that it can fail: a bit flipped in a stored number of stops, total, decision, cell or sweep of either pass is
-// printed with both values. Sheets that differ in a further byte, or whose limits are equal, are named, and so is a list without its last byte.
+// Pairs are counted from 0. It was tried that it can fail: a bit flipped in a stored number of stops, total, decision, cell or sweep of either pass
+// is printed with both values. Sheets that differ in a further byte, or whose limits are equal, are named, and so is a list without its last byte.
 use bench::Answer;
 use libc::STDIN_FILENO;
 use libc::STDOUT_FILENO;
@@ -19,16 +19,14 @@ use stored_passes::Place;
 use stored_passes::Stored;
 use stored_passes::Tally;
 ghost use mathlib.Core.Path.{_≡_};
-ghost use mathlib.Core.Bool.{not};
 ghost use Prim.Native.Nat.{_+_, _≤_, _<_};
-ghost use lib.Dec.{ltb};
 ghost use lib.ListN.{length};
 ghost use Rattle.laws.specs.Bools.{bit};
 ghost use Rattle.bench.specs.Answers.{totalOf};
 ghost use Rattle.stored_passes.specs.Cases.{Inside, caseOf};
-ghost use Rattle.stored_passes.specs.Passes.{sheetIn, differsAt, totalAt};
+ghost use Rattle.stored_passes.specs.Passes.{differsAt};
 ghost use Rattle.replay_pairs.specs.Pairs.{ofLimit, agree, isPair};
-ghost use Rattle.replay_pairs.specs.Replay.{comparedAt, cutAt, secondBy, turnOf, Counted, Turned, Replayed};
+ghost use Rattle.replay_pairs.specs.Replay.{lowerAt, pairAt, comparedAt, cutAt, secondBy, turnOf, Counted, Turned, Replayed};
 
 // Both passes of a pair beside their cases, and whether the second total is below the first.
 struct Compared {
@@ -89,7 +87,7 @@ fn is_pair<'a>(first: &'a [u8], second: &'a [u8]) -> bool
 // Whether the sheets of the cases at byte at and at its end are a pair.
 fn paired(s: &[u8], at: usize, p: Stored, q: Stored) -> bool
     requires { ⌜ (at + 2 ≤ p .end) × Inside (now s) p × (p .next + 2 ≤ q .end) × Inside (now s) q ⌝ }
-    ensures { λ r. ⌜ r ≡ isPair (sheetIn (now (s .entry)) at p) (sheetIn (now (s .entry)) (p .next) q) ⌝ }
+    ensures { λ r. ⌜ r ≡ pairAt (now (s .entry)) at p q ⌝ }
 {
     let start = at + 2;
     let end = p.end;
@@ -120,7 +118,7 @@ fn run_pair(s: &[u8], at: usize, p: Stored, q: Stored) -> Compared
     requires { ⌜ (at + 2 ≤ p .end) × Inside (now s) p × (p .next + 2 ≤ q .end) × Inside (now s) q ⌝ }
     ensures first { λ r. ⌜ r .first .differ ≡ differsAt (now (s .entry)) at p ⌝ }
     ensures second { λ r. ⌜ r .second .differ ≡ differsAt (now (s .entry)) (p .next) q ⌝ }
-    ensures lower { λ r. ⌜ r .lower ≡ ltb (totalAt (now (s .entry)) (p .next) q) (totalAt (now (s .entry)) at p) ⌝ }
+    ensures lower { λ r. ⌜ r .lower ≡ lowerAt (now (s .entry)) at p q ⌝ }
 {
     let start = at + 2;
     let end = p.end;

@@ -1,7 +1,7 @@
 // What the programs that replay stored passes share: a case of a list, and a pass beside it.
 //
-// A case is the sheet's length in 16 bits, its bytes, n and m in 8 bits each, the total in 64, n decisions of 32, n × max(n, m) cells of 64, the number
-// of car records in 8, as many sweeps of 8, and 8 bits that are 1 where the Rust built the matrix; the most significant byte comes first.
+// A case is the sheet's length in 16 bits, its bytes, n and m in 8 bits each, the total in 64, n decisions of 32, n × max(n, m) cells of 64, the
+// number of car records in 8, as many sweeps of 8, and 8 bits that are 1 where the Rust built the matrix; the most significant byte comes first.
 use bench::Answer;
 use libc::STDOUT_FILENO;
 ghost use mathlib.Core.Path.{_≡_};
@@ -10,8 +10,8 @@ ghost use lib.ListN.{length};
 ghost use Rattle.stored_passes.specs.Cases.{apart, differing, Inside, Placed, partsOf, caseOf, caseDiffers};
 ghost use Rattle.stored_passes.specs.Passes.{passDiffers};
 
-// Where the parts of a case lie: the sheet's end, the decisions, the cells, the sweeps and the next case, by byte; and how many idle cars, cells and car
-// records are stored.
+// Where the parts of a case lie: the sheet's end, the decisions, the cells, the sweeps and the next case, by byte; and how many idle cars, cells and
+// car records are stored.
 pub struct Stored {
     pub end: usize,
     pub cars: usize,
@@ -28,7 +28,7 @@ pub enum Place {
     Cut,
 }
 
-// How many entries differ, and the first that does: its kind (of `name`), its index, and both values.
+// How many entries differ, and the first that does: its kind (of `print_kind`), its index, and both values.
 pub struct Tally {
     pub differ: u64,
     pub kind: u8,
@@ -247,6 +247,7 @@ fn print_kind(kind: u8) {
     ;
 }
 
+// A text, and a number after it.
 pub fn print_number(before: &[u8], n: u64) {
     io::write_all(STDOUT_FILENO, before);
     io::print_decimal(STDOUT_FILENO, n);

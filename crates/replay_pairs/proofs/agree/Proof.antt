@@ -1,5 +1,5 @@
 -- replay_pairs::agree meets its contract.
-use Prim.Native.Nat.{ℕ, _-_, _≤_}
+use Prim.Native.Nat.{_-_, _≤_}
 use Rattle.laws.specs.Folds.{every, every-step, ended}
 use Rattle.replay_pairs.specs.Pairs.{agreeAt, agree-no, agree-is}
 use borrow.Author.Needs.{needs}

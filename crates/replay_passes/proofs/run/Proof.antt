@@ -2,7 +2,6 @@
 use Prim.Native.Nat.{_-_, _≤_}
 use Rattle.lists.specs.Turns.{reached-start, reached-next, reached-end}
 use Rattle.replay_passes.specs.Replay.{Counted, Met}
-use borrow.Author.Needs.{needs}
 use lib.ListN.{length}
 use native.Mathlib.Omega.{arith}
 use Rattle.replay_passes.proofs.run.Statement.{statement}

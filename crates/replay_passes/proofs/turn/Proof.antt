@@ -1,11 +1,11 @@
 -- replay_passes::turn meets its contract.
-use Prim.Native.Nat.{ℕ, _+_, _-_, _*_, _≤_}
+use Prim.Native.Nat.{_+_}
 use Rattle.replay_passes.specs.Replay.{stepBy, turned-by}
 use Rattle.stored_passes.specs.Cases.{Placed}
 use Rattle.stored_passes.specs.declared.Place.{Place}
-use Rattle.stored_passes.specs.declared.Place.the-variants.{Whole, Cut}
+use Rattle.stored_passes.specs.declared.Place.the-variants.{Cut}
 use borrow.Author.Needs.{needs}
-use mathlib.Core.Path.{_≡_, sym, _∙_, subst}
+use mathlib.Core.Path.{sym, _∙_, subst}
 use Rattle.replay_passes.proofs.turn.Statement.{statement}
 use Rattle.replay_passes.proofs.turn.Tie as tie
 

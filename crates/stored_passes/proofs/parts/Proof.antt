@@ -1,7 +1,6 @@
 -- stored_passes::parts meets its contract.
 use Rattle.stored_passes.specs.Cases.{small-size, parts-short, parts-many, parts-cut, parts-whole}
 use borrow.Author.Needs.{needs}
-use mathlib.Core.Path.{_≡_, refl}
 use native.Mathlib.Omega.{arith}
 use Rattle.stored_passes.proofs.parts.Statement.{statement}
 use Rattle.stored_passes.proofs.parts.Tie as tie
