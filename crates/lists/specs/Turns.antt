@@ -1,25 +1,38 @@
 -- A stored list, replayed case by case: a step holds where the next case starts, and the totals so far. Assumes nothing.
-use Prim.Native.Nat.{ℕ, zero, suc, _<_}
-use mathlib.Core.Path.{_≡_, refl, sym}
+use Prim.Native.Nat.{ℕ, zero, suc, _≤_, _<_}
+use mathlib.Core.Path.{_≡_, refl}
 use mathlib.Core.Bool.{cond}
+use native.Mathlib.Omega.{arith}
 use lib.Dec.{ltb}
 use borrow.Author.Tests.{lt-ltb}
 
-module _ {S : Type 0} (next : S → ℕ) (turn : S → S) (start : S) (end : ℕ) where
+module _ {S T : Type 0} (next : S → ℕ) (totals : S → T) (turn : ℕ → T → S) (start : S) (end : ℕ) where
   -- after k cases, or all of them where there are fewer
   unfoldable pub stepsOf : ℕ → S
   stepsOf zero = start
-  stepsOf (suc k) = cond (ltb (next (stepsOf k)) end) (turn (stepsOf k)) (stepsOf k)
+  stepsOf (suc k) = cond (ltb (next (stepsOf k)) end) (turn (next (stepsOf k)) (totals (stepsOf k))) (stepsOf k)
 
-  -- the replay comes to this step
-  pub record Reached (p : S) : Type 0 where
+  -- byte at is reached with these totals
+  pub record Reached (at : ℕ) (t : T) : Type 0 where
     pub cases : ℕ
-    pub all : stepsOf cases ≡ p
+    pub place : next (stepsOf cases) ≡ at
+    pub counts : totals (stepsOf cases) ≡ t
 
-  pub reached-start : Reached start
-  unfolding stepsOf
-  reached-start = record { cases = 0; all = refl }
+-- ---- laws
 
-  pub reached-next : (p : S) {r : S} → Reached p → next p < end → r ≡ turn p → Reached r
+module _ {S T : Type 0} {next : S → ℕ} {totals : S → T} {turn : ℕ → T → S} {start : S} {end : ℕ} where
+  pub reached-start : Reached next totals turn start end (next start) (totals start)
   unfolding stepsOf
-  reached-next p {r} h l e = record { cases = suc (h .cases); all = rw (h .all, lt-ltb (next p) end l) (sym e) }
+  reached-start = record { cases = 0; place = refl; counts = refl }
+
+  pub reached-next : {at : ℕ} {t : T} {r : S} → Reached next totals turn start end at t → at < end → r ≡ turn at t → Reached next totals turn start end (next r) (totals r)
+  unfolding stepsOf
+  reached-next {at} {t} {r} h l e =
+      record {
+        cases = suc (h .cases);
+        place = rw (h .place, h .counts, lt-ltb at end l, e);
+        counts = rw (h .place, h .counts, lt-ltb at end l, e);
+      }
+
+  pub reached-end : {at : ℕ} {t : T} → Reached next totals turn start end at t → at ≤ end → end ≤ at → Reached next totals turn start end end t
+  reached-end {at} h a b = record { cases = h .cases; place = omega (arith, h .place); counts = h .counts }

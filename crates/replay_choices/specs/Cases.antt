@@ -12,7 +12,7 @@ use Rattle.laws.specs.Bools.{bit, bit-lt, neither-left, neither-right}
 use Rattle.laws.specs.Folds.{any}
 use Rattle.laws.specs.Tables.{tab}
 use Rattle.lists.specs.Lists.{number}
-use Rattle.lists.specs.Turns.{Reached, reached-start, reached-next}
+use Rattle.lists.specs.Turns.{Reached}
 use Rattle.matcher.specs.declared.Matching.{Matching}
 use Rattle.matcher.specs.Promise.{matching, written, foundOf, leastOr}
 use Rattle.replay_choices.specs.declared.Answer.{Answer}
@@ -87,7 +87,7 @@ start = record { next = 0; totals = record { compared = 0; differ = 0 } }
 
 -- byte at is reached with these totals
 abbrev pub Met : List ℕ → ℕ → Totals → Type 0
-Met s at t = Reached (λ (p : Step). p .next) (λ p. turnOf s (p .next) (p .totals)) start (length s) (record { next = at; totals = t })
+Met s at t = Reached (λ (p : Step). p .next) (λ p. p .totals) (turnOf s) start (length s) at t
 
 -- the totals after the whole list
 abbrev pub Replayed : List ℕ → Totals → Type 0
@@ -212,15 +212,3 @@ turn-whole s at t {h} {b} {r} l k long eh eb is e =
       within = rw e (omega (arith, not-broken h (length s - at) (sym eb ∙ is) .within));
       counted = rw e (record { compared = omega (arith, k .compared); differ = omega (arith, k .differ, bit-lt (differ s at h)) });
     }
-
-pub met-start : (s : List ℕ) → Met s 0 (record { compared = 0; differ = 0 })
-met-start s =
-    reached-start (λ (p : Step). p .next) (λ p. turnOf s (p .next) (p .totals)) start (length s)
-
-pub met-next : (s : List ℕ) (at : ℕ) (t : Totals) {r : Step} → Met s at t → at < length s → r ≡ turnOf s at t → Met s (r .next) (r .totals)
-met-next s at t {r} h l e =
-    reached-next (λ (p : Step). p .next) (λ p. turnOf s (p .next) (p .totals)) start (length s)
-    (record { next = at; totals = t }) {r = r} h l e
-
-pub met-end : (s : List ℕ) (at : ℕ) (t : Totals) → Met s at t → at ≤ length s → length s ≤ at → Replayed s t
-met-end s at t h a b = let e : at ≡ length s = omega arith in subst (λ (z : ℕ). Met s z t) e h

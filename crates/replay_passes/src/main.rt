@@ -3,47 +3,22 @@
 //
 // The list was made by `oracle list passes 1 FILE` (tools/oracle) from the published Rust files: for each of the harness's faulty passes a small sheet
 // that tells it from the right one, ten sheets of each profile, and document 01's example. Where the Rust builds no matrix (no idle car, or no
-// pending stop), cells and total are document 01's. A case is the sheet's length in 16 bits, its bytes, n and m in 8 bits each, the total in 64,
-// n decisions of 32, n × max(n, m) cells of 64, the number of car records in 8, as many sweeps of 8, and 8 bits that are 1 where the Rust
-// built the matrix; the most significant byte comes first.
+// pending stop), cells and total are document 01's. A case's format is in the crate stored_passes.
 //
 // Sheets are counted from 0. It was tried that it can fail: a bit flipped in a stored number of stops, total, decision, cell or sweep, or in a sheet's
 // edition, is printed with both values, and so is a list without its last byte.
-use bench::Answer;
 use libc::STDIN_FILENO;
 use libc::STDOUT_FILENO;
+use stored_passes::Place;
+use stored_passes::Stored;
+use stored_passes::Tally;
 ghost use mathlib.Core.Path.{_≡_};
-ghost use Prim.Native.Nat.{_+_, _≤_, _<_, _*_, max};
+ghost use Prim.Native.Nat.{_+_, _≤_, _<_};
 ghost use lib.ListN.{length};
 ghost use Rattle.laws.specs.Bools.{bit};
-ghost use Rattle.replay_passes.specs.Cases.{apart, differing, Inside, Placed, partsOf, caseOf, caseDiffers, differsAt, comparedAt, cutAt, Counted, Turned, Replayed};
-
-// Where the parts of a case lie: the sheet's end, the decisions, the cells, the sweeps and the next case, by byte; and how many idle cars, cells and car
-// records are stored.
-struct Stored {
-    end: usize,
-    cars: usize,
-    size: usize,
-    decisions: usize,
-    cells: usize,
-    sweeps: usize,
-    records: usize,
-    next: usize,
-}
-
-enum Place {
-    Whole(Stored),
-    Cut,
-}
-
-// How many entries differ, and the first that does: its kind (of `name`), its index, and both values.
-struct Tally {
-    differ: u64,
-    kind: u8,
-    index: u64,
-    ours: u64,
-    theirs: u64,
-}
+ghost use Rattle.stored_passes.specs.Cases.{Inside};
+ghost use Rattle.stored_passes.specs.Passes.{differsAt};
+ghost use Rattle.replay_passes.specs.Replay.{comparedAt, cutAt, Counted, Turned, Replayed};
 
 struct Totals {
     sheets: u64,
@@ -65,232 +40,18 @@ fn list_buffer() -> [u8; 131072]
     [0; 131072]
 }
 
-fn columns(n: usize, m: usize) -> usize
-    ensures { λ r. ⌜ r ≡ max n m ⌝ }
-{
-    if n < m { m } else { n }
-}
-
-// The parts after a sheet that ends at byte end, with n idle cars and w columns.
-fn parts(s: &[u8], end: usize, n: usize, w: usize) -> Place
-    requires { ⌜ (end + 10 ≤ length (now s)) × (n ≤ 32) × (w ≤ 64) ⌝ }
-    ensures { λ r. ⌜ (r ≡ partsOf (now (s .entry)) end n w) × Placed (now (s .entry)) end r ⌝ }
-{
-    let size = n * w;
-    let left = s.len() - end;
-    let front = 10 + 4 * n + 8 * size;
-    if left <= front {
-        return Place::Cut;
-    }
-    let records = lists::number(s, end + front, 1) as usize;
-    if 32 < records {
-        return Place::Cut;
-    }
-    if left < front + 2 + records {
-        return Place::Cut;
-    }
-    Place::Whole(Stored {
-        end,
-        cars: n,
-        size,
-        decisions: end + 10,
-        cells: end + 10 + 4 * n,
-        sweeps: end + front + 1,
-        records,
-        next: end + front + 2 + records,
-    })
-}
-
-// The parts of the case at byte at.
-fn case_at(s: &[u8], at: usize) -> Place
-    requires { ⌜ at < length (now s) ⌝ }
-    ensures { λ r. ⌜ (r ≡ caseOf (now (s .entry)) at) × Placed (now (s .entry)) (at + 2) r ⌝ }
-{
-    let left = s.len() - at;
-    if left < 2 {
-        return Place::Cut;
-    }
-    let bytes = lists::number(s, at, 2) as usize;
-    if left < bytes + 12 {
-        return Place::Cut;
-    }
-    let end = at + 2 + bytes;
-    let n = lists::number(s, end, 1) as usize;
-    let m = lists::number(s, end + 1, 1) as usize;
-    let w = columns(n, m);
-    if 32 < n {
-        return Place::Cut;
-    }
-    if 64 < w {
-        return Place::Cut;
-    }
-    parts(s, end, n, w)
-}
-
-// One entry more.
-fn met(t: Tally, kind: u8, index: usize, ours: u64, theirs: u64) -> Tally
-    requires { ⌜ t .differ < 1000000 ⌝ }
-    ensures { λ r. ⌜ r .differ ≡ t .differ + apart ours theirs ⌝ }
-{
-    if ours == theirs {
-        return t;
-    }
-    if 0 < t.differ {
-        return Tally {
-            differ: t.differ + 1,
-            kind: t.kind,
-            index: t.index,
-            ours: t.ours,
-            theirs: t.theirs,
-        };
-    }
-    Tally {
-        differ: 1,
-        kind,
-        index: index as u64,
-        ours,
-        theirs,
-    }
-}
-
-fn wide32(x: u32) -> u64
-    ensures { λ r. ⌜ r ≡ x ⌝ }
-{
-    x as u64
-}
-
-fn wide8(x: u8) -> u64
-    ensures { λ r. ⌜ r ≡ x ⌝ }
-{
-    x as u64
-}
-
-fn decisions_met<'a>(s: &'a [u8], at: usize, ours: &'a [u32], n: usize, t: Tally) -> Tally
-    requires { ⌜ (at + 4 * n ≤ length (now s)) × (n ≤ length (now ours)) × (n ≤ 2048) × (t .differ ≤ 9000) ⌝ }
-    ensures { λ r. ⌜ r .differ ≡ t .differ + differing (now (s .entry)) at 4 (now (ours .entry)) n ⌝ }
-{
-    let mut d = t;
-    let mut k: usize = 0;
-    while k < n {
-        d = met(d, 3, k, wide32(ours[k]), lists::number(s, at + 4 * k, 4));
-        k += 1;
-    }
-    d
-}
-
-fn cells_met<'a>(s: &'a [u8], at: usize, ours: &'a [u64], n: usize, t: Tally) -> Tally
-    requires { ⌜ (at + 8 * n ≤ length (now s)) × (n ≤ length (now ours)) × (n ≤ 2048) × (t .differ ≤ 9000) ⌝ }
-    ensures { λ r. ⌜ r .differ ≡ t .differ + differing (now (s .entry)) at 8 (now (ours .entry)) n ⌝ }
-{
-    let mut d = t;
-    let mut k: usize = 0;
-    while k < n {
-        d = met(d, 4, k, ours[k], lists::number(s, at + 8 * k, 8));
-        k += 1;
-    }
-    d
-}
-
-fn sweeps_met<'a>(s: &'a [u8], at: usize, ours: &'a [u8], n: usize, t: Tally) -> Tally
-    requires { ⌜ (at + 1 * n ≤ length (now s)) × (n ≤ length (now ours)) × (n ≤ 2048) × (t .differ ≤ 9000) ⌝ }
-    ensures { λ r. ⌜ r .differ ≡ t .differ + differing (now (s .entry)) at 1 (now (ours .entry)) n ⌝ }
-{
-    let mut d = t;
-    let mut k: usize = 0;
-    while k < n {
-        d = met(d, 5, k, wide8(ours[k]), lists::number(s, at + 1 * k, 1));
-        k += 1;
-    }
-    d
-}
-
-// A pass beside the case: every entry that is stored is met once.
-fn compared<'a>(
-    s: &'a [u8],
-    p: Stored,
-    cars: u64,
-    stops: u64,
-    total: u64,
-    decisions: &'a [u32],
-    matrix: &'a [u64],
-    sweeps: &'a [u8],
-) -> Tally
-    requires { ⌜ (p .end + 10 ≤ length (now s)) × (p .decisions + 4 * p .cars ≤ length (now s)) × (p .cells + 8 * p .size ≤ length (now s)) × (p .sweeps + 1 * p .records ≤ length (now s)) × (p .cars ≤ 32) × (p .size ≤ 2048) × (p .records ≤ 32) × (length (now decisions) ≡ 32) × (length (now matrix) ≡ 2048) × (length (now sweeps) ≡ 32) ⌝ }
-    ensures { λ r. ⌜ (r .differ ≡ caseDiffers (now (s .entry)) p cars stops total (now (decisions .entry)) (now (matrix .entry)) (now (sweeps .entry))) × (r .differ ≤ 3 + p .cars + p .size + p .records) ⌝ }
-{
-    let none = Tally {
-        differ: 0,
-        kind: 0,
-        index: 0,
-        ours: 0,
-        theirs: 0,
-    };
-    let a = met(none, 0, 0, cars, lists::number(s, p.end, 1));
-    let b = met(a, 1, 0, stops, lists::number(s, p.end + 1, 1));
-    let c = met(b, 2, 0, total, lists::number(s, p.end + 2, 8));
-    let d = decisions_met(s, p.decisions, decisions, p.cars, c);
-    let e = cells_met(s, p.cells, matrix, p.size, d);
-    sweeps_met(s, p.sweeps, sweeps, p.records, e)
-}
-
 // The pass on the sheet of the case at byte at.
 fn run_case(s: &[u8], at: usize, p: Stored) -> Tally
-    requires { ⌜ Inside (now s) (at + 2) p ⌝ }
-    ensures { λ r. ⌜ (r .differ ≡ differsAt (now (s .entry)) at p) × (at + r .differ ≤ p .next) ⌝ }
+    requires { ⌜ (at + 2 ≤ p .end) × Inside (now s) p ⌝ }
+    ensures { λ r. ⌜ r .differ ≡ differsAt (now (s .entry)) at p ⌝ }
 {
     let start = at + 2;
     let end = p.end;
-    let mut decisions = [0u32; 32];
-    let mut matrix = [0u64; 2048];
-    let mut sweeps = [0u8; 32];
-    match bench::pass(&s[start..end], &mut decisions, &mut matrix, &mut sweeps) {
-        Answer::Refused { number, offset: _ } => Tally {
-            differ: 1,
-            kind: 6,
-            index: 0,
-            ours: number as u64,
-            theirs: 0,
-        },
-        Answer::Passed {
-            cars,
-            stops,
-            total,
-            ranked: _,
-        } => compared(s, p, cars, stops, total, &decisions, &matrix, &sweeps),
-    }
-}
-
-fn print_kind(kind: u8) {
-    match kind {
-        0 => io::write_all(STDOUT_FILENO, b"cars"),
-        1 => io::write_all(STDOUT_FILENO, b"stops"),
-        2 => io::write_all(STDOUT_FILENO, b"total"),
-        3 => io::write_all(STDOUT_FILENO, b"decision"),
-        4 => io::write_all(STDOUT_FILENO, b"cell"),
-        5 => io::write_all(STDOUT_FILENO, b"sweep"),
-        _ => io::write_all(STDOUT_FILENO, b"refusal"),
-    }
-    ;
-}
-
-fn print_number(before: &[u8], n: u64) {
-    io::write_all(STDOUT_FILENO, before);
-    io::print_decimal(STDOUT_FILENO, n);
-}
-
-// The first difference of a sheet that has one.
-fn report(sheet: u64, at: usize, t: Tally) {
-    if t.differ == 0 {
-        return;
-    }
-    print_number(b"sheet ", sheet);
-    print_number(b" at byte ", at as u64);
-    io::write_all(STDOUT_FILENO, b": ");
-    print_kind(t.kind);
-    print_number(b" ", t.index);
-    print_number(b", ours ", t.ours);
-    print_number(b", theirs ", t.theirs);
-    io::write_all(STDOUT_FILENO, b"\n");
+    let mut decisions = [0xffff_ffffu32; 32];
+    let mut matrix = [0xffff_ffff_ffff_ffffu64; 2048];
+    let mut sweeps = [0xffu8; 32];
+    let answer = bench::pass(&s[start..end], &mut decisions, &mut matrix, &mut sweeps);
+    stored_passes::answered(s, p, answer, &decisions, &matrix, &sweeps)
 }
 
 fn one_if(b: bool) -> u64
@@ -301,11 +62,11 @@ fn one_if(b: bool) -> u64
 
 // The case at byte at, compared.
 fn compare(s: &[u8], at: usize, p: Stored, t: Totals) -> Step
-    requires { ⌜ Inside (now s) (at + 2) p × Counted at t ⌝ }
+    requires { ⌜ (at + 2 ≤ p .end) × Inside (now s) p × Counted at t ⌝ }
     ensures { λ r. ⌜ (r ≡ comparedAt (now (s .entry)) at p t) × Counted (r .next) (r .totals) ⌝ }
 {
     let d = run_case(s, at, p);
-    report(t.sheets, at, d);
+    stored_passes::report(b"sheet ", t.sheets, at, d);
     let last = p.next - 1;
     let built = one_if(s[last] == 1);
     Step {
@@ -324,7 +85,7 @@ fn cut(s: &[u8], at: usize, t: Totals) -> Step
     requires { ⌜ (at < length (now s)) × Counted at t ⌝ }
     ensures { λ r. ⌜ (r ≡ cutAt (now (s .entry)) t) × Counted (r .next) (r .totals) ⌝ }
 {
-    print_number(b"no whole case at byte ", at as u64);
+    stored_passes::print_number(b"no whole case at byte ", at as u64);
     io::write_all(STDOUT_FILENO, b"\n");
     Step {
         next: s.len(),
@@ -341,7 +102,7 @@ fn turn(s: &[u8], at: usize, t: Totals) -> Step
     requires { ⌜ (at < length (now s)) × Counted at t ⌝ }
     ensures { λ r. ⌜ Turned (now (s .entry)) at t r ⌝ }
 {
-    match case_at(s, at) {
+    match stored_passes::case_at(s, at) {
         Place::Whole(p) => compare(s, at, p, t),
         Place::Cut => cut(s, at, t),
     }
@@ -369,9 +130,9 @@ fn main() {
     let mut buffer = list_buffer();
     let n = io::read_full(STDIN_FILENO, &mut buffer);
     let t = run(&buffer[..n]);
-    print_number(b"", t.sheets);
-    print_number(b" sheets compared, ", t.built);
-    print_number(b" with a matrix of the Rust's; ", t.cells);
-    print_number(b" cells, ", t.differ);
+    stored_passes::print_number(b"", t.sheets);
+    stored_passes::print_number(b" sheets compared, ", t.built);
+    stored_passes::print_number(b" with a matrix of the Rust's; ", t.cells);
+    stored_passes::print_number(b" cells, ", t.differ);
     io::write_all(STDOUT_FILENO, b" differences\n");
 }

@@ -102,9 +102,7 @@ turnOf s at t =
 
 -- byte at is reached with these totals
 abbrev pub Met : List ℕ → ℕ → Totals → Type 0
-Met s at t =
-    Reached (λ (p : Step). p .next) (λ p. turnOf s (p .next) (p .totals)) (record { next = 0; totals = record { sheets = 0; ranks = 0; differ = 0 } }) (length s)
-    (record { next = at; totals = t })
+Met s at t = Reached (λ (p : Step). p .next) (λ p. p .totals) (turnOf s) (record { next = 0; totals = record { sheets = 0; ranks = 0; differ = 0 } }) (length s) at t
 
 -- the totals after the whole list
 abbrev pub Replayed : List ℕ → Totals → Type 0

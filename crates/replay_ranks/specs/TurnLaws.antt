@@ -1,6 +1,6 @@
 -- The totals, case by case. Assumes nothing.
 use Prim.Native.Nat.{ℕ, _+_, _-_, _*_, _≤_, _<_}
-use mathlib.Core.Path.{_≡_, refl, sym, ap, _∙_, subst}
+use mathlib.Core.Path.{_≡_, refl, sym, ap, _∙_}
 use mathlib.Core.List.{List}
 use native.Mathlib.Omega.{arith}
 use lib.ListN.{length, take, drop}
@@ -11,11 +11,10 @@ use Rattle.layout.specs.declared.Reading.{Reading}
 use Rattle.layout.specs.declared.Reading.the-variants.{Refused, Accepted}
 use Rattle.layout.specs.Records.{sheetOf}
 use Rattle.layout.specs.Verdict.{verdict}
-use Rattle.lists.specs.Turns.{reached-start, reached-next}
 use Rattle.replay_ranks.specs.declared.Case.{Case}
 use Rattle.replay_ranks.specs.declared.Totals.{Totals}
 use Rattle.replay_ranks.specs.declared.Step.{Step}
-use Rattle.replay_ranks.specs.Ranks.{differs, caseAt, pairAt, refusedAt, comparedBy, cutAt, turnOf, Met, Replayed, Counted, Inside}
+use Rattle.replay_ranks.specs.Ranks.{differs, caseAt, pairAt, refusedAt, comparedBy, cutAt, turnOf, Counted, Inside}
 
 -- ---- a case
 
@@ -91,18 +90,3 @@ turn-whole s at t {case} {r} e l h er =
       within = omega (arith, next);
       counted = rw (next, ap (λ (z : Step). z .totals) er) (by-counted s b case t at (verdict b) h (p .long));
     }
-
--- ---- all turns
-
-pub met-start : (s : List ℕ) → Met s 0 (record { sheets = 0; ranks = 0; differ = 0 })
-met-start s =
-    reached-start (λ (p : Step). p .next) (λ p. turnOf s (p .next) (p .totals)) (record { next = 0; totals = record { sheets = 0; ranks = 0; differ = 0 } })
-    (length s)
-
-pub met-next : (s : List ℕ) (at : ℕ) (t : Totals) {r : Step} → Met s at t → at < length s → r ≡ turnOf s at t → Met s (r .next) (r .totals)
-met-next s at t {r} h l e =
-    reached-next (λ (p : Step). p .next) (λ p. turnOf s (p .next) (p .totals)) (record { next = 0; totals = record { sheets = 0; ranks = 0; differ = 0 } })
-    (length s) (record { next = at; totals = t }) {r = r} h l e
-
-pub met-end : (s : List ℕ) (at : ℕ) (t : Totals) → Met s at t → at ≤ length s → length s ≤ at → Replayed s t
-met-end s at t h a b = let e : at ≡ length s = omega arith in subst (λ (z : ℕ). Met s z t) e h

@@ -1,6 +1,6 @@
 -- What a stored case asks, and what the reader answers. Assumes nothing.
 use Prim.Native.Nat.{ℕ, _+_, _-_, _≤_, _<_}
-use mathlib.Core.Path.{_≡_, ap, ap₂, _∙_, subst}
+use mathlib.Core.Path.{_≡_, ap, ap₂, _∙_}
 use mathlib.Core.Bool.{Bool, not, _&&_, cond}
 use mathlib.Core.List.{List}
 use native.Mathlib.Omega.{arith}
@@ -12,7 +12,7 @@ use Rattle.layout.specs.declared.Reading.{Reading}
 use Rattle.layout.specs.declared.Reading.the-variants.{Refused, Accepted}
 use Rattle.layout.specs.Verdict.{verdict}
 use Rattle.lists.specs.Lists.{number}
-use Rattle.lists.specs.Turns.{Reached, reached-start, reached-next}
+use Rattle.lists.specs.Turns.{Reached}
 use Rattle.replay_refusals.specs.declared.Answer.{Answer}
 use Rattle.replay_refusals.specs.declared.Case.{Case}
 use Rattle.replay_refusals.specs.declared.Totals.{Totals}
@@ -56,9 +56,7 @@ turnOf s at t =
 
 -- byte at is reached with these totals
 abbrev pub Met : List ℕ → ℕ → Totals → Type 0
-Met s at t =
-    Reached (λ (p : Step). p .next) (λ p. turnOf s (p .next) (p .totals)) (record { next = 0; totals = record { compared = 0; accepted = 0; differ = 0 } }) (length s)
-    (record { next = at; totals = t })
+Met s at t = Reached (λ (p : Step). p .next) (λ p. p .totals) (turnOf s) (record { next = 0; totals = record { compared = 0; accepted = 0; differ = 0 } }) (length s) at t
 
 -- the totals after the whole list
 abbrev pub Replayed : List ℕ → Totals → Type 0
@@ -130,16 +128,3 @@ turn-whole s at n t {r} l h long en whole e =
       within = omega (arith, next);
       counted = compared-counted s at n t e h;
     }
-
-pub met-start : (s : List ℕ) → Met s 0 (record { compared = 0; accepted = 0; differ = 0 })
-met-start s =
-    reached-start (λ (p : Step). p .next) (λ p. turnOf s (p .next) (p .totals)) (record { next = 0; totals = record { compared = 0; accepted = 0; differ = 0 } })
-    (length s)
-
-pub met-next : (s : List ℕ) (at : ℕ) (t : Totals) {r : Step} → Met s at t → at < length s → r ≡ turnOf s at t → Met s (r .next) (r .totals)
-met-next s at t {r} h l e =
-    reached-next (λ (p : Step). p .next) (λ p. turnOf s (p .next) (p .totals)) (record { next = 0; totals = record { compared = 0; accepted = 0; differ = 0 } })
-    (length s) (record { next = at; totals = t }) {r = r} h l e
-
-pub met-end : (s : List ℕ) (at : ℕ) (t : Totals) → Met s at t → at ≤ length s → length s ≤ at → Replayed s t
-met-end s at t h a b = let e : at ≡ length s = omega arith in subst (λ (z : ℕ). Met s z t) e h

@@ -1,6 +1,6 @@
 -- What a vector asks, and what the proved functions answer. Assumes nothing.
 use Prim.Native.Nat.{ℕ, _+_, _-_, _≤_, _<_}
-use mathlib.Core.Path.{_≡_, sym, ap, _∙_, subst}
+use mathlib.Core.Path.{_≡_, sym, ap, _∙_}
 use mathlib.Core.Bool.{Bool, not, cond}
 use mathlib.Core.List.{List}
 use mathlib.Core.Logic.{_≢_}
@@ -13,7 +13,7 @@ use lib.Ieee.{binary64, ofBits}
 use Rattle.scale.specs.Scale.{scaleCost}
 use Rattle.bits.specs.Field.{fieldAt}
 use Rattle.lists.specs.Lists.{number}
-use Rattle.lists.specs.Turns.{Reached, reached-start, reached-next}
+use Rattle.lists.specs.Turns.{Reached}
 use Rattle.vectors.specs.declared.Case.{Case}
 use Rattle.vectors.specs.declared.Totals.{Totals}
 use Rattle.vectors.specs.declared.Step.{Step}
@@ -85,9 +85,7 @@ turnOf s at t = stepBy (vectorAt s at) s at t
 
 -- byte at is reached with these totals
 abbrev pub Met : List ℕ → ℕ → Totals → Type 0
-Met s at t =
-    Reached (λ (p : Step). p .next) (λ p. turnOf s (p .next) (p .totals))
-    (record { next = 0; totals = record { scales = 0; «scales_differ» = 0; fields = 0; «fields_differ» = 0 } }) (length s) (record { next = at; totals = t })
+Met s at t = Reached (λ (p : Step). p .next) (λ p. p .totals) (turnOf s) (record { next = 0; totals = record { scales = 0; «scales_differ» = 0; fields = 0; «fields_differ» = 0 } }) (length s) at t
 
 -- the totals after the whole list
 abbrev pub Replayed : List ℕ → Totals → Type 0
@@ -200,16 +198,3 @@ pub step-field : (s : List ℕ) (at w n : ℕ) (t : Totals) {c : Case} {same : B
     ≡ stepBy (Field w n) s at t
 unfolding stepBy
 step-field s at w n t ec es ea = rw (ea, es, ec)
-
-pub met-start : (s : List ℕ) → Met s 0 (record { scales = 0; «scales_differ» = 0; fields = 0; «fields_differ» = 0 })
-met-start s =
-    reached-start (λ (p : Step). p .next) (λ p. turnOf s (p .next) (p .totals))
-    (record { next = 0; totals = record { scales = 0; «scales_differ» = 0; fields = 0; «fields_differ» = 0 } }) (length s)
-
-pub met-next : (s : List ℕ) (at : ℕ) (t : Totals) {r : Step} → Met s at t → at < length s → r ≡ turnOf s at t → Met s (r .next) (r .totals)
-met-next s at t {r} h l e =
-    reached-next (λ (p : Step). p .next) (λ p. turnOf s (p .next) (p .totals))
-    (record { next = 0; totals = record { scales = 0; «scales_differ» = 0; fields = 0; «fields_differ» = 0 } }) (length s) (record { next = at; totals = t }) {r = r} h l e
-
-pub met-end : (s : List ℕ) (at : ℕ) (t : Totals) → Met s at t → at ≤ length s → length s ≤ at → Replayed s t
-met-end s at t h a b = let e : at ≡ length s = omega arith in subst (λ (z : ℕ). Met s z t) e h

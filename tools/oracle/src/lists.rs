@@ -5,7 +5,7 @@ use sheetgen::bits;
 use sheetgen::generate::{PROFILES, Profile, crowded, generate};
 use sheetgen::provoke;
 use sheetgen::rng::Rng;
-use sheetgen::sheet::{ETD, RSR, SCAN};
+use sheetgen::sheet::{ETD, NO_LIMIT, RSR, SCAN};
 use sheetgen::shrink::shrink;
 use sheetgen::{Aboard, Car, Demand, Line, Sheet, Stop, Waiting, read};
 
@@ -286,6 +286,228 @@ pub fn passes(seed: u64) -> (Vec<u8>, usize) {
         put_pass(&mut list, &pass);
     }
     (list, cases.len())
+}
+
+/// A sheet under two limits, the second one higher, with both passes.
+struct Limited {
+    strategy: u8,
+    raise: usize,
+    cases: [(Vec<u8>, Pass); 2],
+}
+
+/// How a limit is raised.
+const RAISES: [(&str, fn(u16) -> u16); 3] = [
+    ("raised by 1", |limit| limit + 1),
+    ("raised by 2 or more", |limit| {
+        [limit + 2, 65_534, limit + 7][usize::from(limit - 1)]
+    }),
+    ("lifted", |_| NO_LIMIT),
+];
+
+impl Limited {
+    fn new(rust: &mut Rust, sheet: &Sheet, first: u16, raise: usize) -> Self {
+        let mut case = |limit| {
+            let mut sheet = sheet.clone();
+            sheet.policy.limit = limit;
+            let bytes = sheet.write();
+            let Answer::Passed(pass) = answer(rust, &bytes) else {
+                unreachable!()
+            };
+            (bytes, pass)
+        };
+        let cases = [case(first), case(RAISES[raise].1(first))];
+        let [(low, _), (high, _)] = &cases;
+        assert!(low[..6] == high[..6] && low[6..8] < high[6..8] && low[8..] == high[8..]);
+        Self {
+            strategy: sheet.policy.strategy,
+            raise,
+            cases,
+        }
+    }
+
+    fn total(&self, case: usize) -> u64 {
+        self.cases[case].1.total
+    }
+
+    fn falls(&self) -> bool {
+        self.total(1) < self.total(0)
+    }
+
+    /// Whether a cell that the first limit cut has a rank under the second.
+    fn uncut(&self) -> bool {
+        self.cases[0].1.cells != self.cases[1].1.cells
+    }
+
+    /// Whether some car is sent to another stop, or sent where it stayed.
+    fn redirected(&self) -> bool {
+        self.cases[0].1.decisions != self.cases[1].1.decisions
+    }
+
+    fn put(&self, list: &mut Vec<u8>) {
+        for (bytes, pass) in &self.cases {
+            put(list, bytes);
+            put_pass(list, pass);
+        }
+    }
+
+    fn length(&self) -> usize {
+        let mut list = Vec::new();
+        self.put(&mut list);
+        list.len()
+    }
+}
+
+/// The records of a sheet but for ids and masks: dropping records and counting them anew leaves these as they are.
+fn values(sheet: &Sheet) -> std::collections::BTreeSet<String> {
+    let cars = sheet.cars.iter().map(|car| {
+        let known = |id: u32| u32::from(id != 0);
+        format!(
+            "{:?}",
+            Car {
+                id: 0,
+                line: 0,
+                stop: known(car.stop),
+                target: car.target.map(known),
+                restricted: 0,
+                calls: 0,
+                ..car.clone()
+            }
+        )
+    });
+    let stops = sheet.stops.iter().map(|s| format!("stop {:?}", s.position));
+    let waiting = sheet.waiting.iter().map(|w| {
+        let bound = (w.line.is_some(), w.destination.is_some());
+        format!("waiting {bound:?} {:?} {}", w.weight, w.wait)
+    });
+    let demands = sheet
+        .demands
+        .iter()
+        .map(|d| format!("{:?}", (d.riding, d.call)));
+    cars.chain(stops).chain(waiting).chain(demands).collect()
+}
+
+/// What is asked of a pair.
+struct Wanted {
+    strategy: u8,
+    profile: Profile,
+    raise: usize,
+    /// Whether the total falls. Where it stays, a cell changes all the same.
+    falls: bool,
+    /// The fewest idle cars.
+    cars: u64,
+    /// The most bytes in the list.
+    length: usize,
+}
+
+/// A pair as wanted, of the profile's first sheet from `next` on that makes one: with as few of the sheet's records as
+/// will do, the values in them as they are.
+fn limited(rust: &mut Rust, wanted: &Wanted, seed: u64, next: &mut u64) -> Limited {
+    loop {
+        let index = *next;
+        *next += 1;
+        let bytes = generate(wanted.profile, seed, index);
+        let sheet = Sheet::of_accepted(&bytes);
+        if sheet.policy.strategy != wanted.strategy {
+            continue;
+        }
+        let (all, first) = (values(&sheet), 1 + (index % 3) as u16);
+        let mut pair = |bytes: &[u8]| {
+            let part = Sheet::of_accepted(bytes);
+            if part.policy != sheet.policy || !values(&part).is_subset(&all) {
+                return None;
+            }
+            let pair = Limited::new(rust, &part, first, wanted.raise);
+            let pass = &pair.cases[0].1;
+            let good = pass.from_the_rust && pass.cars >= wanted.cars;
+            (good && pair.uncut() && pair.falls() == wanted.falls).then_some(pair)
+        };
+        if pair(&bytes).is_some() {
+            let small = shrink(&bytes, &mut |b| pair(b).is_some());
+            if let Some(found) = pair(&small).filter(|p| p.length() <= wanted.length) {
+                return found;
+            }
+        }
+    }
+}
+
+/// Each sheet twice, the second time under a higher limit, as two cases of the passes. Prints what is in them.
+pub fn pairs(seed: u64) -> (Vec<u8>, usize) {
+    const PROFILES: [Profile; 7] = [
+        Profile::Valid,
+        Profile::Ties,
+        Profile::Near,
+        Profile::Extreme,
+        Profile::Limits,
+        Profile::Cover,
+        Profile::Fine,
+    ];
+    let mut rust = Rust::new();
+    let mut next = [0; PROFILES.len()];
+    let mut pairs = vec![Limited::new(&mut rust, &Sheet::example(), 1, 2)];
+    for strategy in [ETD, RSR, SCAN] {
+        // No sheet of the last profile is SCAN's.
+        let profiles = PROFILES.len() - usize::from(strategy == SCAN);
+        for raise in 0..RAISES.len() {
+            for (k, profile) in PROFILES.into_iter().enumerate().take(profiles) {
+                let mut add = |falls, cars, length| {
+                    let wanted = Wanted {
+                        strategy,
+                        profile,
+                        raise,
+                        falls,
+                        cars,
+                        length,
+                    };
+                    pairs.push(limited(&mut rust, &wanted, seed, &mut next[k]));
+                };
+                add(true, 1, 600);
+                add(false, 1, 600);
+                if k % 3 != raise {
+                    add(true, 2, 850);
+                }
+                if (k + 1) % 3 != raise {
+                    add(true, 1, 600);
+                }
+                if k == 0 && raise == usize::from(strategy) {
+                    add(true, 4, 1900);
+                }
+            }
+        }
+        // A limit that cuts nothing, lifted.
+        let sheet = Sheet::of_accepted(&pairs[pairs.len() - 1].cases[0].0);
+        pairs.push(Limited::new(&mut rust, &sheet, NO_LIMIT - 1, 2));
+    }
+    let mut list = Vec::new();
+    pairs.iter().for_each(|pair| pair.put(&mut list));
+    assert!(list.len() <= 131_072, "longer than replay_pairs's buffer");
+    print_pairs(&pairs);
+    (list, pairs.len())
+}
+
+fn print_pairs(pairs: &[Limited]) {
+    type Test = fn(&&&Limited) -> bool;
+    const TESTS: [(&str, Test); 4] = [
+        ("pairs", |_| true),
+        ("total falls", |p| p.falls()),
+        ("a cell falls", |p| p.uncut()),
+        ("other stops", |p| p.redirected()),
+    ];
+    print!("{:<24}", "");
+    TESTS.iter().for_each(|(what, _)| print!("{what:>14}"));
+    println!("{:>14}", "cells");
+    for (strategy, name) in ["ETD", "RSR", "SCAN"].into_iter().enumerate() {
+        for (raise, (how, _)) in RAISES.into_iter().enumerate() {
+            let is = |p: &&Limited| usize::from(p.strategy) == strategy && p.raise == raise;
+            let found: Vec<_> = pairs.iter().filter(is).collect();
+            let cells = found.iter().flat_map(|p| &p.cases);
+            let cells: usize = cells.map(|(_, pass)| pass.cells.len()).sum();
+            print!("{name:<5}{how:<19}");
+            TESTS
+                .iter()
+                .for_each(|(_, test)| print!("{:>14}", found.iter().filter(test).count()));
+            println!("{cells:>14}");
+        }
+    }
 }
 
 /// An idle car and a pending stop, with the rank that the Rust gives them.

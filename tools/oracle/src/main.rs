@@ -28,7 +28,7 @@ oracle selftest [COUNT [FAULT]]
 oracle time LIBRARY [ROUNDS]   from bytes to decisions, the bench beside the Rust, in microseconds a sheet
 oracle limits SEED COUNT       a higher limit never raises the total, by the Rust
 oracle survey SEED COUNT       what the sheets of each profile are like
-oracle list refusals|passes|ranks SEED FILE
+oracle list refusals|passes|pairs|ranks SEED FILE
                                writes a fixed list
 Sheets are read from FILE or standard input.";
 
@@ -97,6 +97,7 @@ fn run(args: &[&str]) -> Result<(), String> {
             let (list, cases) = match *kind {
                 "refusals" => lists::refusals(number(seed)?),
                 "passes" => lists::passes(number(seed)?),
+                "pairs" => lists::pairs(number(seed)?),
                 "ranks" => lists::ranks(number(seed)?),
                 _ => return Err(USAGE.into()),
             };

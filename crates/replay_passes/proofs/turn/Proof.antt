@@ -1,17 +1,19 @@
 -- replay_passes::turn meets its contract.
-use Prim.Native.Nat.{ℕ, _+_, _-_, _*_, _≤_}
-use Rattle.replay_passes.specs.Cases.{Placed, stepBy, turned-by}
-use Rattle.replay_passes.specs.declared.Place.{Place}
-use Rattle.replay_passes.specs.declared.Place.the-variants.{Whole, Cut}
+use Prim.Native.Nat.{_+_}
+use Rattle.replay_passes.specs.Replay.{stepBy, turned-by}
+use Rattle.stored_passes.specs.Cases.{Placed}
+use Rattle.stored_passes.specs.declared.Place.{Place}
+use Rattle.stored_passes.specs.declared.Place.the-variants.{Cut}
 use borrow.Author.Needs.{needs}
-use mathlib.Core.Path.{_≡_, sym, _∙_, subst}
+use mathlib.Core.Path.{sym, _∙_, subst}
 use Rattle.replay_passes.proofs.turn.Statement.{statement}
 use Rattle.replay_passes.proofs.turn.Tie as tie
 
 compare-requires : tie.Need-compare-requires
 compare-requires c κs =
     let a = c .before .before .before .before .before .args in
-    (subst (λ (r : Place). Placed (a .s .now) (a .at + 2) r) (c .before .p .given .1) (c .before .before .before .case-at .ensures .1), c .before .before .before .before .before .pre .1)
+    let i = subst (λ (r : Place). Placed (a .s .now) (a .at + 2) r) (c .before .p .given .1) (c .before .before .before .case-at .ensures .1) in
+    (i .0, i .1, c .before .before .before .before .before .pre .1)
 
 returns : tie.Need-returns
 unfolding stepBy

@@ -12,8 +12,8 @@ use Rattle.rows.proofs.kept_by.Tie as tie
 returns : tie.Need-returns
 unfolding sheetOf
 returns c =
-    let a = c .before .before .before .before .before .before .before .before .before .before .args in
-    let p = c .before .before .before .before .before .before .before .before .before .before .pre in
+    let a = c .before .before .before .before .before .before .before .before .before .args in
+    let p = c .before .before .before .before .before .before .before .before .before .pre in
     let ds = c .before .before .before .before .before .fill-distances .last .1 .1 .0 in
     c .kept-stops .ensures
     ∙ ap (λ (v : ℕ). built (cut v ds (a .limit)) 64) (c .before .before .viable-stops .ensures)

@@ -1,10 +1,9 @@
--- replay_passes::parts meets its contract.
-use Rattle.replay_passes.specs.Cases.{small-size, parts-short, parts-many, parts-cut, parts-whole}
+-- stored_passes::parts meets its contract.
+use Rattle.stored_passes.specs.Cases.{small-size, parts-short, parts-many, parts-cut, parts-whole}
 use borrow.Author.Needs.{needs}
-use mathlib.Core.Path.{_≡_, refl}
 use native.Mathlib.Omega.{arith}
-use Rattle.replay_passes.proofs.parts.Statement.{statement}
-use Rattle.replay_passes.proofs.parts.Tie as tie
+use Rattle.stored_passes.proofs.parts.Statement.{statement}
+use Rattle.stored_passes.proofs.parts.Tie as tie
 
 mul-size : tie.Need-mul-size
 mul-size c = omega (arith, small-size (c .before .args .n) (c .before .args .w) (c .before .pre .1) (c .before .pre .2))
@@ -31,17 +30,19 @@ returns-4 c =
     let a = c .before .before .before .before .before .args in
     let p = c .before .before .before .before .before .pre in (
       parts-whole (a .s .now) (a .end) (a .n) (a .w) (c .before .before .before .if1 .left) (c .before .before .number .ensures .0) (c .before .if2 .left) (c .if3 .left),
-      record {
-        starts = omega arith;
-        few-cars = p .1;
-        few-cells = small-size (a .n) (a .w) (p .1) (p .2);
-        few-records = c .before .if2 .left;
-        decisions-from = omega arith;
-        cells-from = omega arith;
-        sweeps-from = omega arith;
-        ends = omega arith;
-        inside = omega (arith, p .0, c .if3 .left);
-      },
+      (
+        omega arith,
+        record {
+          few-cars = p .1;
+          few-cells = small-size (a .n) (a .w) (p .1) (p .2);
+          few-records = c .before .if2 .left;
+          decisions-from = omega arith;
+          cells-from = omega arith;
+          sweeps-from = omega arith;
+          ends = omega arith;
+          inside = omega (arith, p .0, c .if3 .left);
+        },
+      ),
     )
 
 pub parts-spec : {M : Type 1} → statement M

@@ -1,11 +1,11 @@
--- replay_passes::case_at meets its contract.
-use Prim.Native.Nat.{ℕ, _+_, _-_, _*_, _≤_}
-use Rattle.replay_passes.specs.Cases.{placed-from, case-headless, case-short, case-cars, case-wide, case-whole}
+-- stored_passes::case_at meets its contract.
+use Prim.Native.Nat.{_+_}
+use Rattle.stored_passes.specs.Cases.{placed-from, case-headless, case-short, case-cars, case-wide, case-whole}
 use borrow.Author.Needs.{needs}
-use mathlib.Core.Path.{_≡_, _∙_}
+use mathlib.Core.Path.{_∙_}
 use native.Mathlib.Omega.{arith}
-use Rattle.replay_passes.proofs.case_at.Statement.{statement}
-use Rattle.replay_passes.proofs.case_at.Tie as tie
+use Rattle.stored_passes.proofs.case_at.Statement.{statement}
+use Rattle.stored_passes.proofs.case_at.Tie as tie
 
 returns : tie.Need-returns
 returns c = let a = c .before .before .args in (case-headless (a .s .now) (a .at) (c .if1 .taken), tt)

@@ -1,9 +1,9 @@
--- replay_passes::met meets its contract.
-use Rattle.replay_passes.specs.Cases.{apart-no, apart-yes}
+-- stored_passes::met meets its contract.
+use Rattle.stored_passes.specs.Cases.{apart-no, apart-yes}
 use borrow.Author.Needs.{needs}
 use native.Mathlib.Omega.{arith}
-use Rattle.replay_passes.proofs.met.Statement.{statement}
-use Rattle.replay_passes.proofs.met.Tie as tie
+use Rattle.stored_passes.proofs.met.Statement.{statement}
+use Rattle.stored_passes.proofs.met.Tie as tie
 
 returns : tie.Need-returns
 returns c =
