@@ -26,10 +26,18 @@ use Rattle.components.specs.declared.Kind.the-variants as kind
 use Rattle.layout.specs.declared.Counts.{Counts}
 use Rattle.layout.specs.declared.Reading.{Reading}
 use Rattle.layout.specs.declared.Reading.the-variants.{Refused, Accepted}
-use Rattle.layout.specs.Offsets.{headLength, stopStart, lineStart, carStart, aboardStart, waitingStart, demandStart, recordLength, none, next, endOf, lastKind, stopsFrom, linesFrom, carsFrom, Small}
-use Rattle.layout.specs.Table.{car·hasBypassUp, car·hasBypassDown, car·bypassDown, policy·limit, policy·rate, policy·w0, policy·w1, policy·w2, policy·w3, policy·w4, stop·id, line·id, line·serves, car·id, car·line, car·phase, car·stop, car·hasTarget, car·target, car·position, car·speed, car·capacity, car·load, car·bypassUp, car·bypassDown, car·transition, car·dwell, car·restricted, car·calls, aboard·car, waiting·stop, waiting·weight, waiting·wait, demand·stop, first}
+use Rattle.layout.specs.Offsets.{headLength, stopStart, lineStart, carStart, aboardStart, waitingStart, demandStart, recordLength, none, next, endOf}
+use Rattle.layout.specs.Offsets.{lastKind, stopsFrom, linesFrom, carsFrom, Small}
+use Rattle.layout.specs.Table.{car·hasBypassUp, car·hasBypassDown, car·bypassDown, policy·limit, policy·rate, policy·w0, policy·w1, policy·w2}
+use Rattle.layout.specs.Table.{policy·w3, policy·w4, stop·id, line·id, line·serves, car·id, car·line, car·phase, car·stop, car·hasTarget, car·target}
+use Rattle.layout.specs.Table.{car·position, car·speed, car·capacity, car·load, car·bypassUp, car·bypassDown, car·transition, car·dwell}
+use Rattle.layout.specs.Table.{car·restricted, car·calls, aboard·car, waiting·stop, waiting·weight, waiting·wait, demand·stop, first}
 use Rattle.layout.specs.Records.{Fields, from, flag, double, policyOf, stopOf, lineOf, carOf, aboardOf, waitingOf, demandOf, sheetOf, limitOf, read}
-use Rattle.layout.specs.Refusals.{recordCount, kindAt, pastEnd, refusal2Head, refusal6Empty, refusal16, tailFits, refusal6, refusal4, refusal7, seen, hasStop, hasLine, hasCar, hasDemand, lastStop, presentZero, strategyAt, loadWeighed, phaseAt, refusal8Policy, refusal11Policy, refusal12, refusal15, refusal9Stop, refusal11Stop, refusal9Line, refusal10Line, refusal8Car, refusal9Car, refusal10Car, refusal11Car, refusal13, refusal8Aboard, refusal9Aboard, refusal10Aboard, refusal8Waiting, refusal9Waiting, refusal10Waiting, refusal11Waiting, refusal14, refusal9Demand, refusal10Demand}
+use Rattle.layout.specs.Refusals.{recordCount, kindAt, pastEnd, refusal2Head, refusal6Empty, refusal16, tailFits, refusal6, refusal4, refusal7, seen}
+use Rattle.layout.specs.Refusals.{hasStop, hasLine, hasCar, hasDemand, lastStop, presentZero, strategyAt, loadWeighed, phaseAt, refusal8Policy}
+use Rattle.layout.specs.Refusals.{refusal11Policy, refusal12, refusal15, refusal9Stop, refusal11Stop, refusal9Line, refusal10Line, refusal8Car}
+use Rattle.layout.specs.Refusals.{refusal9Car, refusal10Car, refusal11Car, refusal13, refusal8Aboard, refusal9Aboard, refusal10Aboard}
+use Rattle.layout.specs.Refusals.{refusal8Waiting, refusal9Waiting, refusal10Waiting, refusal11Waiting, refusal14, refusal9Demand, refusal10Demand}
 use Rattle.layout.specs.Verdict.{bodyRefusal, recordRefusal, headRules, tailRules, given, tailVerdict, recordsVerdict, verdict, firstOf}
 use Rattle.layout.specs.Readings.{refused≢accepted, same-counts}
 use Rattle.layout.specs.VerdictLaws.{pick-none, Clean, clean}
@@ -100,7 +108,8 @@ above-zero n e = let h = eqb-false n 0 e in ⊎-elim (λ (l : 0 < n). l) (λ (l 
 gone : {n i : ℕ} → n ≡ 0 → i < n → ⊥
 gone e l = absurd (omega arith)
 
-agree-counts : {p s l k a w d p′ s′ l′ k′ a′ w′ d′ : ℕ} → p ≡ p′ → s ≡ s′ → l ≡ l′ → k ≡ k′ → a ≡ a′ → w ≡ w′ → d ≡ d′
+agree-counts : {p s l k a w d p′ s′ l′ k′ a′ w′ d′ : ℕ} → p ≡ p′ → s ≡ s′ → l ≡ l′ → k ≡ k′ → a ≡ a′
+    → w ≡ w′ → d ≡ d′
     → counts p s l k a w d ≡ counts p′ s′ l′ k′ a′ w′ d′
 agree-counts e1 e2 e3 e4 e5 e6 e7 = cc
 
@@ -282,7 +291,8 @@ unfolding recordsVerdict
 on s n c d e =
     let a = not-given (recordRefusal s c) (endOf c) (recordsVerdict s n (next c (kindOf (kindAt s c)))) d e in (clean s c (a .0), a .1)
 
-from-here : (s : List ℕ) (n : ℕ) (c d : Counts) → Records s c → (0 < c .policies) ⊎ (0 < n) → recordsVerdict s n c ≡ Accepted d → Whole s d
+from-here : (s : List ℕ) (n : ℕ) (c d : Counts) → Records s c → (0 < c .policies) ⊎ (0 < n) → recordsVerdict s n c ≡ Accepted d
+    → Whole s d
 unfolding recordsVerdict
 from-here s zero c d h f e = at-tail s c d h (⊎-elim (λ x. x) (λ x. absurd (omega arith)) f) e
 from-here s (suc n) c d h f e =

@@ -24,7 +24,11 @@ use Rattle.layout.specs.declared.Counts.{Counts}
 use Rattle.layout.specs.Offsets.{headLength, stopStart, recordLength, none, next, endOf, stopsFrom, linesFrom, carsFrom, demandsFrom, bodyFrom}
 use Rattle.layout.specs.Table.{line·id, car·id, car·line, aboard·car, waiting·stop, demand·stop, first, stop·id}
 use Rattle.layout.specs.Records.{Fields, from, read}
-use Rattle.layout.specs.Refusals.{recordCount, kindAt, lengthAt, refusal2Head, refusal3, refusal6Empty, refusal16, tailFits, strategyAt, seen, hasStop, hasLine, hasCar, hasDemand, lastStop, unusedWeights, loadWeighed, refusal2, refusal8Policy, refusal11Policy, refusal12, refusal15, refusal9Stop, refusal11Stop, refusal9Line, refusal10Line, refusal8Car, refusal9Car, refusal10Car, refusal11Car, refusal13, refusal8Aboard, refusal9Aboard, refusal10Aboard, refusal8Waiting, refusal9Waiting, refusal10Waiting, refusal11Waiting, refusal14, refusal9Demand, refusal10Demand}
+use Rattle.layout.specs.Refusals.{recordCount, kindAt, lengthAt, refusal2Head, refusal3, refusal6Empty, refusal16, tailFits, strategyAt, seen}
+use Rattle.layout.specs.Refusals.{hasStop, hasLine, hasCar, hasDemand, lastStop, unusedWeights, loadWeighed, refusal2, refusal8Policy}
+use Rattle.layout.specs.Refusals.{refusal11Policy, refusal12, refusal15, refusal9Stop, refusal11Stop, refusal9Line, refusal10Line, refusal8Car}
+use Rattle.layout.specs.Refusals.{refusal9Car, refusal10Car, refusal11Car, refusal13, refusal8Aboard, refusal9Aboard, refusal10Aboard}
+use Rattle.layout.specs.Refusals.{refusal8Waiting, refusal9Waiting, refusal10Waiting, refusal11Waiting, refusal14, refusal9Demand, refusal10Demand}
 use Rattle.layout.specs.Verdict.{pick, bodyRefusal, recordRefusal, tailVerdict, recordsVerdict, verdict, firstOf}
 use Rattle.layout.specs.VerdictLaws.{clean}
 use Rattle.accepted.specs.Accepted.{Records, one-more, small, few-demands, no-records}
@@ -109,7 +113,8 @@ module _ (s : List ℕ) (long : 65536 < length s) where
   count-same : recordCount s ≡ recordCount start
   count-same = field-same (0 + 8) 16 (omega arith)
 
-  seen-same : (base len n id : ℕ) → ((i : ℕ) → i < n → base + len * i + bodyFrom + 32 ≤ 524288) → seen s base len n id ≡ seen start base len n id
+  seen-same : (base len n id : ℕ) → ((i : ℕ) → i < n → base + len * i + bodyFrom + 32 ≤ 524288)
+      → seen s base len n id ≡ seen start base len n id
   unfolding seen
   seen-same base len n id h =
       any-cong (λ i. eqb (read (from s (base + len * i)) (first 32)) id) (λ i. eqb (read (from start (base + len * i)) (first 32)) id) n

@@ -13,9 +13,11 @@ use Rattle.components.specs.Codes.{phaseCode}
 use Rattle.layout.specs.declared.Counts.{Counts}
 use Rattle.layout.specs.declared.Reading.the-variants.{Accepted}
 use Rattle.layout.specs.Offsets.{carStart, aboardStart, waitingStart}
-use Rattle.layout.specs.Table.{car·id, car·line, car·stop, car·hasTarget, car·target, aboard·car, aboard·hasDestination, aboard·destination, waiting·stop, waiting·hasLine, waiting·line, waiting·hasDestination, waiting·destination}
+use Rattle.layout.specs.Table.{car·id, car·line, car·stop, car·hasTarget, car·target, aboard·car, aboard·hasDestination, aboard·destination}
+use Rattle.layout.specs.Table.{waiting·stop, waiting·hasLine, waiting·line, waiting·hasDestination, waiting·destination}
 use Rattle.layout.specs.Records.{Fields, from, flag, carOf, aboardOf, waitingOf, sheetOf, read}
-use Rattle.layout.specs.Refusals.{absentSet, presentZero, unusedStop, phaseAt, refusal8Car, refusal9Car, refusal8Aboard, refusal9Aboard, refusal8Waiting, refusal9Waiting}
+use Rattle.layout.specs.Refusals.{absentSet, presentZero, unusedStop, phaseAt, refusal8Car, refusal9Car, refusal8Aboard, refusal9Aboard}
+use Rattle.layout.specs.Refusals.{refusal8Waiting, refusal9Waiting}
 use Rattle.layout.specs.Verdict.{verdict, firstOf, bodyRefusal}
 use Rattle.layout.specs.VerdictLaws.{pick-none}
 use Rattle.accepted.specs.Accepted.{whole, body-at}
@@ -46,7 +48,8 @@ module _ (s : List ℕ) (c : Counts) (f : Fields) where
       let b = pick-none (refusal9Aboard f) 9 _ (omega arith) (a .1) in
       exact (flag f aboard·hasDestination) (eqb (read f aboard·destination) 0) (a .0) (neither-right (eqb (read f aboard·car) 0) _ (b .0))
 
-  waiting-exact : bodyRefusal s c kind.Waiting f ≡ 0 → (flag f waiting·hasLine ≡ not (eqb (read f waiting·line) 0)) × (flag f waiting·hasDestination ≡ not (eqb (read f waiting·destination) 0))
+  waiting-exact : bodyRefusal s c kind.Waiting f ≡ 0 → (flag f waiting·hasLine ≡ not (eqb (read f waiting·line) 0))
+      × (flag f waiting·hasDestination ≡ not (eqb (read f waiting·destination) 0))
   unfolding firstOf refusal8Waiting refusal9Waiting
   waiting-exact e =
       let a = pick-none (refusal8Waiting f) 8 _ (omega arith) e in
@@ -59,9 +62,11 @@ module _ (s : List ℕ) (c : Counts) (f : Fields) where
 -- each present bit says that the sheet's field is not 0
 pub record Optionals (s : List ℕ) (c : Counts) : Type 0 where
   pub target : (i : ℕ) → i < c .cars → flag (from s (carStart c i)) car·hasTarget ≡ not (eqb (sheetOf s c .car i .target) 0)
-  pub destination : (i : ℕ) → i < c .aboards → flag (from s (aboardStart c i)) aboard·hasDestination ≡ not (eqb (sheetOf s c .aboard i .destination) 0)
+  pub destination : (i : ℕ) → i < c .aboards → flag (from s (aboardStart c i)) aboard·hasDestination ≡ not
+      (eqb (sheetOf s c .aboard i .destination) 0)
   pub line : (i : ℕ) → i < c .waits → flag (from s (waitingStart c i)) waiting·hasLine ≡ not (eqb (sheetOf s c .waiting i .line) 0)
-  pub bound-for : (i : ℕ) → i < c .waits → flag (from s (waitingStart c i)) waiting·hasDestination ≡ not (eqb (sheetOf s c .waiting i .destination) 0)
+  pub bound-for : (i : ℕ) → i < c .waits → flag (from s (waitingStart c i)) waiting·hasDestination ≡ not
+      (eqb (sheetOf s c .waiting i .destination) 0)
 
 pub optional-ids : (s : List ℕ) (c : Counts) → verdict s ≡ Accepted c → Optionals s c
 unfolding sheetOf carOf aboardOf waitingOf

@@ -10,7 +10,8 @@ use Rattle.bits.specs.Field.{fieldAt, field-ext}
 use Rattle.components.specs.Codes.{kindOf}
 use Rattle.layout.specs.declared.Counts.{Counts}
 use Rattle.layout.specs.declared.Reading.the-variants.{Accepted}
-use Rattle.layout.specs.Table.{head·count, policy·strategy, policy·rate, policy·traffic, policy·w0, policy·w1, policy·w2, policy·w3, policy·w4, policy·w5}
+use Rattle.layout.specs.Table.{head·count, policy·strategy, policy·rate, policy·traffic, policy·w0, policy·w1, policy·w2, policy·w3, policy·w4}
+use Rattle.layout.specs.Table.{policy·w5}
 use Rattle.layout.specs.Offsets.{headLength, stopStart, lineStart, carStart, aboardStart, waitingStart, demandStart, none, next, endOf}
 use Rattle.layout.specs.Records.{from, policyOf, stopOf, lineOf, carOf, aboardOf, waitingOf, demandOf, sheetOf}
 use Rattle.layout.specs.Refusals.{recordCount, kindAt}

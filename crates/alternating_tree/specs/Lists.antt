@@ -117,7 +117,8 @@ below-set P l j v h all here k lk = ⊎-elim
     (λ ne. rw (at-other l j v k ne) (all k (omega arith)))
     (same? k j)
 
-pub beyond-set : (l l0 : List ℕ) (j v : ℕ) → ((k : ℕ) → j ≤ k → at l k ≡ at l0 k) → (k : ℕ) → j + 1 ≤ k → at (set l j v) k ≡ at l0 k
+pub beyond-set : (l l0 : List ℕ) (j v : ℕ) → ((k : ℕ) → j ≤ k → at l k ≡ at l0 k) → (k : ℕ) → j + 1 ≤ k
+    → at (set l j v) k ≡ at l0 k
 beyond-set l l0 j v all k lk = at-other l j v k (λ e. omega arith) ∙ all k (omega arith)
 
 -- the same, where the step leaves the list as it is

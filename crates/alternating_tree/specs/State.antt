@@ -15,9 +15,12 @@ use Rattle.assignment_problem.specs.Choice.{IsChoice, total, cellAt}
 use Rattle.assignment_problem.specs.Recursion.{leastTotal, columnOf}
 use Rattle.assignment_problem.specs.Chosen.{chosen-choice, chosen-total, chosen-least}
 use Rattle.assignment_problem.specs.Prices.{tight-least}
-use Rattle.assignment_problem.specs.Insertion.{lift, lift-in, lift-out, Matched, Priced, Tree, Path, Walk, lift-priced, lift-tree, mark, start-matched, start-priced, start-tree, way, walk-start, walk-matched, walk-priced, some-free, matched-choice, priced-tight}
+use Rattle.assignment_problem.specs.Insertion.{lift, lift-in, lift-out, Matched, Priced, Tree, Path, Walk, lift-priced, lift-tree, mark}
+use Rattle.assignment_problem.specs.Insertion.{start-matched, start-priced, start-tree, way, walk-start, walk-matched, walk-priced, some-free}
+use Rattle.assignment_problem.specs.Insertion.{matched-choice, priced-tight}
 use Rattle.assignment_problem.specs.Insertion as Step
-use Rattle.alternating_tree.specs.Lists.{at, big, at-same, at-other, gain, gain-in, gain-out, left, left-in, left-out, Rooted, Nearest, RaisedRows, RaisedColumns, FreeColumn, DistancesRelaxed, Going, Gone}
+use Rattle.alternating_tree.specs.Lists.{at, big, at-same, at-other, gain, gain-in, gain-out, left, left-in, left-out, Rooted, Nearest}
+use Rattle.alternating_tree.specs.Lists.{RaisedRows, RaisedColumns, FreeColumn, DistancesRelaxed, Going, Gone}
 
 -- the lengths of the lists
 pub record Sizes (u w ro co : List ℕ) : Type 0 where
@@ -205,7 +208,8 @@ module _ {cells : List ℕ} {n cols i t f d : ℕ} {u w ro co di fr se : List �
     slack-zero = omega (arith, gr .S-is j lj, left-out (at se j) d (at di j) out)
 
     -- it gains nothing when it joins
-    no-gain : (se′ di′ : List ℕ) → at se′ j ≡ t + 1 → at di′ j ≡ at di j → gain (at se′ j) d (at di′ j) ≡ gain (at se j) d (at di j)
+    no-gain : (se′ di′ : List ℕ) → at se′ j ≡ t + 1 → at di′ j ≡ at di j
+        → gain (at se′ j) d (at di′ j) ≡ gain (at se j) d (at di j)
     no-gain se′ di′ e k = omega (arith, gain-in (at se′ j) d (at di′ j) (omega arith), gain-out (at se j) d (at di j) out)
 
     -- an owned column joins: its row's price fits there
@@ -374,7 +378,8 @@ module _ {cells : List ℕ} {n cols i t f d : ℕ} {u w ro co di fr se : List �
           w-is x lx = rw′ .raised x lx ∙ ap (λ (y : ℕ). at w x + y) (same-gain-free x) ∙ sym (gr .W-is x lx)
 
 -- one column more in the tree is one fewer outside it
-pub unseen-less : (cols : ℕ) (se se′ : List ℕ) (j : ℕ) → j < cols → at se j ≡ 0 → 0 < at se′ j → ((x : ℕ) → (x ≡ j → ⊥) → at se′ x ≡ at se x)
+pub unseen-less : (cols : ℕ) (se se′ : List ℕ) (j : ℕ) → j < cols → at se j ≡ 0 → 0 < at se′ j
+    → ((x : ℕ) → (x ≡ j → ⊥) → at se′ x ≡ at se x)
     → unseen cols se′ < unseen cols se
 unfolding unseen
 unseen-less cols se se′ j lj out p same =
@@ -458,7 +463,8 @@ state-least {cells} {n} {cols} {u} {w} {ro} {co} wide st =
     )
 
 -- no row has a column
-pub state-none : (cells : List ℕ) (n cols : ℕ) (u w ro co : List ℕ) → ((j : ℕ) → j < cols → (at ro j ≡ n) × (at w j ≡ 0)) → State cells n cols 0 u w ro co
+pub state-none : (cells : List ℕ) (n cols : ℕ) (u w ro co : List ℕ) → ((j : ℕ) → j < cols → (at ro j ≡ n) × (at w j ≡ 0))
+    → State cells n cols 0 u w ro co
 state-none cells n cols u w ro co h = record {
   matched = record {
     back = λ r lr. absurd (omega arith);

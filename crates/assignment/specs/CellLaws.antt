@@ -83,7 +83,8 @@ module _ (s : Sheet) (limit : ℕ) where
       (λ (t : ltb c (pendingStops s) ≡ false). rw t)
       (which (ltb c (pendingStops s)))
 
-pub viable-parts : (s : Sheet) (i j : ℕ) → viable s i j ≡ true → (pending s j ≡ true) × (barred s i j ≡ false) × (lineServes s i j ≡ true)
+pub viable-parts : (s : Sheet) (i j : ℕ) → viable s i j ≡ true → (pending s j ≡ true) × (barred s i j ≡ false)
+    × (lineServes s i j ≡ true)
 unfolding viableOf
 viable-parts s i j h =
     let p = both-right (pending s j) (not (barred s i j) && lineServes s i j) h in (

@@ -20,7 +20,8 @@ use Rattle.sweep.specs.Sweeps.{prepared, sweepRank, sweepCode}
 use Rattle.scan.specs.Scan.{rankOf, strictDemandAhead, preparedSweep, scanRank}
 use Rattle.dispatch.specs.Useful.{riderCanBoard, canExitHere, servable, onAboardPath, pairIsUseful}
 use Rattle.assignment_problem.specs.Recursion.{scan, best, chosen, leastTotal}
-use Rattle.assignment.specs.Pending.{serves, lineCapacity, capacityAt, weightAt, lineServed, covered, idle, idleBound, pending, idleCars, rowCar, pendingStops, columnStop, columns}
+use Rattle.assignment.specs.Pending.{serves, lineCapacity, capacityAt, weightAt, lineServed, covered, idle, idleBound, pending, idleCars}
+use Rattle.assignment.specs.Pending.{rowCar, pendingStops, columnStop, columns}
 use Rattle.assignment.specs.Candidates.{keeps, precedes, keptOf, lineServesOf, nearerOf, viableOf}
 use Rattle.assignment.specs.Cells.{sweepAfter, rank, cell, matrix, column, answeredTotal, goes, decision}
 

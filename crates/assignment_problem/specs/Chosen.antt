@@ -21,7 +21,8 @@ use Rattle.laws.specs.Bools.{same?, less?, neither-left, neither-right}
 use Rattle.laws.specs.Sums.{sum, sum-cong, sum-mono, sum-front}
 use Rattle.laws.specs.Tables.{tab, tab-front, length-tab, getD-tab₀}
 use Rattle.assignment_problem.specs.Choice.{IsChoice, total, Chosen}
-use Rattle.assignment_problem.specs.Recursion.{Candidate, none, some, better, front, isIn, scan, best, columnsOf, candidateTotal, chosen, leastTotal, columnOf}
+use Rattle.assignment_problem.specs.Recursion.{Candidate, none, some, better, front, isIn, scan, best, columnsOf, candidateTotal, chosen}
+use Rattle.assignment_problem.specs.Recursion.{leastTotal, columnOf}
 use Rattle.assignment_problem.specs.Beats.{cost, Fit, fnil, fcons, Lex, lnil, lless, lsame, Beats, best-beats}
 
 -- ---- there is only one
@@ -53,7 +54,8 @@ Sound c m k i taken none = Unit {0}
 Sound c m k i taken (some t l) = (length l ≡ k) × Fit m taken l × (cost c i l ≡ t)
 
 module _ (c : ℕ → ℕ → ℕ) (m : ℕ) where
-  better-sound : (k i : ℕ) (taken : List ℕ) (a b : Candidate) → Sound c m k i taken a → Sound c m k i taken b → Sound c m k i taken (better a b)
+  better-sound : (k i : ℕ) (taken : List ℕ) (a b : Candidate) → Sound c m k i taken a → Sound c m k i taken b
+      → Sound c m k i taken (better a b)
   better-sound k i taken none b x y = y
   better-sound k i taken (some t l) none x y = x
   better-sound k i taken (some t l) (some s r) x y = go (ltb s t)
@@ -62,7 +64,8 @@ module _ (c : ℕ → ℕ → ℕ) (m : ℕ) where
       go true = y
       go false = x
 
-  scan-sound : (k i : ℕ) (taken : List ℕ) (f : ℕ → Candidate) (n : ℕ) → ((j : ℕ) → j < n → Sound c m k i taken (f j)) → Sound c m k i taken (scan f n)
+  scan-sound : (k i : ℕ) (taken : List ℕ) (f : ℕ → Candidate) (n : ℕ) → ((j : ℕ) → j < n → Sound c m k i taken (f j))
+      → Sound c m k i taken (scan f n)
   unfolding scan
   scan-sound k i taken f zero h = tt
   scan-sound k i taken f (suc n) h =
@@ -74,7 +77,8 @@ module _ (c : ℕ → ℕ → ℕ) (m : ℕ) where
   front-sound k i j taken l e none h = tt
   front-sound k i j taken l e (some t r) h = (ap suc (h .0), fcons l e (h .1), ap (λ (x : ℕ). c i j + x) (h .2))
 
-  guard-sound : (k i j : ℕ) (taken : List ℕ) (a : Candidate) (v : Bool) → (v ≡ false → Sound c m k i taken a) → Sound c m k i taken (cond v none a)
+  guard-sound : (k i j : ℕ) (taken : List ℕ) (a : Candidate) (v : Bool) → (v ≡ false → Sound c m k i taken a)
+      → Sound c m k i taken (cond v none a)
   guard-sound k i j taken a true h = tt
   guard-sound k i j taken a false h = h refl
 
@@ -97,7 +101,8 @@ cost-sum c i (j ∷ js) =
     let at : c (i + 0) j ≡ c i j = ap (λ (x : ℕ). c x j) (add-zero i) in
     omega (arith, cost-sum c (suc i) js, step, sum-front (length js) (λ k. c (i + k) (getD (j ∷ js) k 0)))
 
-fit-within : {m : ℕ} {taken l : List ℕ} → Fit m taken l → (k : ℕ) → k < length l → (getD l k 0 < m) × (isIn (getD l k 0) taken ≡ false)
+fit-within : {m : ℕ} {taken l : List ℕ} → Fit m taken l → (k : ℕ) → k < length l → (getD l k 0 < m)
+    × (isIn (getD l k 0) taken ≡ false)
 fit-within fnil k h = absurd (omega arith)
 fit-within (fcons a b f) zero h = (a, b)
 fit-within (fcons {taken = taken} {j = j} {js = js} a b f) (suc k) h =
@@ -139,7 +144,8 @@ tab-fit m (suc n) q taken h d =
     ))
     (λ a b x y e. d (suc a) (suc b) (omega arith) (omega arith) e)))
 
-lex-low : {l k : List ℕ} → Lex l k → (i : ℕ) → i < length l → ((r : ℕ) → r < i → getD k r 0 ≡ getD l r 0) → getD l i 0 ≤ getD k i 0
+lex-low : {l k : List ℕ} → Lex l k → (i : ℕ) → i < length l → ((r : ℕ) → r < i → getD k r 0 ≡ getD l r 0)
+    → getD l i 0 ≤ getD k i 0
 lex-low lnil i h e = absurd (omega arith)
 lex-low (lless lt) zero h e = omega arith
 lex-low (lless lt) (suc i) h e = absurd (let z = e 0 (omega arith) in omega arith)
@@ -173,7 +179,8 @@ module _ (c : ℕ → ℕ → ℕ) (n m : ℕ) where
     pub is-chosen : Chosen n m c (λ k. getD l k 0)
     pub its-total : t ≡ total n c (λ k. getD l k 0)
 
-  whole-of : n ≤ m → (a : Candidate) → Sound c m n 0 [] a → ((q : ℕ → ℕ) → IsChoice n m q → Beats a (total n c q) (tab q n)) → Whole (columnsOf a) (candidateTotal a)
+  whole-of : n ≤ m → (a : Candidate) → Sound c m n 0 [] a → ((q : ℕ → ℕ) → IsChoice n m q → Beats a (total n c q) (tab q n))
+      → Whole (columnsOf a) (candidateTotal a)
   unfolding total
   whole-of h none s b = absurd (b (λ k. k) (record { within = λ k l. omega arith; distinct = λ x y lx ly e. e }))
   whole-of h (some t l) s b = record {
@@ -230,7 +237,8 @@ module _ (c : ℕ → ℕ → ℕ) (n m : ℕ) where
     chosen-lowest q hq e = chosen-is .lowest q hq (e ∙ chosen-total)
 
     -- whatever is chosen so has the recursion's columns and total
-    pub chosen-unique : (p : ℕ → ℕ) → Chosen n m c p → ((i : ℕ) → i < n → p i ≡ columnOf c n m i) × (total n c p ≡ leastTotal c n m)
+    pub chosen-unique : (p : ℕ → ℕ) → Chosen n m c p → ((i : ℕ) → i < n → p i ≡ columnOf c n m i)
+        × (total n c p ≡ leastTotal c n m)
     chosen-unique p hp = (chosen-one hp chosen-is, same-total hp chosen-is ∙ sym chosen-total)
 
     pub chosen-only : (l : List ℕ) → length l ≡ n → Chosen n m c (λ k. getD l k 0) → l ≡ chosen c n m
@@ -271,7 +279,8 @@ chosen-same c d n m h e =
     (chosen-only d n m h (chosen c n m) (chosen-length c n m h) hd, chosen-total c n m h ∙ own ∙ chosen-unique d n m h (columnOf c n m) hd .1)
 
 -- a matrix that is nowhere larger has a least total that is no larger
-pub leastTotal-mono : (c d : ℕ → ℕ → ℕ) (n m : ℕ) → n ≤ m → ((i j : ℕ) → i < n → j < m → d i j ≤ c i j) → leastTotal d n m ≤ leastTotal c n m
+pub leastTotal-mono : (c d : ℕ → ℕ → ℕ) (n m : ℕ) → n ≤ m → ((i j : ℕ) → i < n → j < m → d i j ≤ c i j)
+    → leastTotal d n m ≤ leastTotal c n m
 unfolding total
 leastTotal-mono c d n m h e =
     let ch = chosen-is c n m h in

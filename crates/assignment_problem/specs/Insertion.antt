@@ -52,7 +52,8 @@ matched-choice {n} {m} {ro} {co} h = record {
   distinct = λ a b la lb e. sym (h .back-row a la) ∙ ap ro e ∙ h .back-row b lb;
 }
 
-pub priced-tight : {n m : ℕ} {c : ℕ → ℕ → ℕ} {ro co u w : ℕ → ℕ} → Matched n m n ro co → Priced n m n c ro co u w → Tight n m c co u w
+pub priced-tight : {n m : ℕ} {c : ℕ → ℕ → ℕ} {ro co u w : ℕ → ℕ} → Matched n m n ro co → Priced n m n c ro co u w
+    → Tight n m c co u w
 priced-tight {n} {m} {c} {ro} {co} h f = record {
   tight = λ i l. f .tight i l (h .back i l);
   unused = λ j l no-k. ⊎-elim (λ lt. absurd (no-k (ro j) lt (h .forth-col j l lt))) (λ ge. f .unused j l ge) (less? (ro j) n);
@@ -321,7 +322,8 @@ start-priced {n} {m} {k} {c} {ro} {co} {u} {w} ro′ co′ u′ g rx ck cx uk ux
   unused = λ j lj fj. g .unused j lj (let a = rx j lj in omega arith);
 }
 
-pub start-tree : (n m k : ℕ) (c : ℕ → ℕ → ℕ) (ro u w se sl fr : ℕ → ℕ) → k < n → ro m ≡ k → se m ≡ 1 → ((j : ℕ) → j < m → se j ≡ 0)
+pub start-tree : (n m k : ℕ) (c : ℕ → ℕ → ℕ) (ro u w se sl fr : ℕ → ℕ) → k < n → ro m ≡ k → se m ≡ 1
+    → ((j : ℕ) → j < m → se j ≡ 0)
     → ((j : ℕ) → j < m → fr j ≡ m) → ((j : ℕ) → j < m → sl j + u k ≡ c k j + w j) → Tree n m 1 c ro u w se sl fr
 start-tree n m k c ro u w se sl fr kn rm sm sx fm sj = record {
   root = sm;
@@ -448,7 +450,8 @@ walk-step {n} {m} {k} {lo} {j0} {c} {ro0} {co0} {u} {w} {se} {fr} {ro} {co} ro�
         (same? j j0)
 
 -- the hole has come to the stand: every row has a column
-pub walk-matched : {n m k lo : ℕ} {c : ℕ → ℕ → ℕ} {ro0 co0 u w se fr ro co : ℕ → ℕ} → Walk n m k lo m c ro0 co0 u w se fr ro co → k ≤ n → Matched n m k ro co
+pub walk-matched : {n m k lo : ℕ} {c : ℕ → ℕ → ℕ} {ro0 co0 u w se fr ro co : ℕ → ℕ} → Walk n m k lo m c ro0 co0 u w se fr ro co
+    → k ≤ n → Matched n m k ro co
 walk-matched {n} {m} {k} {lo} {c} {ro0} {co0} {u} {w} {se} {fr} {ro} {co} wk kn = record {
   back = λ r lr. ⊎-elim
       (λ e. absurd (let a : ro (co r) ≡ ro m = ap ro e in omega (arith, h .back-row r lr, wk .free)))
@@ -462,7 +465,8 @@ walk-matched {n} {m} {k} {lo} {c} {ro0} {co0} {u} {w} {se} {fr} {ro} {co} wk kn 
     h : Matched n (suc m) k ro co
     h = wk .matched
 
-pub walk-priced : {n m k lo : ℕ} {c : ℕ → ℕ → ℕ} {ro0 co0 u w se fr ro co : ℕ → ℕ} → Walk n m k lo m c ro0 co0 u w se fr ro co → Priced n m k c ro co u w
+pub walk-priced : {n m k lo : ℕ} {c : ℕ → ℕ → ℕ} {ro0 co0 u w se fr ro co : ℕ → ℕ} → Walk n m k lo m c ro0 co0 u w se fr ro co
+    → Priced n m k c ro co u w
 walk-priced wk = record { under = wk .under; tight = wk .tight; unused = λ j lj fj. wk .unused j lj (λ e. omega arith) fj }
 
 -- a free column of slack 0 is where the path begins

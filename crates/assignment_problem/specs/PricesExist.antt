@@ -10,7 +10,9 @@ use Rattle.laws.specs.Bools.{same?, less?}
 use Rattle.laws.specs.Sums.{sum, sum-lt, upd, upd-same, upd-other}
 use Rattle.assignment_problem.specs.Choice.{IsChoice, total}
 use Rattle.assignment_problem.specs.Prices.{Tight, Feasible, tight-least, tight-every}
-use Rattle.assignment_problem.specs.Insertion.{Matched, Priced, Tree, Path, Walk, lift, lift-priced, lift-tree, mark, start-matched, start-priced, start-tree, way, walk-start, walk-step, walk-matched, walk-priced, some-free, matched-choice, priced-tight}
+use Rattle.assignment_problem.specs.Insertion.{Matched, Priced, Tree, Path, Walk, lift, lift-priced, lift-tree, mark, start-matched}
+use Rattle.assignment_problem.specs.Insertion.{start-priced, start-tree, way, walk-start, walk-step, walk-matched, walk-priced, some-free}
+use Rattle.assignment_problem.specs.Insertion.{matched-choice, priced-tight}
 
 module _ (n m : ℕ) (c : ℕ → ℕ → ℕ) (B : ℕ) (nm : n ≤ m) (cells : (r j : ℕ) → r < n → j < m → c r j ≤ B) where
   record Placed (k : ℕ) : Type 0 where
@@ -174,7 +176,8 @@ module _ (n m : ℕ) (c : ℕ → ℕ → ℕ) (B : ℕ) (nm : n ≤ m) (cells :
     pub u-bound : (r : ℕ) → r < n → u r ≤ B
     pub w-bound : (j : ℕ) → j < m → w j ≤ B
     -- every least choice is tight with them
-    pub all-tight : (q : ℕ → ℕ) → IsChoice n m q → ((p : ℕ → ℕ) → IsChoice n m p → total n c q ≤ total n c p) → Tight n m c q u w
+    pub all-tight : (q : ℕ → ℕ) → IsChoice n m q → ((p : ℕ → ℕ) → IsChoice n m p → total n c q ≤ total n c p)
+        → Tight n m c q u w
 
   pub prices-exist : LeastPrices
   prices-exist =

@@ -52,7 +52,8 @@ field-join s at a n h = ap (λ (x : ℕ). x + fieldAt s (at + a) n) (shl-exact a
 
 -- ---- only the bytes that a field covers count
 
-pub field-ext : (s t : List ℕ) (at w : ℕ) → ((k : ℕ) → at ≤ 8 * k + 7 → 8 * k < at + w → getD s k 0 ≡ getD t k 0) → fieldAt s at w ≡ fieldAt t at w
+pub field-ext : (s t : List ℕ) (at w : ℕ) → ((k : ℕ) → at ≤ 8 * k + 7 → 8 * k < at + w → getD s k 0 ≡ getD t k 0)
+    → fieldAt s at w ≡ fieldAt t at w
 unfolding fieldAt bitAt
 field-ext s t at zero h = refl
 field-ext s t at (suc w) h =

@@ -24,7 +24,8 @@ unfolding precedes
 precedes-self x j = rw (lt-self x, le-ltb j j (omega arith))
 
 -- fewer viable stops come before a viable one than there are
-pub before-less : (viable : ℕ) (ds : List Float) (j : ℕ) → j < 64 → has viable j ≡ true → count (comesBefore viable ds j) 64 < count (has viable) 64
+pub before-less : (viable : ℕ) (ds : List Float) (j : ℕ) → j < 64 → has viable j ≡ true
+    → count (comesBefore viable ds j) 64 < count (has viable) 64
 unfolding comesBefore
 before-less viable ds j l v =
     count-lt (comesBefore viable ds j) (has viable) 64 j l
@@ -33,7 +34,8 @@ before-less viable ds j l v =
     v
 
 -- a limit that is none, or not below the number of viable stops, keeps them all
-all-kept : (viable : ℕ) (ds : List Float) (limit : ℕ) → ((j : ℕ) → j < 64 → has viable j ≡ true → keeps limit (count (comesBefore viable ds j) 64) ≡ true)
+all-kept : (viable : ℕ) (ds : List Float) (limit : ℕ) → ((j : ℕ) → j < 64 → has viable j ≡ true → keeps limit
+    (count (comesBefore viable ds j) 64) ≡ true)
     → viable < 2 ^ 64 → viable ≡ built (cut viable ds limit) 64
 unfolding cut
 all-kept viable ds limit h small =
@@ -48,7 +50,8 @@ pub none-cut : (viable : ℕ) (ds : List Float) (limit : ℕ) → limit ≡ noLi
 unfolding keeps
 none-cut viable ds limit e small = all-kept viable ds limit (λ j l v. rw (eq-eqb limit noLimit e)) small
 
-pub few-cut : (viable : ℕ) (ds : List Float) (limit : ℕ) → count (has viable) 64 ≤ limit → viable < 2 ^ 64 → viable ≡ built (cut viable ds limit) 64
+pub few-cut : (viable : ℕ) (ds : List Float) (limit : ℕ) → count (has viable) 64 ≤ limit → viable < 2 ^ 64
+    → viable ≡ built (cut viable ds limit) 64
 unfolding keeps
 few-cut viable ds limit e small =
     all-kept viable ds limit

@@ -31,7 +31,8 @@ use Rattle.manifest.specs.Manifest.{someoneWaits, riderlessCall, riddenTo, hasD
 use Rattle.sweep.specs.Sweeps.{sweepRank}
 use Rattle.dispatch.specs.Useful.{riderCanBoard, canExitHere, servable, onAboardPath, pairIsUseful}
 use Rattle.dispatch.specs.Waits.{fairnessBonus, withBonus, sumAt, waitTicksSum, waitTicksSquaredSum}
-use Rattle.etd.specs.Etd.{intervenes, doorCost, extraDelay, isAhead, directionBonus, weighted, travelTime, interveningStops, riderDelay, computeCost, etdRank}
+use Rattle.etd.specs.Etd.{intervenes, doorCost, extraDelay, isAhead, directionBonus, weighted, travelTime, interveningStops, riderDelay, computeCost}
+use Rattle.etd.specs.Etd.{etdRank}
 use Rattle.dispatch.specs.FiniteRank.{finiteRank}
 use Rattle.rsr.specs.Rsr.{withPenalty, withCoincidentCall, rsrCostOf, rsrRank}
 use Rattle.assignment_problem.specs.Choice.{cellAt}

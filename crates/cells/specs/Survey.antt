@@ -100,7 +100,8 @@ idle-same s cars h =
     (λ (b : s .cars ≤ i). rw (le-ltb i (s .cars) b))
     (less? i (s .cars)))
 
-pub rows-listed : (s : Sheet) (cars : List Car) → HoldsCars s cars → s .cars ≤ 32 → (entry list : List ℕ) (n : ℕ) → Listed (idleMask cars (s .cars)) entry n list → Rows s list n
+pub rows-listed : (s : Sheet) (cars : List Car) → HoldsCars s cars → s .cars ≤ 32 → (entry list : List ℕ) (n : ℕ)
+    → Listed (idleMask cars (s .cars)) entry n list → Rows s list n
 unfolding idleCars rowCar
 rows-listed s cars held few entry list n h =
     let fit : s .cars ≤ 64 = omega arith in
@@ -113,11 +114,13 @@ rows-listed s cars held few entry list n h =
       below = listed-below (idle s) (s .cars) fit (idleMask cars (s .cars)) e entry n list h;
     }
 
-pub rows-in : (s : Sheet) → s .cars ≤ 32 → (entry list : List ℕ) (n : ℕ) → Listed (idleMask (carsIn s) (s .cars)) entry n list → Rows s list n
+pub rows-in : (s : Sheet) → s .cars ≤ 32 → (entry list : List ℕ) (n : ℕ) → Listed (idleMask (carsIn s) (s .cars)) entry n list
+    → Rows s list n
 rows-in s few = rows-listed s (carsIn s) (cars-held s (carsIn s) few refl) few
 
 -- a listing keeps the length of its buffer
-pub listed-length : (mask : ℕ) (entry : List ℕ) (m : ℕ) (list : List ℕ) → Listed mask entry m list → length entry ≡ 64 → length list ≡ length entry
+pub listed-length : (mask : ℕ) (entry : List ℕ) (m : ℕ) (list : List ℕ) → Listed mask entry m list → length entry ≡ 64
+    → length list ≡ length entry
 listed-length mask entry m list h e =
     front-length (filtered (has mask) 64) entry list m (length-filtered (has mask) 64 ∙ sym (h .counted)) (omega (arith, h .counted, count-le (has mask) 64)) (h .held)
 
@@ -131,7 +134,8 @@ weighed-of s h i l =
       room = room-finite (s .car i .capacity) (s .car i .load) (h .car i l .capacity) (h .car i l .load);
     }
 
-pub ready : (bytes : List ℕ) (c : Counts) → verdict bytes ≡ Accepted c → (ids : List ℕ) (xs : List Float) (calls demand mask : ℕ) (stops : List ℕ) (m : ℕ) (cars : List Car) (idle : List ℕ) (n : ℕ)
+pub ready : (bytes : List ℕ) (c : Counts) → verdict bytes ≡ Accepted c
+    → (ids : List ℕ) (xs : List Float) (calls demand mask : ℕ) (stops : List ℕ) (m : ℕ) (cars : List Car) (idle : List ℕ) (n : ℕ)
     → Survey (sheetOf bytes c) ids xs calls demand mask stops m cars idle n → (acar adest : List ℕ) → HoldsAboard (sheetOf bytes c) acar adest (sheetOf bytes c .aboards)
     → (waiters : List Waiters) → waiters ≡ gatheredOf (sheetOf bytes c) → Ready (sheetOf bytes c) ids xs acar adest mask demand waiters stops m
 ready bytes c e ids xs calls demand mask stops m cars idle n h acar adest ha waiters hw =

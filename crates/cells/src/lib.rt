@@ -27,8 +27,10 @@ use manifest::Waiters;
 // The ids and the positions of the stops.
 pub fn fill_stops(s: &[u8], c: Counts, ids: &mut [u32], xs: &mut [f64])
     requires { ⌜ Small c × (length (now ids) ≡ 64) × (length (now xs) ≡ 64) ⌝ }
-    ensures ids { λ _. ⌜ (length (now (ids .exit)) ≡ length (now (ids .entry))) × (now (ids .exit) ≡ tab (stopId (sheetOf (now (s .entry)) c)) (c .stops) ++ drop (c .stops) (now (ids .entry))) ⌝ }
-    ensures positions { λ _. ⌜ (length (now (xs .exit)) ≡ length (now (xs .entry))) × (now (xs .exit) ≡ tab (stopAt (sheetOf (now (s .entry)) c)) (c .stops) ++ drop (c .stops) (now (xs .entry))) ⌝ }
+    ensures ids { λ _. ⌜ (length (now (ids .exit)) ≡ length (now (ids .entry)))
+        × (now (ids .exit) ≡ tab (stopId (sheetOf (now (s .entry)) c)) (c .stops) ++ drop (c .stops) (now (ids .entry))) ⌝ }
+    ensures positions { λ _. ⌜ (length (now (xs .exit)) ≡ length (now (xs .entry)))
+        × (now (xs .exit) ≡ tab (stopAt (sheetOf (now (s .entry)) c)) (c .stops) ++ drop (c .stops) (now (xs .entry))) ⌝ }
 {
     let n = c.stops as usize;
     let at = c.stops_from();
@@ -39,8 +41,11 @@ pub fn fill_stops(s: &[u8], c: Counts, ids: &mut [u32], xs: &mut [f64])
 // The cars and the destinations of those aboard.
 pub fn fill_aboard(s: &[u8], c: Counts, acar: &mut [u32], adest: &mut [u32])
     requires { ⌜ Small c × (length (now acar) ≡ 512) × (length (now adest) ≡ 512) ⌝ }
-    ensures cars { λ _. ⌜ (length (now (acar .exit)) ≡ length (now (acar .entry))) × (now (acar .exit) ≡ tab (λ a. sheetOf (now (s .entry)) c .aboard a .car) (c .aboards) ++ drop (c .aboards) (now (acar .entry))) ⌝ }
-    ensures destinations { λ _. ⌜ (length (now (adest .exit)) ≡ length (now (adest .entry))) × (now (adest .exit) ≡ tab (λ a. sheetOf (now (s .entry)) c .aboard a .destination) (c .aboards) ++ drop (c .aboards) (now (adest .entry))) ⌝ }
+    ensures cars { λ _. ⌜ (length (now (acar .exit)) ≡ length (now (acar .entry)))
+        × (now (acar .exit) ≡ tab (λ a. sheetOf (now (s .entry)) c .aboard a .car) (c .aboards) ++ drop (c .aboards) (now (acar .entry))) ⌝ }
+    ensures destinations { λ _. ⌜ (length (now (adest .exit)) ≡ length (now (adest .entry)))
+        × (now (adest .exit) ≡ tab (λ a. sheetOf (now (s .entry)) c .aboard a .destination) (c .aboards) ++ drop (c .aboards)
+        (now (adest .entry))) ⌝ }
 {
     let n = c.aboards as usize;
     let at = c.aboards_from();
@@ -57,11 +62,18 @@ fn fill_waits(
     wweight: &mut [f64],
     wwait: &mut [u64],
 )
-    requires { ⌜ Small c × (length (now wstop) ≡ 512) × (length (now wdest) ≡ 512) × (length (now wweight) ≡ 512) × (length (now wwait) ≡ 512) ⌝ }
-    ensures stops { λ _. ⌜ (length (now (wstop .exit)) ≡ length (now (wstop .entry))) × (now (wstop .exit) ≡ tab (λ w. sheetOf (now (s .entry)) c .waiting w .stop) (c .waits) ++ drop (c .waits) (now (wstop .entry))) ⌝ }
-    ensures destinations { λ _. ⌜ (length (now (wdest .exit)) ≡ length (now (wdest .entry))) × (now (wdest .exit) ≡ tab (λ w. sheetOf (now (s .entry)) c .waiting w .destination) (c .waits) ++ drop (c .waits) (now (wdest .entry))) ⌝ }
-    ensures weights { λ _. ⌜ (length (now (wweight .exit)) ≡ length (now (wweight .entry))) × (now (wweight .exit) ≡ tab (λ w. sheetOf (now (s .entry)) c .waiting w .weight) (c .waits) ++ drop (c .waits) (now (wweight .entry))) ⌝ }
-    ensures waits { λ _. ⌜ (length (now (wwait .exit)) ≡ length (now (wwait .entry))) × (now (wwait .exit) ≡ tab (λ w. sheetOf (now (s .entry)) c .waiting w .wait) (c .waits) ++ drop (c .waits) (now (wwait .entry))) ⌝ }
+    requires { ⌜ Small c × (length (now wstop) ≡ 512) × (length (now wdest) ≡ 512) × (length (now wweight) ≡ 512)
+        × (length (now wwait) ≡ 512) ⌝ }
+    ensures stops { λ _. ⌜ (length (now (wstop .exit)) ≡ length (now (wstop .entry)))
+        × (now (wstop .exit) ≡ tab (λ w. sheetOf (now (s .entry)) c .waiting w .stop) (c .waits) ++ drop (c .waits) (now (wstop .entry))) ⌝ }
+    ensures destinations { λ _. ⌜ (length (now (wdest .exit)) ≡ length (now (wdest .entry)))
+        × (now (wdest .exit) ≡ tab (λ w. sheetOf (now (s .entry)) c .waiting w .destination) (c .waits) ++ drop (c .waits) (now (wdest .entry)))
+        ⌝ }
+    ensures weights { λ _. ⌜ (length (now (wweight .exit)) ≡ length (now (wweight .entry)))
+        × (now (wweight .exit) ≡ tab (λ w. sheetOf (now (s .entry)) c .waiting w .weight) (c .waits) ++ drop (c .waits) (now (wweight .entry)))
+        ⌝ }
+    ensures waits { λ _. ⌜ (length (now (wwait .exit)) ≡ length (now (wwait .entry)))
+        × (now (wwait .exit) ≡ tab (λ w. sheetOf (now (s .entry)) c .waiting w .wait) (c .waits) ++ drop (c .waits) (now (wwait .entry))) ⌝ }
 {
     let n = c.waits as usize;
     let at = c.waits_from();
@@ -79,7 +91,8 @@ pub fn waiting<'a>(
     xs: &'a [f64],
     calls: u64,
 ) -> [Waiters; 64]
-    requires { ⌜ Small c × (length (now ids) ≡ 64) × (length (now xs) ≡ 64) × HoldsStops (sheetOf (now s) c) (now ids) (now xs) (c .stops) × (calls ≡ stopMask (sheetOf (now s) c) (riderlessCall (sheetOf (now s) c))) ⌝ }
+    requires { ⌜ Small c × (length (now ids) ≡ 64) × (length (now xs) ≡ 64) × HoldsStops (sheetOf (now s) c) (now ids) (now xs) (c .stops)
+        × (calls ≡ stopMask (sheetOf (now s) c) (riderlessCall (sheetOf (now s) c))) ⌝ }
     ensures { λ r. ⌜ r ≡ gatheredOf (sheetOf (now (s .entry)) c) ⌝ }
 {
     let mut wstop = [0u32; 512];
@@ -122,7 +135,8 @@ fn idle_cars(cars: [Car; 32], n: usize) -> u64
 // The records of the idle ones of the first n cars in order, and how many they are.
 pub fn list_idle(cars: [Car; 32], n: usize, idle: &mut [usize]) -> usize
     requires { ⌜ (n ≤ 32) × (length cars ≡ 32) × (length (now idle) ≡ 64) ⌝ }
-    ensures { λ r. ⌜ Listed (idleMask cars n) (now (idle .entry)) r (now (idle .exit)) × (length (now (idle .exit)) ≡ length (now (idle .entry))) ⌝ }
+    ensures { λ r. ⌜ Listed (idleMask cars n) (now (idle .entry)) r (now (idle .exit))
+        × (length (now (idle .exit)) ≡ length (now (idle .entry))) ⌝ }
 {
     rows::list_ones(idle_cars(cars, n), idle)
 }
@@ -130,7 +144,8 @@ pub fn list_idle(cars: [Car; 32], n: usize, idle: &mut [usize]) -> usize
 // The records of a sheet's idle cars in order, and how many they are.
 pub fn list_cars(s: &[u8], c: Counts, idle: &mut [usize]) -> usize
     requires { ⌜ Small c × (length (now idle) ≡ 64) ⌝ }
-    ensures { λ r. ⌜ Listed (idleMask (carsIn (sheetOf (now (s .entry)) c)) (c .cars)) (now (idle .entry)) r (now (idle .exit)) × (length (now (idle .exit)) ≡ length (now (idle .entry))) ⌝ }
+    ensures { λ r. ⌜ Listed (idleMask (carsIn (sheetOf (now (s .entry)) c)) (c .cars)) (now (idle .entry)) r (now (idle .exit))
+        × (length (now (idle .exit)) ≡ length (now (idle .entry))) ⌝ }
 {
     list_idle(cars::cars_of(s, c), c.cars as usize, idle)
 }
@@ -153,7 +168,8 @@ pub fn fill_matrix<'a>(
     columns: usize,
     matrix: &mut [u64],
 ) -> u64
-    requires { ⌜ (verdict (now s) ≡ Accepted c) × (length (now ids) ≡ 64) × (length (now xs) ≡ 64) × (length (now stops) ≡ 64) × (length (now idle) ≡ 64) × (m ≤ columns) × (columns ≤ 64) × (2048 ≤ length (now matrix)) ⌝ }
+    requires { ⌜ (verdict (now s) ≡ Accepted c) × (length (now ids) ≡ 64) × (length (now xs) ≡ 64) × (length (now stops) ≡ 64)
+        × (length (now idle) ≡ 64) × (m ≤ columns) × (columns ≤ 64) × (2048 ≤ length (now matrix)) ⌝ }
     requires { ⌜ Survey (sheetOf (now s) c) (now ids) (now xs) calls demand pending (now stops) m cars (now idle) n ⌝ }
     ensures { λ r. ⌜ FilledRows (sheetOf (now (s .entry)) c) limit n columns (now (matrix .entry)) r (now (matrix .exit)) ⌝ }
 {

@@ -114,7 +114,8 @@ pub record HasCode {A : Type 0} (of : ℕ → A) (code : A → ℕ) (most n : �
   pub is : x ≡ of n
   pub number : n ≤ most → code x ≡ n
 
-pub has-code : {A : Type 0} {of : ℕ → A} {code : A → ℕ} {most n : ℕ} {x : A} → every (λ m. eqb (code (of m)) m) (suc most) ≡ true → x ≡ of n
+pub has-code : {A : Type 0} {of : ℕ → A} {code : A → ℕ} {most n : ℕ} {x : A} → every (λ m. eqb (code (of m)) m) (suc most) ≡ true
+    → x ≡ of n
     → HasCode of code most n x
 has-code {A} {of} {code} {most} {n} {x} all e = record {
   is = e;
@@ -143,7 +144,8 @@ pub by-code : {A : Type 0} (P : A → Type 0) (n m : ℕ) (k rest : A) → (n �
 by-code P n m k rest here there =
     ⊎-elim (λ (e : eqb n m ≡ true). rw e (here (eqb-true n m e))) (λ (e : eqb n m ≡ false). rw e there) (which (eqb n m))
 
-pub by-kind : (P : Kind → Type 0) (n : ℕ) → (n ≡ 1 → P kind.Policy) → (n ≡ 2 → P kind.Stop) → (n ≡ 3 → P kind.Line) → (n ≡ 4 → P kind.Car)
+pub by-kind : (P : Kind → Type 0) (n : ℕ) → (n ≡ 1 → P kind.Policy) → (n ≡ 2 → P kind.Stop) → (n ≡ 3 → P kind.Line)
+    → (n ≡ 4 → P kind.Car)
     → (n ≡ 5 → P kind.Aboard) → (n ≡ 6 → P kind.Waiting) → (n ≡ 7 → P kind.Demand) → P kind.Unknown → P (kindOf n)
 unfolding kindOf
 by-kind P n p s l k a w d u =

@@ -1,7 +1,8 @@
 // The records of a sheet, by value: of elevator.rs, rider.rs, route.rs, stop.rs and line.rs the fields that the sheet holds. A code becomes
 // an enum by a match whose last range takes the codes that stand for nothing. An id of 0 is none: no accepted sheet has a record with id 0.
 ghost use mathlib.Core.Path.{_≡_};
-ghost use Rattle.components.specs.Codes.{HasCode, kindOf, kindCode, strategyOf, strategyCode, trafficOf, trafficCode, phaseOf, phaseCode, directionOf, directionCode, modeOf, modeCode};
+ghost use Rattle.components.specs.Codes.{HasCode, kindOf, kindCode, strategyOf, strategyCode, trafficOf, trafficCode, phaseOf, phaseCode};
+ghost use Rattle.components.specs.Codes.{directionOf, directionCode, modeOf, modeCode};
 ghost use Rattle.laws.specs.Bools.{bit};
 ghost use Rattle.components.specs.Cars.{isMoving, isIdle, servicing, remaining};
 

@@ -147,7 +147,8 @@ pub fn is_covered<'a>(
 ) -> bool
     requires { ⌜ (n ≤ length (now targets)) × (n ≤ length (now lines)) × (n ≤ length (now rooms)) × (nl ≤ length (now ids)) ⌝ }
     requires { ⌜ (nw ≤ length (now stops)) × (nw ≤ length (now required)) × (nw ≤ length (now weights)) ⌝ }
-    ensures { λ r. ⌜ r ≡ coveredBy (now (targets .entry)) (now (lines .entry)) (now (rooms .entry)) n (now (ids .entry)) nl (now (stops .entry)) (now (required .entry)) (now (weights .entry)) nw id ⌝ }
+    ensures { λ r. ⌜ r ≡ coveredBy (now (targets .entry)) (now (lines .entry)) (now (rooms .entry)) n (now (ids .entry)) nl (now (stops .entry))
+        (now (required .entry)) (now (weights .entry)) nw id ⌝ }
 {
     if !fields::contains(targets, n, id) {
         return false;

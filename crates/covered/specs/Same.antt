@@ -18,7 +18,8 @@ use Rattle.manifest.specs.World.{stopId}
 use Rattle.manifest.specs.Manifest.{waitsAt}
 use Rattle.assignment.specs.Pending.{serves, lineCapacity, capacityAt, weightAt, lineServed, covered}
 use Rattle.fields.specs.Named.{contains}
-use Rattle.coverage.specs.Coverage.{servesBy, roomStep, lineRoom, capacityStep, capacityBy, weightStep, weightBy, onServedLine, lineServedBy, waiterServed, linesServed, coveredBy}
+use Rattle.coverage.specs.Coverage.{servesBy, roomStep, lineRoom, capacityStep, capacityBy, weightStep, weightBy, onServedLine, lineServedBy}
+use Rattle.coverage.specs.Coverage.{waiterServed, linesServed, coveredBy}
 use Rattle.covered.specs.Columns.{servedTarget, HoldsIds}
 
 -- lists that hold the columns that coverage asks for, of the cars and lines, and of those who wait

@@ -44,7 +44,9 @@ fn room_at(s: &[u8], at: u32) -> f64
 
 fn fill_targets(s: &[u8], base: u32, n: usize, out: &mut [u32])
     requires { ⌜ (base < 2 ^ 31) × (n ≤ 32) × (length (now out) ≡ 32) ⌝ }
-    ensures { λ _. ⌜ (length (now (out .exit)) ≡ length (now (out .entry))) × (now (out .exit) ≡ tab (λ i. servedTarget (carOf (from (now (s .entry)) (base + recordLength Car * i)))) n ++ drop n (now (out .entry))) ⌝ }
+    ensures { λ _. ⌜ (length (now (out .exit)) ≡ length (now (out .entry)))
+        × (now (out .exit) ≡ tab (λ i. servedTarget (carOf (from (now (s .entry)) (base + recordLength Car * i)))) n ++ drop n (now (out .entry)))
+        ⌝ }
 {
     let mut i: usize = 0;
     while i < n {
@@ -55,7 +57,9 @@ fn fill_targets(s: &[u8], base: u32, n: usize, out: &mut [u32])
 
 fn fill_rooms(s: &[u8], base: u32, n: usize, out: &mut [f64])
     requires { ⌜ (base < 2 ^ 31) × (n ≤ 32) × (length (now out) ≡ 32) ⌝ }
-    ensures { λ _. ⌜ (length (now (out .exit)) ≡ length (now (out .entry))) × (now (out .exit) ≡ tab (λ i. remaining (carOf (from (now (s .entry)) (base + recordLength Car * i)))) n ++ drop n (now (out .entry))) ⌝ }
+    ensures { λ _. ⌜ (length (now (out .exit)) ≡ length (now (out .entry)))
+        × (now (out .exit) ≡ tab (λ i. remaining (carOf (from (now (s .entry)) (base + recordLength Car * i)))) n ++ drop n (now (out .entry)))
+        ⌝ }
 {
     let mut i: usize = 0;
     while i < n {
@@ -82,7 +86,8 @@ fn covered_at<'a>(
 ) -> bool
     requires { ⌜ (n ≤ length (now targets)) × (n ≤ length (now lines)) × (n ≤ length (now rooms)) × (nl ≤ length (now ids)) ⌝ }
     requires { ⌜ (nw ≤ length (now stops)) × (nw ≤ length (now required)) × (nw ≤ length (now weights)) × (j < 64) ⌝ }
-    ensures { λ r. ⌜ r ≡ (has asked j && coveredBy (now (targets .entry)) (now (lines .entry)) (now (rooms .entry)) n (now (ids .entry)) nl (now (stops .entry)) (now (required .entry)) (now (weights .entry)) nw id) ⌝ }
+    ensures { λ r. ⌜ r ≡ (has asked j && coveredBy (now (targets .entry)) (now (lines .entry)) (now (rooms .entry)) n (now (ids .entry)) nl
+        (now (stops .entry)) (now (required .entry)) (now (weights .entry)) nw id) ⌝ }
 {
     if !mask::has(asked, j) {
         return false;
@@ -119,7 +124,8 @@ fn covered_mask<'a>(
 ) -> u64
     requires { ⌜ (n ≤ length (now targets)) × (n ≤ length (now lines)) × (n ≤ length (now rooms)) × (nl ≤ length (now ids)) ⌝ }
     requires { ⌜ (nw ≤ length (now stops)) × (nw ≤ length (now required)) × (nw ≤ length (now weights)) × (length (now names) ≡ 64) ⌝ }
-    ensures { λ r. ⌜ r ≡ built (coveredIn (now (targets .entry)) (now (lines .entry)) (now (rooms .entry)) n (now (ids .entry)) nl (now (stops .entry)) (now (required .entry)) (now (weights .entry)) nw asked (now (names .entry))) 64 ⌝ }
+    ensures { λ r. ⌜ r ≡ built (coveredIn (now (targets .entry)) (now (lines .entry)) (now (rooms .entry)) n (now (ids .entry)) nl
+        (now (stops .entry)) (now (required .entry)) (now (weights .entry)) nw asked (now (names .entry))) 64 ⌝ }
 {
     let mut m: u64 = 0;
     let mut j: usize = 0;
@@ -158,8 +164,10 @@ fn covered_waits<'a>(
     asked: u64,
     names: &'a [u32],
 ) -> u64
-    requires { ⌜ Small c × (length (now targets) ≡ 32) × (length (now lines) ≡ 32) × (length (now rooms) ≡ 32) × (length (now ids) ≡ 8) × (length (now names) ≡ 64) ⌝ }
-    requires { ⌜ HoldsServing (sheetOf (now s) c) (now targets) (now lines) (now rooms) (now ids) × HoldsIds (sheetOf (now s) c) asked (now names) ⌝ }
+    requires { ⌜ Small c × (length (now targets) ≡ 32) × (length (now lines) ≡ 32) × (length (now rooms) ≡ 32) × (length (now ids) ≡ 8)
+        × (length (now names) ≡ 64) ⌝ }
+    requires { ⌜ HoldsServing (sheetOf (now s) c) (now targets) (now lines) (now rooms) (now ids)
+        × HoldsIds (sheetOf (now s) c) asked (now names) ⌝ }
     ensures { λ r. ⌜ r ≡ built (λ j. has asked j && covered (sheetOf (now (s .entry)) c) j) 64 ⌝ }
 {
     let mut stops = [0u32; 512];

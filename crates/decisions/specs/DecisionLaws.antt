@@ -46,7 +46,8 @@ module _ (s : Sheet) (limit : ℕ) (cells : List ℕ) (e : cells ≡ tabs (matri
     stop-below k l = nth-is (pending s) (s .stops) k (omega arith) .below
 
     -- such cells are what the matcher takes
-    pub filled : (room : ℕ) → SmallSheet s → length stops ≡ 64 → length ids ≡ 64 → 32 ≤ room → Filled cells (idleCars s) (columns s) m stops ids room
+    pub filled : (room : ℕ) → SmallSheet s → length stops ≡ 64 → length ids ≡ 64 → 32 ≤ room
+        → Filled cells (idleCars s) (columns s) m stops ids room
     filled room small size names l =
         let cars = small .cars in
         let most = small .stops in

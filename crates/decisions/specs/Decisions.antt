@@ -56,7 +56,8 @@ module _ (cells : List ℕ) (n columns m : ℕ) (stops ids : List ℕ) (room : �
       all-fit n columns cells places (h .few) (h .narrow) (h .wide) (h .whole) l
       (none-any (tooLarge cells) (length cells) (λ k lk. le-ltb sentinel (getD cells k 0) (h .small k lk)))
 
-  pub least-told : (places : ℕ) {answer : Matching} {t : ℕ} → n ≤ places → answer ≡ matching n columns cells places → t ≡ leastOr answer 0
+  pub least-told : (places : ℕ) {answer : Matching} {t : ℕ} → n ≤ places → answer ≡ matching n columns cells places
+      → t ≡ leastOr answer 0
       → t ≡ leastTotal (cellAt cells columns) n columns
   unfolding matching
   least-told places {answer} {t} l e d = d ∙ ap (λ (a : Matching). leastOr a 0) e ∙ rw (taken places l)

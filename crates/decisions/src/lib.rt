@@ -44,8 +44,11 @@ fn write<'a>(
     ids: &'a [u32],
     decisions: &mut [u32],
 )
-    requires { ⌜ Filled (now cells) n columns m (now stops) (now ids) (length (now decisions)) × (length (now places) ≡ 32) × ((r : ℕ) → r < n → getD (now places) r 0 < columns) ⌝ }
-    ensures { λ _. ⌜ (length (now (decisions .exit)) ≡ length (now (decisions .entry))) × (now (decisions .exit) ≡ tab (toldAt (now (cells .entry)) columns (now (places .entry)) m (now (stops .entry)) (now (ids .entry))) n ++ drop n (now (decisions .entry))) ⌝ }
+    requires { ⌜ Filled (now cells) n columns m (now stops) (now ids) (length (now decisions)) × (length (now places) ≡ 32)
+        × ((r : ℕ) → r < n → getD (now places) r 0 < columns) ⌝ }
+    ensures { λ _. ⌜ (length (now (decisions .exit)) ≡ length (now (decisions .entry)))
+        × (now (decisions .exit) ≡ tab (toldAt (now (cells .entry)) columns (now (places .entry)) m (now (stops .entry)) (now (ids .entry))) n ++
+        drop n (now (decisions .entry))) ⌝ }
 {
     let mut r: usize = 0;
     while r < n {
@@ -77,7 +80,10 @@ pub fn decide<'a>(
     decisions: &mut [u32],
 ) -> u64
     requires { ⌜ Filled (now cells) n columns m (now stops) (now ids) (length (now decisions)) ⌝ }
-    ensures { λ r. ⌜ (r ≡ leastTotal (cellAt (now (cells .entry)) columns) n columns) × (length (now (decisions .exit)) ≡ length (now (decisions .entry))) × (now (decisions .exit) ≡ tab (decisionBy (now (cells .entry)) n columns m (now (stops .entry)) (now (ids .entry))) n ++ drop n (now (decisions .entry))) ⌝ }
+    ensures { λ r. ⌜ (r ≡ leastTotal (cellAt (now (cells .entry)) columns) n columns)
+        × (length (now (decisions .exit)) ≡ length (now (decisions .entry)))
+        × (now (decisions .exit) ≡ tab (decisionBy (now (cells .entry)) n columns m (now (stops .entry)) (now (ids .entry))) n ++ drop n
+        (now (decisions .entry))) ⌝ }
 {
     let mut places = [0u32; 32];
     let answer = matcher::assign(n, columns, cells, &mut places);

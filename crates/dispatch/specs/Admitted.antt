@@ -57,10 +57,12 @@ pub grow : (a b : ℕ) (x : Float) → a ≤ b → AtMost (2 ^ a) x → AtMost (
 grow a b x l p = size-mono (2 ^ a) (2 ^ b) x (pow-mono l) p
 
 -- a product and a sum of at most 2^k each
-pub fma-size : (i j k : ℕ) (a b c : Float) → i + j ≤ k → k < 1023 → AtMost (2 ^ i) a → AtMost (2 ^ j) b → AtMost (2 ^ k) c → AtMost (2 ^ (k + 1)) (fma a b c)
+pub fma-size : (i j k : ℕ) (a b c : Float) → i + j ≤ k → k < 1023 → AtMost (2 ^ i) a → AtMost (2 ^ j) b → AtMost (2 ^ k) c
+    → AtMost (2 ^ (k + 1)) (fma a b c)
 fma-size i j k a b c l m p q r = plus-size k (times a b) c m (grow (i + j) k (times a b) l (times-size i j a b (omega arith) p q)) r
 
-pub withBonus-size : (j k : ℕ) (cost weight term : Float) → 30 + j ≤ k → k < 1023 → AtMost (2 ^ k) cost → AtMost (2 ^ 30) weight → AtMost (2 ^ j) term
+pub withBonus-size : (j k : ℕ) (cost weight term : Float) → 30 + j ≤ k → k < 1023 → AtMost (2 ^ k) cost → AtMost (2 ^ 30) weight
+    → AtMost (2 ^ j) term
     → AtMost (2 ^ (k + 1)) (withBonus cost weight term)
 unfolding withBonus fairnessBonus
 withBonus-size j k cost weight term l m p q r = by (lt Num.zero weight)
@@ -83,7 +85,8 @@ unfolding ofBits
 zero-size k = omega arith
 
 module _ (s : Sheet) (a : Admitted s) where
-  sum-size : (f : ℕ → Float) (j k : ℕ) → k + 512 ≤ 1023 → ((w : ℕ) → w < s .waits → AtMost (2 ^ k) (f (s .waiting w .wait))) → AtMost (2 ^ (k + 512)) (sumAt s f j)
+  sum-size : (f : ℕ → Float) (j k : ℕ) → k + 512 ≤ 1023 → ((w : ℕ) → w < s .waits → AtMost (2 ^ k) (f (s .waiting w .wait)))
+      → AtMost (2 ^ (k + 512)) (sumAt s f j)
   unfolding sumAt
   sum-size f j k l h =
       let m = a .waits in
@@ -115,7 +118,8 @@ abbrev pub Placed : Place → Type 0
 Placed Nowhere = Unit {0}
 Placed (At d) = AtMost (2 ^ 20) d
 
-lookup-all : {A : Type 0} (P : A → Type 0) (p : ℕ → Bool) (f : ℕ → A) (z : A) (n : ℕ) → P z → ((k : ℕ) → k < n → P (f k)) → P (lookup p f z n)
+lookup-all : {A : Type 0} (P : A → Type 0) (p : ℕ → Bool) (f : ℕ → A) (z : A) (n : ℕ) → P z → ((k : ℕ) → k < n → P (f k))
+    → P (lookup p f z n)
 unfolding lookup
 lookup-all P p f z zero h g = h
 lookup-all {A} P p f z (suc n) h g = by (p n) (lookup-all P p f z n h (λ k l. g k (omega arith)))

@@ -112,7 +112,8 @@ module _ (s : Sheet) (ids : List ℕ) (xs : List Float) (n : ℕ) (hs : HoldsSto
       ∙ ap (collected (ridesTo s i) (λ a. positionOf (boundFor s i a))) (ha .counted)
 
   -- what riders_of answers and leaves is the sheet's
-  pub riders-held : (entry : List Float) (r : Riders) (dests : List Float) → Seats ids xs n acar adest na (s .car i .id) entry r dests → HoldsRiders s i r dests
+  pub riders-held : (entry : List Float) (r : Riders) (dests : List Float) → Seats ids xs n acar adest na (s .car i .id) entry r dests
+      → HoldsRiders s i r dests
   unfolding ridersIn
   riders-held entry r dests h =
       record {

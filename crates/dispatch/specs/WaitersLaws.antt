@@ -70,7 +70,8 @@ module _ (s : Sheet) (j : ℕ) where
         (λ v w l. by v w (waitsAt s j w))
         ∙ fold-flag (waitsAt s j) (s .waits)
       where
-        by : (v : Waiters) (w : ℕ) (c : Bool) → cond c (withRider v (stopAt s j) (placeOf w) (weightOf w) (s .waiting w .wait)) v .someone ≡ cond c true (v .someone)
+        by : (v : Waiters) (w : ℕ) (c : Bool) → cond c (withRider v (stopAt s j) (placeOf w) (weightOf w) (s .waiting w .wait)) v .someone ≡
+            cond c true (v .someone)
         by v w true = refl
         by v w false = refl
 
@@ -80,7 +81,8 @@ module _ (s : Sheet) (j : ℕ) where
         fold-map (λ (v : Waiters). v .call) step (λ (b : Bool) (w : ℕ). b) (nobody call) (s .waits) (λ v w l. by v w (waitsAt s j w))
         ∙ fold-keep call (s .waits)
       where
-        by : (v : Waiters) (w : ℕ) (c : Bool) → cond c (withRider v (stopAt s j) (placeOf w) (weightOf w) (s .waiting w .wait)) v .call ≡ v .call
+        by : (v : Waiters) (w : ℕ) (c : Bool) → cond c (withRider v (stopAt s j) (placeOf w) (weightOf w) (s .waiting w .wait)) v .call ≡ v
+            .call
         by v w true = refl
         by v w false = refl
 
@@ -162,7 +164,8 @@ module _ (s : Sheet) (ids : List ℕ) (xs : List Float) (n : ℕ) (hs : HoldsSto
   same-step j l v w lw =
       rw (hs .id-of j l, hs .at j l, hw .stop-of w lw, hw .bound-for w lw, hw .weight-of w lw, hw .ticks-of w lw, position-is s ids xs n hs (s .waiting w .destination))
 
-  pub waiters-held : (j : ℕ) (call : Bool) → j < n → call ≡ riderlessCall s j → HoldsWaiters s j (waitersIn ids xs n j call wstop wdest wweight wwait nw)
+  pub waiters-held : (j : ℕ) (call : Bool) → j < n → call ≡ riderlessCall s j
+      → HoldsWaiters s j (waitersIn ids xs n j call wstop wdest wweight wwait nw)
   unfolding waitersIn waiters
   waiters-held j call l e =
       let same : waitersIn ids xs n j call wstop wdest wweight wwait nw ≡ waiters s j call =

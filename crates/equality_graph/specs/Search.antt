@@ -67,7 +67,8 @@ front-top f = record {
 }
 
 -- the next column of the queue has been looked from
-pub front-next : {n m i h len top : ℕ} {c : ℕ → ℕ → ℕ} {ro u w se fr qu : ℕ → ℕ} → Front n m i h len top c ro u w se fr qu → h < len
+pub front-next : {n m i h len top : ℕ} {c : ℕ → ℕ → ℕ} {ro u w se fr qu : ℕ → ℕ} → Front n m i h len top c ro u w se fr qu
+    → h < len
     → ((y : ℕ) → y < m → se y ≡ 0 → i ≤ ro y → May n c u w (ro (qu h)) y → ⊥) → Front n m i (h + 1) len top c ro u w se fr qu
 front-next {n} {m} {i} {h} {len} {top} {c} {ro} {u} {w} {se} {fr} {qu} f lh swept = record {
   stand = f .stand;
@@ -89,7 +90,8 @@ front-next {n} {m} {i} {h} {len} {top} {c} {ro} {u} {w} {se} {fr} {qu} f lh swep
 }
 
 -- every column of the queue has been looked from, and k was not seen
-pub front-shut : {n m i h len top : ℕ} {c : ℕ → ℕ → ℕ} {ro u w se fr qu : ℕ → ℕ} (k : ℕ) → Front n m i h len top c ro u w se fr qu → len ≤ h
+pub front-shut : {n m i h len top : ℕ} {c : ℕ → ℕ → ℕ} {ro u w se fr qu : ℕ → ℕ} (k : ℕ)
+    → Front n m i h len top c ro u w se fr qu → len ≤ h
     → se k ≡ 0 → Shut n m i k c ro u w se
 front-shut {n} {m} {i} {h} {len} {top} {c} {ro} {u} {w} {se} {fr} {qu} k f le away = record {
   away = away;

@@ -38,7 +38,8 @@ pub record SearchReady (cells : List ℕ) (n cols i : ℕ) (u w ro se fr qu : Li
   pub w-small : (j : ℕ) → j < cols → at w j ≤ big
   pub stand : at ro cols ≡ i
 
-pub ready-keep : {cells : List ℕ} {n cols i : ℕ} {u w ro se fr qu : List ℕ} (se′ fr′ qu′ : List ℕ) → SearchReady cells n cols i u w ro se fr qu
+pub ready-keep : {cells : List ℕ} {n cols i : ℕ} {u w ro se fr qu : List ℕ} (se′ fr′ qu′ : List ℕ)
+    → SearchReady cells n cols i u w ro se fr qu
     → length se′ ≡ length se → length fr′ ≡ length fr → length qu′ ≡ length qu → SearchReady cells n cols i u w ro se′ fr′ qu′
 ready-keep se′ fr′ qu′ r a b d = record {
   matrix = r .matrix;
@@ -90,7 +91,8 @@ pub record Expanding (cells : List ℕ) (n cols i h len top y : ℕ) (u w ro se 
   pub grows : len ≤ len′
 
 pub record ExpandingAll (cells : List ℕ) (n cols i h len y : ℕ) (u w ro se fr qu se′ fr′ qu′ : List ℕ) (len′ : ℕ) : Type 0 where
-  pub expanding : (top : ℕ) → Search cells n cols i h len top u w ro se fr qu → Expanding cells n cols i h len top y u w ro se qu se′ fr′ qu′ len′
+  pub expanding : (top : ℕ) → Search cells n cols i h len top u w ro se fr qu
+      → Expanding cells n cols i h len top y u w ro se qu se′ fr′ qu′ len′
   pub space : len′ + unseen cols se′ ≤ len + unseen cols se
 
 -- every column has been looked at, from the h-th of the queue
@@ -101,7 +103,8 @@ pub record Expanded (cells : List ℕ) (n cols i h len top : ℕ) (u w ro se qu 
   pub grows : len ≤ len′
 
 pub record ExpandedAll (cells : List ℕ) (n cols i h len : ℕ) (u w ro se fr qu se′ fr′ qu′ : List ℕ) (len′ : ℕ) : Type 0 where
-  pub expanded : (top : ℕ) → Search cells n cols i h len top u w ro se fr qu → Expanded cells n cols i h len top u w ro se qu se′ fr′ qu′ len′
+  pub expanded : (top : ℕ) → Search cells n cols i h len top u w ro se fr qu
+      → Expanded cells n cols i h len top u w ro se qu se′ fr′ qu′ len′
   pub space : len′ + unseen cols se′ ≤ len + unseen cols se
 
 -- the search from column j has ended: column k was seen, or every column seen has been looked from
@@ -162,7 +165,8 @@ visit-push {cells} {n} {cols} {i} {h} {len} {top} {u} {w} {ro} {se} {fr} {qu} x 
       grows = omega arith;
     }
 
-pub push-space : (len : ℕ) {cells : List ℕ} {n cols i y : ℕ} {u w ro se fr qu : List ℕ} → SearchReady cells n cols i u w ro se fr qu → y < cols → at se y ≡ 0
+pub push-space : (len : ℕ) {cells : List ℕ} {n cols i y : ℕ} {u w ro se fr qu : List ℕ} → SearchReady cells n cols i u w ro se fr qu
+    → y < cols → at se y ≡ 0
     → len + 1 + unseen cols (set se y (len + 1 + 1)) ≤ len + unseen cols se
 push-space len {cells} {n} {cols} {i} {y} {u} {w} {ro} {se} rd ly out =
     let l64 = rd .matrix .cols64 in
@@ -178,7 +182,8 @@ pub visit-keep : {cells : List ℕ} {n cols i h len top r y : ℕ} {u w ro se fr
 visit-keep s sh = record { search = s; shut = sh; more = λ z p. p; head = λ p l. refl; grows = omega arith }
 
 -- the h-th column of the queue as a source
-pub source-of : {cells : List ℕ} {n cols i h len top : ℕ} {u w ro se fr qu : List ℕ} (x r y : ℕ) → Search cells n cols i h len top u w ro se fr qu
+pub source-of : {cells : List ℕ} {n cols i h len top : ℕ} {u w ro se fr qu : List ℕ} (x r y : ℕ)
+    → Search cells n cols i h len top u w ro se fr qu
     → h < len → x ≡ at qu h → r ≡ at ro x → y < cols → Source cols len top ro se x r y
 source-of {cells} {n} {cols} {i} {h} {len} {top} {u} {w} {ro} {se} {fr} {qu} x r y s lh ex er ly =
     let rank : at se x ≡ suc (suc h) = ap (at se) ex ∙ s .front .member-rank h lh in
@@ -196,13 +201,15 @@ pub search-top : {cells : List ℕ} {n cols i h len top : ℕ} {u w ro se fr qu 
     → Search cells n cols i h len (top + 1) u w ro se fr qu
 search-top s = record { front = front-top (s .front); room = s .room }
 
-pub search-next : {cells : List ℕ} {n cols i h len top : ℕ} {u w ro se fr qu : List ℕ} → Search cells n cols i h len top u w ro se fr qu → h < len
+pub search-next : {cells : List ℕ} {n cols i h len top : ℕ} {u w ro se fr qu : List ℕ} → Search cells n cols i h len top u w ro se fr qu
+    → h < len
     → ((y : ℕ) → y < cols → at se y ≡ 0 → i ≤ at ro y → MayIn cells n cols u w (at ro (at qu h)) y → ⊥)
     → Search cells n cols i (h + 1) len top u w ro se fr qu
 search-next s lh swept = record { front = front-next (s .front) lh swept; room = s .room }
 
 -- no column has been looked at, one more, all of them
-pub expand-none : {cells : List ℕ} {n cols i h len : ℕ} {u w ro se fr qu : List ℕ} → ExpandingAll cells n cols i h len 0 u w ro se fr qu se fr qu len
+pub expand-none : {cells : List ℕ} {n cols i h len : ℕ} {u w ro se fr qu : List ℕ}
+    → ExpandingAll cells n cols i h len 0 u w ro se fr qu se fr qu len
 expand-none = record {
   expanding = λ top s. record { search = s; shut = λ z l. absurd (omega arith); more = λ z p. p; head = λ p l. refl; grows = omega arith };
   space = omega arith;
@@ -269,13 +276,15 @@ reach-step {cells} {n} {cols} {i} {j} re ea =
     let e = ea .expanded (j + 1) (re .search) in
     record { search = e .search; tried = λ l ma. e .more j (re .tried l ma); more = λ z p. e .more z (re .more z p) }
 
-pub reach-found : {cells : List ℕ} {n cols i j k h len₁ : ℕ} {u w ro se₀ se se₁ fr₁ qu₁ : List ℕ} → ((z : ℕ) → 0 < at se₀ z → 0 < at se z)
+pub reach-found : {cells : List ℕ} {n cols i j k h len₁ : ℕ} {u w ro se₀ se se₁ fr₁ qu₁ : List ℕ}
+    → ((z : ℕ) → 0 < at se₀ z → 0 < at se z)
     → Reaching cells n cols i j h u w ro se se₁ fr₁ qu₁ len₁ → (at se₁ k ≡ 0 → len₁ ≤ h) → SearchEnded cells n cols i j k u w ro se₀ se₁ fr₁ qu₁ len₁
 reach-found {h = h} first re done =
     record { looked = h; search = re .search; all = done; tried = re .tried; more = λ z p. re .more z (first z p) }
 
 -- nothing is seen but the stand
-pub search-empty : {cells : List ℕ} {n cols i : ℕ} {u w ro se fr qu : List ℕ} → Cleared cols se → Search cells n cols i 0 0 0 u w ro se fr qu
+pub search-empty : {cells : List ℕ} {n cols i : ℕ} {u w ro se fr qu : List ℕ} → Cleared cols se
+    → Search cells n cols i 0 0 0 u w ro se fr qu
 search-empty {cells} {n} {cols} {i} {u} {w} {ro} {se} cl =
     record { front = front-start (cl .stand) (cl .zeros); room = omega (arith, unseen-most cols se) }
 
@@ -296,7 +305,8 @@ pub settle-none : {cells : List ℕ} {n cols : ℕ} {u w ro co : List ℕ} → S
 settle-none st = record { matched = st .matched; priced = st .priced; lows = λ s l. absurd (omega arith) }
 
 -- all rows have their lowest columns: the choice that is asked for
-pub settle-done : {cells : List ℕ} {n cols : ℕ} {u w ro co : List ℕ} → Settled cells n cols n u w ro co → Chosen n cols (cellAt cells cols) (at co)
+pub settle-done : {cells : List ℕ} {n cols : ℕ} {u w ro co : List ℕ} → Settled cells n cols n u w ro co
+    → Chosen n cols (cellAt cells cols) (at co)
 settle-done st = record {
   choice = matched-choice (st .matched);
   least = tight-least (matched-choice (st .matched)) (priced-tight (st .matched) (st .priced)) (st .priced .under);
@@ -333,7 +343,8 @@ Passed cells n cols i j u w ro se = (x : ℕ) → x < j → i ≤ at ro x → Ma
 module _ {cells : List ℕ} {n cols i len j : ℕ} {u w ro co se fr qu : List ℕ} (st : Settled cells n cols i u w ro co) (li : i < n)
     (s : Search cells n cols i len len j u w ro se fr qu) (away : at se (at co i) ≡ 0) (pd : Passed cells n cols i j u w ro se) (top : j ≤ at co i) where
   -- no least choice that agrees on the rows before i has a column below j for it
-  bound : (q : ℕ → ℕ) → IsChoice n cols q → total n (cellAt cells cols) q ≡ total n (cellAt cells cols) (at co) → ((r : ℕ) → r < i → q r ≡ at co r) → j ≤ q i
+  bound : (q : ℕ → ℕ) → IsChoice n cols q → total n (cellAt cells cols) q ≡ total n (cellAt cells cols) (at co)
+      → ((r : ℕ) → r < i → q r ≡ at co r) → j ≤ q i
   bound = low (st .matched) (st .priced) li (front-shut (at co i) (s .front) (omega arith) away) top
       (λ x lx l t. pd x lx l (record { row = λ lr. t; none = λ ge. absurd (omega arith) }))
 
@@ -433,7 +444,8 @@ pub record Lowering (cells : List ℕ) (n cols i k len j : ℕ) (u w ro co qu fr
   pub away : at se k ≡ 0
   pub passed : Passed cells n cols i j u w ro se
 
-pub lower-start : {cells : List ℕ} {n cols i : ℕ} {u w ro co qu fr se se′ : List ℕ} → Sizes u w ro co → Scratch qu fr se → Matrix cells n cols → i < n
+pub lower-start : {cells : List ℕ} {n cols i : ℕ} {u w ro co qu fr se se′ : List ℕ} → Sizes u w ro co → Scratch qu fr se
+    → Matrix cells n cols → i < n
     → ((j : ℕ) → j < cols → at w j ≤ big) → Settled cells n cols i u w ro co → length se′ ≡ length se → Cleared cols se′
     → Lowering cells n cols i (at co i) 0 0 u w (set ro cols i) co qu fr se′
 lower-start {cells} {n} {cols} {i} {u} {w} {ro} {co} {qu} {fr} {se} {se′} sz sc mx li ws st le cl = record {
@@ -469,7 +481,8 @@ module _ {cells : List ℕ} {n cols i k len j : ℕ} {u w ro co qu fr se : List 
   away-own = ap (at se) (lo .own) ∙ lo .away
 
   -- k was not seen from j either
-  pub lower-next : {len′ : ℕ} {se′ fr′ qu′ : List ℕ} → j < k → length se′ ≡ length se → length fr′ ≡ length fr → length qu′ ≡ length qu
+  pub lower-next : {len′ : ℕ} {se′ fr′ qu′ : List ℕ} → j < k → length se′ ≡ length se → length fr′ ≡ length fr
+      → length qu′ ≡ length qu
       → SearchEnded cells n cols i j k u w ro se se′ fr′ qu′ len′ → at se′ k ≡ 0 → Lowering cells n cols i k len′ (j + 1) u w ro co qu′ fr′ se′
   lower-next {len′} {se′} {fr′} {qu′} lt a b d re away = record {
     ready = ready-keep se′ fr′ qu′ (lo .ready) a b d;
@@ -501,7 +514,8 @@ module _ {cells : List ℕ} {n cols i k len j : ℕ} {u w ro co qu fr se : List 
         (settle-going (lo .settled) li (lo .search) away-own (lo .passed) (let o = lo .own in omega arith) (lo .ready .stand) (lo .ready .ro65) (lo .co32)
         (lo .ready .matrix .cols64) (lo .ready .matrix .rows32) (re .search) found-own)
 
-    pub lower-moved : (ro′ co′ : List ℕ) → Gone n cols se′ fr′ (set ro k n) (set co i cols) k ro′ co′ cols → Settled cells n cols (i + 1) u w ro′ co′
+    pub lower-moved : (ro′ co′ : List ℕ) → Gone n cols se′ fr′ (set ro k n) (set co i cols) k ro′ co′ cols
+        → Settled cells n cols (i + 1) u w ro′ co′
     lower-moved ro′ co′ gone =
         settle-move (lo .settled) li (lo .search) away-own (lo .passed) (let o = lo .own in omega arith) (lo .ready .stand) (lo .ready .ro65) (lo .co32)
         (lo .ready .matrix .cols64) (lo .ready .matrix .rows32) (re .search) found-own ro′ co′

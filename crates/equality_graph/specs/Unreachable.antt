@@ -21,7 +21,8 @@ pub record Kept (n m i k : ℕ) (c : ℕ → ℕ → ℕ) (ro u w se : ℕ → �
   pub closed : (x y : ℕ) → x < m → y < m → se x ≡ 0 → i < ro x → 0 < se y → May n c u w (ro x) y → ⊥
 
 -- a free column outside what is reached, or none
-free-out : (n : ℕ) (ro se : ℕ → ℕ) (m : ℕ) → ((x : ℕ) × (x < m) × (n ≤ ro x) × (se x ≡ 0)) ⊎ ((x : ℕ) → x < m → n ≤ ro x → 0 < se x)
+free-out : (n : ℕ) (ro se : ℕ → ℕ) (m : ℕ) → ((x : ℕ) × (x < m) × (n ≤ ro x) × (se x ≡ 0)) ⊎
+    ((x : ℕ) → x < m → n ≤ ro x → 0 < se x)
 free-out n ro se zero = inr (λ x l. absurd (omega arith))
 free-out n ro se (suc m) = ⊎-elim
     (λ t. inl (t .0, (let a = t .1 in omega arith), t .2, t .3))
@@ -194,7 +195,8 @@ shut-kept {n} {m} {i} {c} {ro} {co} {u} {w} {se} h li sh = record {
 
 -- Where every column below j that row i is tight at, and that may still change hands, is seen and shut in, no least choice that agrees on the
 -- rows before i has a column below j for it.
-pub low : {n m i : ℕ} {c : ℕ → ℕ → ℕ} {ro co u w se : ℕ → ℕ} {j : ℕ} → Matched n m n ro co → Priced n m n c ro co u w → i < n
+pub low : {n m i : ℕ} {c : ℕ → ℕ → ℕ} {ro co u w se : ℕ → ℕ} {j : ℕ} → Matched n m n ro co → Priced n m n c ro co u w
+    → i < n
     → Shut n m i (co i) c ro u w se → j ≤ co i → ((x : ℕ) → x < j → i ≤ ro x → u i ≡ c i x + w x → 0 < se x)
     → (q : ℕ → ℕ) → IsChoice n m q → total n c q ≡ total n c co → ((r : ℕ) → r < i → q r ≡ co r) → j ≤ q i
 low {n} {m} {i} {c} {ro} {co} {u} {w} {se} {j} h g li sh top passed q hq e agree = ⊎-elim

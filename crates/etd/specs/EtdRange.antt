@@ -12,7 +12,8 @@ use Rattle.fp.specs.Num as Num
 use Rattle.fp.specs.Num.{half, threeTenths, plus, minus, times, over, maxZero, fma, finite, natural, distance}
 use Rattle.fp.specs.Nonneg.{maxZero-nonneg}
 use Rattle.fp.specs.Inside.{AtMost, size-finite}
-use Rattle.fp.specs.Sizes.{AtLeast, natural-size, neg-size, maxZero-size, plus-size, minus-size, distance-size, times-size, over-size, fold-size, position-power, mass-power, speed-power, tickRate-power}
+use Rattle.fp.specs.Sizes.{AtLeast, natural-size, neg-size, maxZero-size, plus-size, minus-size, distance-size, times-size, over-size, fold-size}
+use Rattle.fp.specs.Sizes.{position-power, mass-power, speed-power, tickRate-power}
 use Rattle.components.specs.declared.Place.{Place}
 use Rattle.components.specs.declared.Place.the-variants.{At, Nowhere}
 use Rattle.components.specs.declared.Phase.{Phase}
@@ -24,7 +25,8 @@ use Rattle.manifest.specs.Manifest.{demandStop}
 use Rattle.dispatch.specs.Useful.{pairIsUseful}
 use Rattle.dispatch.specs.Waits.{withBonus, waitTicksSum, waitTicksSquaredSum}
 use Rattle.dispatch.specs.Admitted.{Admitted, Placed, placed, grow, fma-size, withBonus-size, withBonus-nonneg, zero-size, waitsum-size, squares-size}
-use Rattle.etd.specs.Etd.{intervenes, doorCost, extraDelay, addDelay, isAhead, movingBonus, directionBonus, weighted, travelTime, interveningStops, riderDelay, computeCost, etdRank}
+use Rattle.etd.specs.Etd.{intervenes, doorCost, extraDelay, addDelay, isAhead, movingBonus, directionBonus, weighted, travelTime}
+use Rattle.etd.specs.Etd.{interveningStops, riderDelay, computeCost, etdRank}
 use Rattle.dispatch.specs.FiniteRank.{finiteRank, ranked}
 
 -- ---- on every sheet
@@ -53,7 +55,8 @@ door-size k t d rate l m p =
     times-size 6 32 (natural k) (over (natural (t * 2 + d)) rate) (lit≤ tt) (natural-size 6 k (lit≤ tt) l)
     (over-size 32 0 (natural (t * 2 + d)) rate (lit≤ tt) (natural-size 32 (t * 2 + d) (lit≤ tt) (omega arith)) p)
 
-extra-size : (x p d speed : Float) → AtMost (2 ^ 20) x → AtMost (2 ^ 20) p → AtMost (2 ^ 20) d → AtLeast 10 speed → AtMost (2 ^ 33) (extraDelay x p d speed)
+extra-size : (x p d speed : Float) → AtMost (2 ^ 20) x → AtMost (2 ^ 20) p → AtMost (2 ^ 20) d → AtLeast 10 speed
+    → AtMost (2 ^ 33) (extraDelay x p d speed)
 unfolding extraDelay
 extra-size x p d speed a b c v =
     over-size 23 10 (maxZero (minus (plus (distance x p) (distance p d)) (distance x d))) speed (lit≤ tt)

@@ -34,7 +34,8 @@ module _ (x p travel : Float) (goal : Place) {g : Float} (at : goal ≡ At g) {a
   bonus-behind t = as-ahead false t
 
 -- the weighted sum, term by term
-pub weighted-by : (wait delay door travel riders doors bonus : Float) {a b d r : Float} → a ≡ fma door doors bonus → b ≡ fma delay riders a → d ≡ fma wait travel b
+pub weighted-by : (wait delay door travel riders doors bonus : Float) {a b d r : Float} → a ≡ fma door doors bonus → b ≡ fma delay riders a
+    → d ≡ fma wait travel b
     → r ≡ maxZero d → r ≡ weighted wait delay door travel riders doors bonus
 unfolding weighted
 weighted-by wait delay door travel riders doors bonus ea eb ed er = er ∙ ap maxZero (ed ∙ ap (fma wait travel) (eb ∙ ap (fma delay riders) ea))

@@ -4,7 +4,8 @@ use mathlib.Core.Path.{_≡_}
 use mathlib.Core.List.{List}
 use Rattle.laws.specs.Tables.{tab, tabs}
 use Rattle.dispatch.specs.Waits.{fairnessBonus, withBonus, sumAt, waitTicksSum, waitTicksSquaredSum}
-use Rattle.etd.specs.Etd.{intervenes, doorCost, extraDelay, isAhead, directionBonus, weighted, travelTime, interveningStops, riderDelay, computeCost, etdRank}
+use Rattle.etd.specs.Etd.{intervenes, doorCost, extraDelay, isAhead, directionBonus, weighted, travelTime, interveningStops, riderDelay, computeCost}
+use Rattle.etd.specs.Etd.{etdRank}
 use Rattle.dispatch.specs.FiniteRank.{finiteRank}
 use Rattle.rsr.specs.Rsr.{withPenalty, withCoincidentCall, rsrCostOf, rsrRank}
 use Rattle.components.specs.Sheet.{Sheet}

@@ -12,7 +12,8 @@ ghost use Rattle.fields.specs.Named.{contains, named, guarded};
 // The 32 bits at off of each of n records, len bits each from base.
 pub fn fill32(s: &[u8], base: u32, len: u32, off: u32, n: usize, out: &mut [u32])
     requires { ⌜ (base < 2 ^ 31) × (len ≤ 1000) × (n ≤ 512) × (n ≤ length (now out)) ⌝ }
-    ensures { λ _. ⌜ (length (now (out .exit)) ≡ length (now (out .entry))) × (now (out .exit) ≡ tab (λ i. fieldAt (now (s .entry)) (base + len * i + off) 32) n ++ drop n (now (out .entry))) ⌝ }
+    ensures { λ _. ⌜ (length (now (out .exit)) ≡ length (now (out .entry)))
+        × (now (out .exit) ≡ tab (λ i. fieldAt (now (s .entry)) (base + len * i + off) 32) n ++ drop n (now (out .entry))) ⌝ }
 {
     let mut i: usize = 0;
     while i < n {
@@ -24,7 +25,8 @@ pub fn fill32(s: &[u8], base: u32, len: u32, off: u32, n: usize, out: &mut [u32]
 // The 64 bits at off of each record.
 pub fn fill64(s: &[u8], base: u32, len: u32, off: u32, n: usize, out: &mut [u64])
     requires { ⌜ (base < 2 ^ 31) × (len ≤ 1000) × (n ≤ 512) × (n ≤ length (now out)) ⌝ }
-    ensures { λ _. ⌜ (length (now (out .exit)) ≡ length (now (out .entry))) × (now (out .exit) ≡ tab (λ i. fieldAt (now (s .entry)) (base + len * i + off) 64) n ++ drop n (now (out .entry))) ⌝ }
+    ensures { λ _. ⌜ (length (now (out .exit)) ≡ length (now (out .entry)))
+        × (now (out .exit) ≡ tab (λ i. fieldAt (now (s .entry)) (base + len * i + off) 64) n ++ drop n (now (out .entry))) ⌝ }
 {
     let mut i: usize = 0;
     while i < n {
@@ -36,7 +38,8 @@ pub fn fill64(s: &[u8], base: u32, len: u32, off: u32, n: usize, out: &mut [u64]
 // The double at off of each record.
 pub fn fill_doubles(s: &[u8], base: u32, len: u32, off: u32, n: usize, out: &mut [f64])
     requires { ⌜ (base < 2 ^ 31) × (len ≤ 1000) × (n ≤ 512) × (n ≤ length (now out)) ⌝ }
-    ensures { λ _. ⌜ (length (now (out .exit)) ≡ length (now (out .entry))) × (now (out .exit) ≡ tab (λ i. ofBits binary64 (fieldAt (now (s .entry)) (base + len * i + off) 64)) n ++ drop n (now (out .entry))) ⌝ }
+    ensures { λ _. ⌜ (length (now (out .exit)) ≡ length (now (out .entry)))
+        × (now (out .exit) ≡ tab (λ i. ofBits binary64 (fieldAt (now (s .entry)) (base + len * i + off) 64)) n ++ drop n (now (out .entry))) ⌝ }
 {
     let mut i: usize = 0;
     while i < n {
@@ -68,7 +71,8 @@ pub fn fill_guarded(
     out: &mut [u32],
 )
     requires { ⌜ (base < 2 ^ 31) × (len ≤ 1000) × (n ≤ 512) × (n ≤ length (now out)) × (w ≤ 64) ⌝ }
-    ensures { λ _. ⌜ (length (now (out .exit)) ≡ length (now (out .entry))) × (now (out .exit) ≡ tab (λ i. guarded (now (s .entry)) (base + len * i) off guard w) n ++ drop n (now (out .entry))) ⌝ }
+    ensures { λ _. ⌜ (length (now (out .exit)) ≡ length (now (out .entry)))
+        × (now (out .exit) ≡ tab (λ i. guarded (now (s .entry)) (base + len * i) off guard w) n ++ drop n (now (out .entry))) ⌝ }
 {
     let mut i: usize = 0;
     while i < n {

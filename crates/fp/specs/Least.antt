@@ -16,7 +16,8 @@ least p w n = fold (λ (a : Float) (k : ℕ). cond (p k) (lesser a (w k)) a) inf
 
 -- ---- a loop's turns
 
-pub least-take : (p : ℕ → Bool) (w : ℕ → Float) (k : ℕ) {a : Float} → p k ≡ true → a ≡ least p w k → lesser a (w k) ≡ least p w (k + 1)
+pub least-take : (p : ℕ → Bool) (w : ℕ → Float) (k : ℕ) {a : Float} → p k ≡ true → a ≡ least p w k
+    → lesser a (w k) ≡ least p w (k + 1)
 unfolding least
 least-take p w k h e = rw (fold-next, h, ← e)
 
@@ -80,7 +81,8 @@ module _ (p : ℕ → Bool) (w : ℕ → Float) where
       by false e r = r
 
   -- the least is at most each
-  pub least-le : (n k : ℕ) → ((k : ℕ) → k < n → p k ≡ true → real (w k) ≡ true) → k < n → p k ≡ true → le (least p w n) (w k) ≡ true
+  pub least-le : (n k : ℕ) → ((k : ℕ) → k < n → p k ≡ true → real (w k) ≡ true) → k < n → p k ≡ true
+      → le (least p w n) (w k) ≡ true
   unfolding least fold
   least-le zero k h l e = absurd (omega arith)
   least-le (suc n) k h l e =

@@ -137,7 +137,8 @@ minus-nonneg (fin true m e) (fin false n d) p q h =
 minus-nonneg (fin true m e) (fin true n d) p q h =
     right (m * up e * down d) (n * up d * down e) _ (mul-pos (down-pos e) (down-pos d)) (ltb-false _ _ h)
 
-pub times-nonneg : (x y : Float) → finite x ≡ true → finite y ≡ true → le Num.zero x ≡ true → le Num.zero y ≡ true → le Num.zero (times x y) ≡ true
+pub times-nonneg : (x y : Float) → finite x ≡ true → finite y ≡ true → le Num.zero x ≡ true → le Num.zero y ≡ true
+    → le Num.zero (times x y) ≡ true
 unfolding mul
 times-nonneg nan y f g p q = never f
 times-nonneg (inf s) y f g p q = never f
@@ -151,7 +152,8 @@ times-nonneg (fin true m e) (fin false n d) f g p q =
     round-zero true (m * up e * (n * up d)) _ (mul-pos (down-pos e) (down-pos d)) (rw (unsigned m e p) (zero-mul (n * up d)))
 
 -- a quotient by a double above zero
-pub over-nonneg : (x y : Float) → finite x ≡ true → finite y ≡ true → le Num.zero x ≡ true → lt Num.zero y ≡ true → le Num.zero (over x y) ≡ true
+pub over-nonneg : (x y : Float) → finite x ≡ true → finite y ≡ true → le Num.zero x ≡ true → lt Num.zero y ≡ true
+    → le Num.zero (over x y) ≡ true
 unfolding div lt ofBits
 over-nonneg nan y f g p q = never f
 over-nonneg (inf s) y f g p q = never f

@@ -355,7 +355,8 @@ unfolding fits ofBits
 zero-only s zero e f h = ap (fin false 0) (zero-exp e (eqb→eq (up e * down e) 1 f))
 zero-only s (suc m) e f h = absurd (omega arith)
 
-same-bits : (s : Bool) (m n : ℕ) (e d : ℤ) → m * up e * down d ≡ n * up d * down e → toBits binary64 (fin s m e) ≡ toBits binary64 (fin s n d)
+same-bits : (s : Bool) (m n : ℕ) (e d : ℤ) → m * up e * down d ≡ n * up d * down e
+    → toBits binary64 (fin s m e) ≡ toBits binary64 (fin s n d)
 unfolding toBits
 same-bits s m n e d h =
     let same : m * up e * 2 ^ 1074 / down e ≡ n * up d * 2 ^ 1074 / down d =
@@ -364,7 +365,8 @@ same-bits s m n e d h =
     rw same
 
 -- antisymmetric up to the sign of zero
-pub eq-same : (x y : Float) → T (fits binary64 x) → T (fits binary64 y) → eq x y ≡ true → (x ≡ y) ⊎ ((abs x ≡ Num.zero) × (abs y ≡ Num.zero))
+pub eq-same : (x y : Float) → T (fits binary64 x) → T (fits binary64 y) → eq x y ≡ true
+    → (x ≡ y) ⊎ ((abs x ≡ Num.zero) × (abs y ≡ Num.zero))
 unfolding eq
 eq-same nan y f g h = never h
 eq-same (inf s) nan f g h = never h

@@ -1,7 +1,8 @@
 -- How large the results of operations can be: bounds that are powers of two, which are doubles themselves, so that rounding does not pass them. With
 -- these the costs of a sheet are seen to be finite. Assumes nothing.
 use Prim.Native.Nat.{ℕ, zero, suc, _+_, _*_, _^_, _≤_, _<_}
-use native.Mathlib.Nat.{add-zero, zero-mul, zero-lt-suc, mul-one, one-mul, mul-assoc, mul-comm, mul-right-comm, mul-left-comm, mul-pos, mul-le-mul, mul-le-mul-right, le-trans, le-of-eq, le-of-mul-le-mul-right}
+use native.Mathlib.Nat.{add-zero, zero-mul, zero-lt-suc, mul-one, one-mul, mul-assoc, mul-comm, mul-right-comm, mul-left-comm, mul-pos, mul-le-mul}
+use native.Mathlib.Nat.{mul-le-mul-right, le-trans, le-of-eq, le-of-mul-le-mul-right}
 use native.Mathlib.Omega.{arith}
 use mathlib.Core.Path.{_≡_, sym, ap, _∙_, subst}
 use mathlib.Core.Bool.{Bool, true, false, Bool·beq, cond}

@@ -24,7 +24,8 @@ fn prepare(
 ) -> usize
     requires { ⌜ Sizes (now u) (now w) (now «row_of») (now «col_of») × Scratch (now dist) (now from) (now seen) ⌝ }
     requires { ⌜ Matrix (now cells) n cols × (i < n) × State (now cells) n cols i (now u) (now w) (now «row_of») (now «col_of») ⌝ }
-    ensures { λ f. ⌜ Growing (now (cells .entry)) n cols i 1 f 0 (now (u .exit)) (now (w .entry)) (now («row_of» .exit)) (now («col_of» .exit)) (now (dist .exit)) (now (from .exit)) (now (seen .exit)) ⌝ }
+    ensures { λ f. ⌜ Growing (now (cells .entry)) n cols i 1 f 0 (now (u .exit)) (now (w .entry)) (now («row_of» .exit)) (now («col_of» .exit))
+        (now (dist .exit)) (now (from .exit)) (now (seen .exit)) ⌝ }
 {
     let f = tree::free_column(row_of, n, cols);
     u[i] = 0;
@@ -51,7 +52,8 @@ fn insert(
 )
     requires { ⌜ Sizes (now u) (now w) (now «row_of») (now «col_of») × Scratch (now dist) (now from) (now seen) ⌝ }
     requires { ⌜ Matrix (now cells) n cols × (i < n) × State (now cells) n cols i (now u) (now w) (now «row_of») (now «col_of») ⌝ }
-    ensures { λ _. ⌜ State (now (cells .entry)) n cols (i + 1) (now (u .exit)) (now (w .exit)) (now («row_of» .exit)) (now («col_of» .exit)) ⌝ }
+    ensures { λ _. ⌜ State (now (cells .entry)) n cols (i + 1) (now (u .exit)) (now (w .exit)) (now («row_of» .exit)) (now («col_of» .exit))
+        ⌝ }
 {
     let f = prepare(cells, n, cols, i, u, w, row_of, col_of, dist, from, seen);
     let mut t = 1;
@@ -87,8 +89,10 @@ pub(crate) fn solve(
 )
     requires { ⌜ Sizes (now u) (now w) (now «row_of») (now «col_of») × Scratch (now dist) (now from) (now seen) ⌝ }
     requires { ⌜ Matrix (now cells) n cols × ((j : ℕ) → j < cols → (at (now «row_of») j ≡ n) × (at (now w) j ≡ 0)) ⌝ }
-    ensures prices { λ _. ⌜ State (now (cells .entry)) n cols n (now (u .exit)) (now (w .exit)) (now («row_of» .exit)) (now («col_of» .exit)) ⌝ }
-    ensures least { λ _. ⌜ total n (cellAt (now (cells .entry)) cols) (at (now («col_of» .exit))) ≡ leastTotal (cellAt (now (cells .entry)) cols) n cols ⌝ }
+    ensures prices { λ _. ⌜ State (now (cells .entry)) n cols n (now (u .exit)) (now (w .exit)) (now («row_of» .exit)) (now («col_of» .exit))
+        ⌝ }
+    ensures least { λ _. ⌜ total n (cellAt (now (cells .entry)) cols) (at (now («col_of» .exit))) ≡ leastTotal
+        (cellAt (now (cells .entry)) cols) n cols ⌝ }
 {
     let mut i = 0;
     while i < n {

@@ -45,7 +45,8 @@ fn visit(
 ) -> usize
     requires { ⌜ SearchReady (now cells) n cols i (now u) (now w) (now «row_of») (now seen) (now from) (now queue) ⌝ }
     requires { ⌜ (y < cols) × (len + unseen cols (now seen) ≤ cols) ⌝ }
-    ensures { λ end. ⌜ VisitedAll (now (cells .entry)) n cols i len x r y (now (u .entry)) (now (w .entry)) (now («row_of» .entry)) (now (seen .entry)) (now (from .entry)) (now (queue .entry)) (now (seen .exit)) (now (from .exit)) (now (queue .exit)) end ⌝ }
+    ensures { λ end. ⌜ VisitedAll (now (cells .entry)) n cols i len x r y (now (u .entry)) (now (w .entry)) (now («row_of» .entry))
+        (now (seen .entry)) (now (from .entry)) (now (queue .entry)) (now (seen .exit)) (now (from .exit)) (now (queue .exit)) end ⌝ }
 {
     if seen[y] != 0 {
         return len;
@@ -80,7 +81,8 @@ fn expand(
 ) -> usize
     requires { ⌜ SearchReady (now cells) n cols i (now u) (now w) (now «row_of») (now seen) (now from) (now queue) ⌝ }
     requires { ⌜ (h < len) × (at (now queue) h < cols) × (len + unseen cols (now seen) ≤ cols) ⌝ }
-    ensures { λ end. ⌜ ExpandedAll (now (cells .entry)) n cols i h len (now (u .entry)) (now (w .entry)) (now («row_of» .entry)) (now (seen .entry)) (now (from .entry)) (now (queue .entry)) (now (seen .exit)) (now (from .exit)) (now (queue .exit)) end ⌝ }
+    ensures { λ end. ⌜ ExpandedAll (now (cells .entry)) n cols i h len (now (u .entry)) (now (w .entry)) (now («row_of» .entry))
+        (now (seen .entry)) (now (from .entry)) (now (queue .entry)) (now (seen .exit)) (now (from .exit)) (now (queue .exit)) end ⌝ }
 {
     let x = queue[h];
     let r = row_of[x];
@@ -124,9 +126,11 @@ fn reach(
     queue: &mut [usize],
     len: usize,
 ) -> usize
-    requires { ⌜ SearchReady (now cells) n cols i (now u) (now w) (now «row_of») (now seen) (now from) (now queue) × (j < cols) × (k < cols) ⌝ }
+    requires { ⌜ SearchReady (now cells) n cols i (now u) (now w) (now «row_of») (now seen) (now from) (now queue) × (j < cols)
+        × (k < cols) ⌝ }
     requires { ⌜ Search (now cells) n cols i len len j (now u) (now w) (now «row_of») (now seen) (now from) (now queue) ⌝ }
-    ensures { λ end. ⌜ SearchEnded (now (cells .entry)) n cols i j k (now (u .entry)) (now (w .entry)) (now («row_of» .entry)) (now (seen .entry)) (now (seen .exit)) (now (from .exit)) (now (queue .exit)) end ⌝ }
+    ensures { λ end. ⌜ SearchEnded (now (cells .entry)) n cols i j k (now (u .entry)) (now (w .entry)) (now («row_of» .entry))
+        (now (seen .entry)) (now (seen .exit)) (now (from .exit)) (now (queue .exit)) end ⌝ }
 {
     let mut end = visit(
         cells,
@@ -170,8 +174,10 @@ fn lower(
     seen: &mut [usize],
 )
     requires { ⌜ Sizes (now u) (now w) (now «row_of») (now «col_of») × Scratch (now queue) (now from) (now seen) ⌝ }
-    requires { ⌜ Matrix (now cells) n cols × (i < n) × ((j : ℕ) → j < cols → at (now w) j ≤ big) × Settled (now cells) n cols i (now u) (now w) (now «row_of») (now «col_of») ⌝ }
-    ensures { λ _. ⌜ Settled (now (cells .entry)) n cols (i + 1) (now (u .entry)) (now (w .entry)) (now («row_of» .exit)) (now («col_of» .exit)) ⌝ }
+    requires { ⌜ Matrix (now cells) n cols × (i < n) × ((j : ℕ) → j < cols → at (now w) j ≤ big)
+        × Settled (now cells) n cols i (now u) (now w) (now «row_of») (now «col_of») ⌝ }
+    ensures { λ _. ⌜ Settled (now (cells .entry)) n cols (i + 1) (now (u .entry)) (now (w .entry)) (now («row_of» .exit))
+        (now («col_of» .exit)) ⌝ }
 {
     let k = col_of[i];
     row_of[cols] = i;

@@ -10,7 +10,8 @@ ghost use mathlib.Core.Path.{_≡_};
 ghost use Prim.Native.Nat.{ℕ, _+_, _*_, _<_, _≤_};
 ghost use lib.ListN.{length};
 ghost use Rattle.assignment_problem.specs.Choice.{cellAt};
-ghost use Rattle.alternating_tree.specs.Lists.{at, big, gain, Rooted, Nearest, RaisedRows, RaisedColumns, FreeColumn, DistancesRelaxed, Stationed, Going, Gone};
+ghost use Rattle.alternating_tree.specs.Lists.{at, big, gain, Rooted, Nearest, RaisedRows, RaisedColumns, FreeColumn, DistancesRelaxed, Stationed};
+ghost use Rattle.alternating_tree.specs.Lists.{Going, Gone};
 ghost use Rattle.alternating_tree.specs.State.{Cleared, Joined};
 
 // The cell of row i and column j.
@@ -144,8 +145,10 @@ fn relax(
     requires { ⌜ (length (now w) ≡ 65) × (length (now seen) ≡ 65) × (length (now dist) ≡ 65) × (length (now from) ≡ 65) ⌝ }
     requires { ⌜ (cols ≤ 64) × (r * cols + cols ≤ length (now cells)) × (d ≤ big) ⌝ }
     requires { ⌜ ((k : ℕ) → at (now cells) k ≤ big) ⌝ }
-    requires { ⌜ ((j : ℕ) → j < cols → (at (now w) j ≤ big) × (at (now seen) j ≡ 0 → ur ≤ at (now cells) (r * cols + j) + at (now w) j)) ⌝ }
-    ensures { λ _. ⌜ DistancesRelaxed (now (cells .entry)) cols r ur col d (now (w .entry)) (now (seen .entry)) (now (dist .entry)) (now (from .entry)) (now (dist .exit)) (now (from .exit)) ⌝ }
+    requires { ⌜ ((j : ℕ) → j < cols → (at (now w) j ≤ big) × (at (now seen) j ≡ 0 → ur ≤ at (now cells) (r * cols + j) + at (now w)
+        j)) ⌝ }
+    ensures { λ _. ⌜ DistancesRelaxed (now (cells .entry)) cols r ur col d (now (w .entry)) (now (seen .entry)) (now (dist .entry))
+        (now (from .entry)) (now (dist .exit)) (now (from .exit)) ⌝ }
 {
     let mut j = 0;
     while j < cols {
@@ -181,9 +184,11 @@ pub(crate) fn augment(
     cols: usize,
     j: usize,
 )
-    requires { ⌜ (length (now «row_of») ≡ 65) × (length (now «col_of») ≡ 32) × (length (now from) ≡ 65) × (length (now seen) ≡ 65) ⌝ }
+    requires { ⌜ (length (now «row_of») ≡ 65) × (length (now «col_of») ≡ 32) × (length (now from) ≡ 65)
+        × (length (now seen) ≡ 65) ⌝ }
     requires { ⌜ (n ≤ 32) × (cols ≤ 64) × Going n cols (now seen) (now from) (now «row_of») (now «col_of») j ⌝ }
-    ensures { λ _. ⌜ Gone n cols (now (seen .entry)) (now (from .entry)) (now («row_of» .entry)) (now («col_of» .entry)) j (now («row_of» .exit)) (now («col_of» .exit)) cols ⌝ }
+    ensures { λ _. ⌜ Gone n cols (now (seen .entry)) (now (from .entry)) (now («row_of» .entry)) (now («col_of» .entry)) j
+        (now («row_of» .exit)) (now («col_of» .exit)) cols ⌝ }
 {
     let mut hole = j;
     while 1 < seen[hole] {
@@ -225,8 +230,10 @@ pub(crate) fn join(
     requires { ⌜ (length (now w) ≡ 65) × (length (now seen) ≡ 65) × (length (now dist) ≡ 65) × (length (now from) ≡ 65) ⌝ }
     requires { ⌜ (cols ≤ 64) × (r * cols + cols ≤ length (now cells)) × (j < cols) × (0 < t) × (d ≤ big) ⌝ }
     requires { ⌜ ((k : ℕ) → at (now cells) k ≤ big) ⌝ }
-    requires { ⌜ ((x : ℕ) → x < cols → (at (now w) x ≤ big) × (at (now seen) x ≡ 0 → ur ≤ at (now cells) (r * cols + x) + at (now w) x)) ⌝ }
-    ensures { λ _. ⌜ Joined (now (cells .entry)) cols r ur j t d (now (w .entry)) (now (seen .entry)) (now (dist .entry)) (now (from .entry)) (now (seen .exit)) (now (dist .exit)) (now (from .exit)) ⌝ }
+    requires { ⌜ ((x : ℕ) → x < cols → (at (now w) x ≤ big) × (at (now seen) x ≡ 0 → ur ≤ at (now cells) (r * cols + x) + at (now w)
+        x)) ⌝ }
+    ensures { λ _. ⌜ Joined (now (cells .entry)) cols r ur j t d (now (w .entry)) (now (seen .entry)) (now (dist .entry)) (now (from .entry))
+        (now (seen .exit)) (now (dist .exit)) (now (from .exit)) ⌝ }
 {
     seen[j] = t;
     relax(cells, cols, r, ur, j, d, w, seen, dist, from);

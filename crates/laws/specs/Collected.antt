@@ -24,23 +24,27 @@ module _ {A : Type 0} (p : ℕ → Bool) (f : ℕ → A) where
   length-collected zero = refl
   length-collected (suc n) = by (p n) (length-collected n)
     where
-      by : (b : Bool) → length (collected p f n) ≡ count p n → length (cond b (collected p f n ++ (f n ∷ [])) (collected p f n)) ≡ count p n + bit b
+      by : (b : Bool) → length (collected p f n) ≡ count p n → length (cond b (collected p f n ++ (f n ∷ [])) (collected p f n)) ≡ count p n
+          + bit b
       by true e = simp length-append (omega arith)
       by false e = omega arith
 
   -- a loop that fills a buffer: index j passes, or not
-  pub collected-take : (j m : ℕ) (s₀ s : List A) (v : A) → p j ≡ true → m ≡ count p j → m < length s₀ → s ≡ collected p f j ++ drop m s₀ → v ≡ f j
+  pub collected-take : (j m : ℕ) (s₀ s : List A) (v : A) → p j ≡ true → m ≡ count p j → m < length s₀
+      → s ≡ collected p f j ++ drop m s₀ → v ≡ f j
       → set s m v ≡ collected p f (j + 1) ++ drop (m + 1) s₀
   unfolding collected
   collected-take j m s₀ s v t e h d w =
       let z : collected p f j ++ (v ∷ []) ≡ collected p f (j + 1) = rw (add-one, t, w) in
       set-next (collected p f j) s₀ s m v (length-collected j ∙ sym e) h d ∙ ap (λ (l : List A). l ++ drop (m + 1) s₀) z
 
-  pub collected-skip : (j m : ℕ) (s₀ s : List A) → p j ≡ false → s ≡ collected p f j ++ drop m s₀ → s ≡ collected p f (j + 1) ++ drop m s₀
+  pub collected-skip : (j m : ℕ) (s₀ s : List A) → p j ≡ false → s ≡ collected p f j ++ drop m s₀
+      → s ≡ collected p f (j + 1) ++ drop m s₀
   unfolding collected
   collected-skip j m s₀ s t d = rw (add-one, t) d
 
-  pub collected-length : (j m : ℕ) (s₀ s : List A) → m ≡ count p j → m ≤ length s₀ → s ≡ collected p f j ++ drop m s₀ → length s ≡ length s₀
+  pub collected-length : (j m : ℕ) (s₀ s : List A) → m ≡ count p j → m ≤ length s₀ → s ≡ collected p f j ++ drop m s₀
+      → length s ≡ length s₀
   collected-length j m s₀ s e h d = front-length (collected p f j) s₀ s m (length-collected j ∙ sym e) h d
 
   -- a fold over the list, and one over the indices that skips
@@ -78,7 +82,8 @@ module _ {A : Type 0} (p : ℕ → Bool) (f : ℕ → A) where
       by false h = simp unary-clauses (h r ∙ sym (or-false _))
 
 -- tests that agree below n, and values where they hold
-pub collected-cong : {A : Type 0} (p q : ℕ → Bool) (f g : ℕ → A) (n : ℕ) → ((k : ℕ) → k < n → p k ≡ q k) → ((k : ℕ) → k < n → p k ≡ true → f k ≡ g k)
+pub collected-cong : {A : Type 0} (p q : ℕ → Bool) (f g : ℕ → A) (n : ℕ) → ((k : ℕ) → k < n → p k ≡ q k)
+    → ((k : ℕ) → k < n → p k ≡ true → f k ≡ g k)
     → collected p f n ≡ collected q g n
 unfolding collected
 collected-cong p q f g zero h e = refl

@@ -21,7 +21,8 @@ count-mono p q zero h = omega arith
 count-mono p q (suc n) h = omega (arith, count-mono p q n (λ k l. h k (omega arith)), bit-mono (p n) (q n) (h n (omega arith)))
 
 -- and more still where it alone holds somewhere
-pub count-lt : (p q : ℕ → Bool) (n x : ℕ) → x < n → ((k : ℕ) → k < n → p k ≡ true → q k ≡ true) → p x ≡ false → q x ≡ true → count p n < count q n
+pub count-lt : (p q : ℕ → Bool) (n x : ℕ) → x < n → ((k : ℕ) → k < n → p k ≡ true → q k ≡ true) → p x ≡ false
+    → q x ≡ true → count p n < count q n
 unfolding count
 count-lt p q zero x l h px qx = absurd (omega arith)
 count-lt p q (suc n) x l h px qx =

@@ -98,7 +98,8 @@ ended f {x} {i} {n} l m e = let q : i ≡ n = omega arith in e ∙ ap f q
 
 -- ---- the same walk for tests and steps that agree below n
 
-pub fold-cong : {A : Type 0} (f g : A → ℕ → A) (a : A) (n : ℕ) → ((x : A) (k : ℕ) → k < n → f x k ≡ g x k) → fold f a n ≡ fold g a n
+pub fold-cong : {A : Type 0} (f g : A → ℕ → A) (a : A) (n : ℕ) → ((x : A) (k : ℕ) → k < n → f x k ≡ g x k)
+    → fold f a n ≡ fold g a n
 unfolding fold
 fold-cong f g a zero h = refl
 fold-cong f g a (suc n) h = ap (λ x. f x n) (fold-cong f g a n (λ x k l. h x k (omega arith))) ∙ h (fold g a n) n (omega arith)
@@ -124,7 +125,8 @@ nth-cong p q zero c h = refl
 nth-cong p q (suc n) c h =
     rw (h n (omega arith), count-cong p q n (λ k l. h k (omega arith)), nth-cong p q n c (λ k l. h k (omega arith)))
 
-pub lookup-cong : {A : Type 0} (p q : ℕ → Bool) (f g : ℕ → A) (z : A) (n : ℕ) → ((k : ℕ) → k < n → p k ≡ q k) → ((k : ℕ) → k < n → f k ≡ g k)
+pub lookup-cong : {A : Type 0} (p q : ℕ → Bool) (f g : ℕ → A) (z : A) (n : ℕ) → ((k : ℕ) → k < n → p k ≡ q k)
+    → ((k : ℕ) → k < n → f k ≡ g k)
     → lookup p f z n ≡ lookup q g z n
 unfolding lookup
 lookup-cong p q f g z zero h e = refl
@@ -263,7 +265,8 @@ lookup-none p f z (suc n) h =
 -- ---- walks that follow each other
 
 -- a walk seen through a function that keeps step
-pub fold-map : {A B : Type 0} (h : A → B) (f : A → ℕ → A) (g : B → ℕ → B) (a : A) (n : ℕ) → ((x : A) (k : ℕ) → k < n → h (f x k) ≡ g (h x) k)
+pub fold-map : {A B : Type 0} (h : A → B) (f : A → ℕ → A) (g : B → ℕ → B) (a : A) (n : ℕ)
+    → ((x : A) (k : ℕ) → k < n → h (f x k) ≡ g (h x) k)
     → h (fold f a n) ≡ fold g (h a) n
 unfolding fold
 fold-map h f g a zero e = refl

@@ -100,7 +100,8 @@ module _ {A : Type 0} where
   tab-length f a m₀ m h d = front-length (tab f a) m₀ m a (length-tab f a) h d
 
   -- a list whose entries are f's is its table
-  pub is-tab : (f : ℕ → A) (n : ℕ) (l₀ l : List A) (d : A) → n ≤ length l₀ → length l ≡ length l₀ → ((k : ℕ) → k < n → getD l k d ≡ f k)
+  pub is-tab : (f : ℕ → A) (n : ℕ) (l₀ l : List A) (d : A) → n ≤ length l₀ → length l ≡ length l₀
+      → ((k : ℕ) → k < n → getD l k d ≡ f k)
       → ((k : ℕ) → n ≤ k → getD l k d ≡ getD l₀ k d) → l ≡ tab f n ++ drop n l₀
   is-tab f n l₀ l d h e a b = ext-getD d l (tab f n ++ drop n l₀) (simp (length-append, length-drop) (omega (arith, length-tab f n)))
       (λ k lk. ⊎-elim
@@ -123,7 +124,8 @@ module _ {A : Type 0} where
   length-tabs f w zero = omega arith
   length-tabs f w (suc n) = simp (length-append, length-tab) (omega (arith, length-tabs f w n, suc-mul n w))
 
-  pub tabs-cong : (f g : ℕ → ℕ → A) (w n : ℕ) → ((i : ℕ) → i < n → (k : ℕ) → k < w → f i k ≡ g i k) → tabs f w n ≡ tabs g w n
+  pub tabs-cong : (f g : ℕ → ℕ → A) (w n : ℕ) → ((i : ℕ) → i < n → (k : ℕ) → k < w → f i k ≡ g i k)
+      → tabs f w n ≡ tabs g w n
   unfolding tabs
   tabs-cong f g w zero h = refl
   tabs-cong f g w (suc n) h =
@@ -139,7 +141,8 @@ module _ {A : Type 0} where
       rw (d, x, take-at (tabs f w i) (drop a m₀) a, drop-at (tabs f w i) (drop a m₀) a, drop-drop w a m₀, y, z, add-one)
       (sym (append-assoc (tabs f w i) (tab (f i) w) (drop (a + w) m₀)))
 
-  pub tabs-length : (f : ℕ → ℕ → A) (w i a : ℕ) (m₀ m : List A) → a ≡ i * w → a ≤ length m₀ → m ≡ tabs f w i ++ drop a m₀ → length m ≡ length m₀
+  pub tabs-length : (f : ℕ → ℕ → A) (w i a : ℕ) (m₀ m : List A) → a ≡ i * w → a ≤ length m₀ → m ≡ tabs f w i ++ drop a m₀
+      → length m ≡ length m₀
   tabs-length f w i a m₀ m e h d = front-length (tabs f w i) m₀ m a (length-tabs f w i ∙ sym e) h d
 
   -- a cell of the rows
@@ -202,7 +205,8 @@ module _ (p : ℕ → Bool) where
   filtered-take j m s₀ s t e h d =
       set-next (filtered p j) s₀ s m j (length-filtered j ∙ sym e) h d ∙ ap (λ (l : List ℕ). l ++ drop (m + 1) s₀) (sym (filtered-yes j t))
 
-  pub filtered-skip : (j m : ℕ) (s₀ s : List ℕ) → p j ≡ false → s ≡ filtered p j ++ drop m s₀ → s ≡ filtered p (j + 1) ++ drop m s₀
+  pub filtered-skip : (j m : ℕ) (s₀ s : List ℕ) → p j ≡ false → s ≡ filtered p j ++ drop m s₀
+      → s ≡ filtered p (j + 1) ++ drop m s₀
   filtered-skip j m s₀ s t d = d ∙ ap (λ (l : List ℕ). l ++ drop m s₀) (sym (filtered-no j t))
 
   -- the c-th of them is the c-th index that passes
@@ -239,6 +243,7 @@ module _ (p : ℕ → Bool) where
       (λ ne. by (p n) (λ s. getD-place n j s (omega arith) t))
       (same? j n)
     where
-      by : (b : Bool) → ((s : List ℕ) → getD (filtered p n ++ s) (count p j) 0 ≡ j) → getD (cond b (filtered p n ++ (n ∷ [])) (filtered p n) ++ r) (count p j) 0 ≡ j
+      by : (b : Bool) → ((s : List ℕ) → getD (filtered p n ++ s) (count p j) 0 ≡ j)
+          → getD (cond b (filtered p n ++ (n ∷ [])) (filtered p n) ++ r) (count p j) 0 ≡ j
       by true f = ap (λ (l : List ℕ). getD l (count p j) 0) (append-assoc (filtered p n) (n ∷ []) r) ∙ f (n ∷ r)
       by false f = f r

@@ -19,7 +19,12 @@ use Rattle.components.specs.declared.Threshold.the-variants as threshold
 use Rattle.components.specs.Codes.{strategyOf, trafficOf, phaseOf, directionOf, modeOf}
 use Rattle.components.specs.Sheet.{Sheet}
 use Rattle.layout.specs.declared.Counts.{Counts}
-use Rattle.layout.specs.Table.{Field, policy·strategy, policy·limit, policy·rate, policy·traffic, policy·w0, policy·w1, policy·w2, policy·w3, policy·w4, policy·w5, stop·id, stop·position, line·id, line·serves, car·id, car·line, car·phase, car·stop, car·target, car·listed, car·up, car·down, car·sweep, car·mode, car·position, car·speed, car·capacity, car·load, car·hasBypassUp, car·bypassUp, car·hasBypassDown, car·bypassDown, car·transition, car·dwell, car·restricted, car·calls, aboard·car, aboard·destination, waiting·stop, waiting·line, waiting·destination, waiting·weight, waiting·wait, demand·stop, demand·riding, demand·call}
+use Rattle.layout.specs.Table.{Field, policy·strategy, policy·limit, policy·rate, policy·traffic, policy·w0, policy·w1, policy·w2, policy·w3}
+use Rattle.layout.specs.Table.{policy·w4, policy·w5, stop·id, stop·position, line·id, line·serves, car·id, car·line, car·phase, car·stop}
+use Rattle.layout.specs.Table.{car·target, car·listed, car·up, car·down, car·sweep, car·mode, car·position, car·speed, car·capacity, car·load}
+use Rattle.layout.specs.Table.{car·hasBypassUp, car·bypassUp, car·hasBypassDown, car·bypassDown, car·transition, car·dwell, car·restricted}
+use Rattle.layout.specs.Table.{car·calls, aboard·car, aboard·destination, waiting·stop, waiting·line, waiting·destination, waiting·weight}
+use Rattle.layout.specs.Table.{waiting·wait, demand·stop, demand·riding, demand·call}
 use Rattle.layout.specs.Offsets.{headLength, stopStart, lineStart, carStart, aboardStart, waitingStart, demandStart}
 
 -- what stands at an offset of a record, with a width

@@ -21,8 +21,14 @@ use Rattle.components.specs.declared.Phase.the-variants as phase
 use Rattle.components.specs.Codes.{kindCode, strategyOf, strategyCode, phaseOf, phaseCode}
 use Rattle.components.specs.Cars.{isMoving}
 use Rattle.layout.specs.declared.Counts.{Counts}
-use Rattle.layout.specs.Offsets.{headLength, bodyFrom, bodyLength, recordLength, lastKind, stopsFrom, linesFrom, carsFrom, demandsFrom, stopStart, endOf}
-use Rattle.layout.specs.Table.{Field, head·edition, head·count, record·kind, record·stated, first, policy·strategy, policy·limit, policy·rate, policy·w0, policy·w1, policy·w2, policy·w3, policy·w4, policy·w5, stop·id, stop·position, line·id, line·serves, car·id, car·line, car·phase, car·stop, car·hasTarget, car·target, car·position, car·speed, car·capacity, car·load, car·hasBypassUp, car·bypassUp, car·hasBypassDown, car·bypassDown, car·transition, car·dwell, car·restricted, car·calls, aboard·car, aboard·hasDestination, aboard·destination, waiting·stop, waiting·hasLine, waiting·line, waiting·hasDestination, waiting·destination, waiting·weight, waiting·wait, demand·stop}
+use Rattle.layout.specs.Offsets.{headLength, bodyFrom, bodyLength, recordLength, lastKind, stopsFrom, linesFrom, carsFrom, demandsFrom}
+use Rattle.layout.specs.Offsets.{stopStart, endOf}
+use Rattle.layout.specs.Table.{Field, head·edition, head·count, record·kind, record·stated, first, policy·strategy, policy·limit, policy·rate}
+use Rattle.layout.specs.Table.{policy·w0, policy·w1, policy·w2, policy·w3, policy·w4, policy·w5, stop·id, stop·position, line·id, line·serves}
+use Rattle.layout.specs.Table.{car·id, car·line, car·phase, car·stop, car·hasTarget, car·target, car·position, car·speed, car·capacity}
+use Rattle.layout.specs.Table.{car·load, car·hasBypassUp, car·bypassUp, car·hasBypassDown, car·bypassDown, car·transition, car·dwell}
+use Rattle.layout.specs.Table.{car·restricted, car·calls, aboard·car, aboard·hasDestination, aboard·destination, waiting·stop, waiting·hasLine}
+use Rattle.layout.specs.Table.{waiting·line, waiting·hasDestination, waiting·destination, waiting·weight, waiting·wait, demand·stop}
 use Rattle.layout.specs.Records.{Fields, from, read, flag, double}
 
 -- ---- the head

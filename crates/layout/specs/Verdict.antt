@@ -15,9 +15,12 @@ use Rattle.layout.specs.Offsets.{none, next, endOf}
 use Rattle.layout.specs.Records.{Fields, from}
 use Rattle.layout.specs.Refusals.{recordCount, kindAt, lengthAt, refusal2Head, refusal3, refusal6Empty, refusal16}
 use Rattle.layout.specs.Refusals.{refusal2, refusal4, refusal5, refusal6, refusal7}
-use Rattle.layout.specs.Refusals.{refusal8Policy, refusal11Policy, refusal12, refusal15, refusal9Stop, refusal11Stop, refusal9Line, refusal10Line}
-use Rattle.layout.specs.Refusals.{refusal8Car, refusal9Car, refusal10Car, refusal11Car, refusal13, refusal8Aboard, refusal9Aboard, refusal10Aboard}
-use Rattle.layout.specs.Refusals.{refusal8Waiting, refusal9Waiting, refusal10Waiting, refusal11Waiting, refusal14, refusal9Demand, refusal10Demand}
+use Rattle.layout.specs.Refusals.{refusal8Policy, refusal11Policy, refusal12, refusal15, refusal9Stop, refusal11Stop, refusal9Line}
+use Rattle.layout.specs.Refusals.{refusal10Line}
+use Rattle.layout.specs.Refusals.{refusal8Car, refusal9Car, refusal10Car, refusal11Car, refusal13, refusal8Aboard, refusal9Aboard}
+use Rattle.layout.specs.Refusals.{refusal10Aboard}
+use Rattle.layout.specs.Refusals.{refusal8Waiting, refusal9Waiting, refusal10Waiting, refusal11Waiting, refusal14, refusal9Demand}
+use Rattle.layout.specs.Refusals.{refusal10Demand}
 
 -- ---- the tables of rules
 

@@ -3,7 +3,8 @@
 
 ghost use mathlib.Core.Path.{_≡_};
 ghost use Prim.Native.Nat.{_<_};
-ghost use Rattle.layout.specs.Offsets.{Small, bodyLength, next, stopsFrom, linesFrom, carsFrom, aboardsFrom, waitsFrom, demandsFrom, endOf, lastKind};
+ghost use Rattle.layout.specs.Offsets.{Small, bodyLength, next, stopsFrom, linesFrom, carsFrom, aboardsFrom, waitsFrom, demandsFrom, endOf};
+ghost use Rattle.layout.specs.Offsets.{lastKind};
 ghost use Rattle.layout.specs.Refusals.{refusal6, refusal7};
 use components::Kind;
 

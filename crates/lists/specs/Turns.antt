@@ -25,7 +25,8 @@ module _ {S T : Type 0} {next : S → ℕ} {totals : S → T} {turn : ℕ → T 
   unfolding stepsOf
   reached-start = record { cases = 0; place = refl; counts = refl }
 
-  pub reached-next : {at : ℕ} {t : T} {r : S} → Reached next totals turn start end at t → at < end → r ≡ turn at t → Reached next totals turn start end (next r) (totals r)
+  pub reached-next : {at : ℕ} {t : T} {r : S} → Reached next totals turn start end at t → at < end → r ≡ turn at t
+      → Reached next totals turn start end (next r) (totals r)
   unfolding stepsOf
   reached-next {at} {t} {r} h l e =
       record {
@@ -34,5 +35,6 @@ module _ {S T : Type 0} {next : S → ℕ} {totals : S → T} {turn : ℕ → T 
         counts = rw (h .place, h .counts, lt-ltb at end l, e);
       }
 
-  pub reached-end : {at : ℕ} {t : T} → Reached next totals turn start end at t → at ≤ end → end ≤ at → Reached next totals turn start end end t
+  pub reached-end : {at : ℕ} {t : T} → Reached next totals turn start end at t → at ≤ end → end ≤ at
+      → Reached next totals turn start end end t
   reached-end {at} h a b = record { cases = h .cases; place = omega (arith, h .place); counts = h .counts }

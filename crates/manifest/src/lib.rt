@@ -173,8 +173,10 @@ pub fn waiters_at(
     wwait: &[u64],
     nw: usize,
 ) -> Waiters
-    requires { ⌜ (n ≤ length (now ids)) × (n ≤ length (now xs)) × (j < n) × (nw ≤ length (now wstop)) × (nw ≤ length (now wdest)) × (nw ≤ length (now wweight)) × (nw ≤ length (now wwait)) ⌝ }
-    ensures { λ r. ⌜ r ≡ waitersIn (now (ids .entry)) (now (xs .entry)) n j call (now (wstop .entry)) (now (wdest .entry)) (now (wweight .entry)) (now (wwait .entry)) nw ⌝ }
+    requires { ⌜ (n ≤ length (now ids)) × (n ≤ length (now xs)) × (j < n) × (nw ≤ length (now wstop)) × (nw ≤ length (now wdest))
+        × (nw ≤ length (now wweight)) × (nw ≤ length (now wwait)) ⌝ }
+    ensures { λ r. ⌜ r ≡ waitersIn (now (ids .entry)) (now (xs .entry)) n j call (now (wstop .entry)) (now (wdest .entry)) (now (wweight .entry))
+        (now (wwait .entry)) nw ⌝ }
 {
     let id = ids[j];
     let p = xs[j];

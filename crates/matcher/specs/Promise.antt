@@ -45,7 +45,8 @@ leastOr (Least t) before = t
 leastOr None before = before
 
 -- where each thing fits, nothing is refused
-pub all-fit : (cars columns : ℕ) (cells : List ℕ) (places : ℕ) → cars ≤ 32 → columns ≤ 64 → cars ≤ columns → length cells ≡ cars * columns
+pub all-fit : (cars columns : ℕ) (cells : List ℕ) (places : ℕ) → cars ≤ 32 → columns ≤ 64 → cars ≤ columns
+    → length cells ≡ cars * columns
     → cars ≤ places → any (tooLarge cells) (length cells) ≡ false → refused cars columns cells places ≡ false
 unfolding refused
 all-fit cars columns cells places a b c d e f =

@@ -26,7 +26,8 @@ fn too_large(cells: &[u64]) -> bool
 
 // The columns of the choice stand first in places, and the answer is its total; where the arguments do not fit it is None, and places are left.
 pub fn assign(cars: usize, columns: usize, cells: &[u64], places: &mut [u32]) -> Matching
-    ensures { λ r. ⌜ (r ≡ matching cars columns (now (cells .entry)) (length (now (places .entry)))) × (now (places .exit) ≡ written cars columns (now (cells .entry)) (now (places .entry))) ⌝ }
+    ensures { λ r. ⌜ (r ≡ matching cars columns (now (cells .entry)) (length (now (places .entry))))
+        × (now (places .exit) ≡ written cars columns (now (cells .entry)) (now (places .entry))) ⌝ }
 {
     if 32 < cars {
         return Matching::None;

@@ -56,7 +56,8 @@ most-bytes bytes c e =
     omega (arith, a .whole)
 
 -- the answered total is at most n sentinels, so at most 2^53
-pub total-most : (bytes : List ℕ) (c : Counts) (limit : ℕ) → verdict bytes ≡ Accepted c → answeredTotal (sheetOf bytes c) limit ≤ 9007199254740992
+pub total-most : (bytes : List ℕ) (c : Counts) (limit : ℕ) → verdict bytes ≡ Accepted c
+    → answeredTotal (sheetOf bytes c) limit ≤ 9007199254740992
 unfolding answeredTotal total
 total-most bytes c limit e =
     let s = sheetOf bytes c in
@@ -66,11 +67,13 @@ total-most bytes c limit e =
     omega arith
 
 -- a buffer that is long enough keeps its length
-pub decisions-length : (s : Sheet) (limit : ℕ) (entry : List ℕ) → Fits s → 32 ≤ length entry → length (decisionsOf s limit entry) ≡ length entry
+pub decisions-length : (s : Sheet) (limit : ℕ) (entry : List ℕ) → Fits s → 32 ≤ length entry
+    → length (decisionsOf s limit entry) ≡ length entry
 unfolding decisionsOf
 decisions-length s limit entry h l = tab-length (decision s limit) (idleCars s) entry _ (omega (arith, h .decisions)) refl
 
-pub cells-length : (s : Sheet) (limit : ℕ) (entry : List ℕ) → Fits s → 2048 ≤ length entry → length (cellsOf s limit entry) ≡ length entry
+pub cells-length : (s : Sheet) (limit : ℕ) (entry : List ℕ) → Fits s → 2048 ≤ length entry
+    → length (cellsOf s limit entry) ≡ length entry
 unfolding cellsOf
 cells-length s limit entry h l = tabs-length (matrix s limit) (columns s) (idleCars s) (idleCars s * columns s) entry _ refl (omega (arith, h .cells)) refl
 
@@ -124,7 +127,8 @@ pub no-stop-sweep : (s : Sheet) → pendingStops s ≡ 0 → (i : ℕ) → sweep
 unfolding sweepAfter
 no-stop-sweep s none i = rw (le-ltb 0 (pendingStops s) (omega arith)) (stays (s .policy .strategy) (idle s i))
   where
-    stays : (t : Strategy) (b : Bool) → byStrategy t (sweepOf (s .car i)) (sweepOf (s .car i)) (cond (b && false) (preparedSweep s i) (sweepOf (s .car i))) (sweepOf (s .car i)) ≡ sweepOf (s .car i)
+    stays : (t : Strategy) (b : Bool) → byStrategy t (sweepOf (s .car i)) (sweepOf (s .car i))
+        (cond (b && false) (preparedSweep s i) (sweepOf (s .car i))) (sweepOf (s .car i)) ≡ sweepOf (s .car i)
     stays Etd b = refl
     stays Rsr b = refl
     stays Scan true = refl

@@ -60,15 +60,18 @@ pub record Ranked (s : Sheet) (i j : ℕ) : Type 0 where
   -- where there is one, 0 is at most it, and it is finite
   pub nonneg : (x : Float) → rank s i j ≡ Cost x → (le Num.zero x ≡ true) × (finite x ≡ true)
   -- and none is lost because a cost is not finite: under ETD and RSR a useful pair of a car that can move has a rank, its cost
-  pub etd : s .policy .strategy ≡ Etd → pairIsUseful s i j false ≡ true → lt Num.zero (s .car i .speed) ≡ true → rank s i j ≡ Cost (fairCost s i j)
-  pub rsr : s .policy .strategy ≡ Rsr → pairIsUseful s i j true ≡ true → lt Num.zero (s .car i .speed) ≡ true → rank s i j ≡ Cost (rsrCost s i j)
+  pub etd : s .policy .strategy ≡ Etd → pairIsUseful s i j false ≡ true → lt Num.zero (s .car i .speed) ≡ true
+      → rank s i j ≡ Cost (fairCost s i j)
+  pub rsr : s .policy .strategy ≡ Rsr → pairIsUseful s i j true ≡ true → lt Num.zero (s .car i .speed) ≡ true
+      → rank s i j ≡ Cost (rsrCost s i j)
 
 module _ (s : Sheet) (a : Admitted s) (i j : ℕ) (li : i < s .cars) (lj : j < s .stops) where
   scan-nonneg : (x : Float) → scanRank s (sweepAfter s i) i j ≡ Cost x → (le Num.zero x ≡ true) × (finite x ≡ true)
   unfolding scanRank rankOf
   scan-nonneg x h = by (pairIsUseful s i j false) h
     where
-      by : (b : Bool) → cond b (sweepRank (sweepAfter s i) (s .car i .position) (stopAt s j)) Never ≡ Cost x → (le Num.zero x ≡ true) × (finite x ≡ true)
+      by : (b : Bool) → cond b (sweepRank (sweepAfter s i) (s .car i .position) (stopAt s j)) Never ≡ Cost x → (le Num.zero x ≡ true)
+          × (finite x ≡ true)
       by true e = sweep-nonneg (sweepAfter s i) (s .car i .position) (stopAt s j) x (a .car-at i li) (a .stop-at j lj) e
       by false e = let z : _≡_ {A = ℕ} 0 1 = cc in absurd (omega arith)
 
@@ -90,6 +93,7 @@ module _ (s : Sheet) (a : Admitted s) (i j : ℕ) (li : i < s .cars) (lj : j < s
       }
 
 -- "In the admitted ranges every rank is finite and nonnegative."
-pub ranked-of : (bytes : List ℕ) (c : Counts) → verdict bytes ≡ Accepted c → (i j : ℕ) → i < sheetOf bytes c .cars → j < sheetOf bytes c .stops
+pub ranked-of : (bytes : List ℕ) (c : Counts) → verdict bytes ≡ Accepted c → (i j : ℕ) → i < sheetOf bytes c .cars
+    → j < sheetOf bytes c .stops
     → Ranked (sheetOf bytes c) i j
 ranked-of bytes c e i j li lj = admitted-ranked (sheetOf bytes c) (admitted-of bytes c e) i j li lj

@@ -123,8 +123,10 @@ fn decision_lines<'a>(
     out: &mut [u8],
     from: usize,
 ) -> usize
-    requires { ⌜ Small c × Rows (sheetOf (now s) c) (now cars) n × (length (now cars) ≡ 64) × Decided (sheetOf (now s) c) (limitOf (now s)) (now decisions) × (from + 1920 ≤ length (now out)) ⌝ }
-    ensures { λ r. ⌜ Put (now (out .entry)) from (linesOf (rowDecision (sheetOf (now (s .entry)) c) (limitOf (now (s .entry)))) n) (now (out .exit)) r × (r ≤ from + 1920) ⌝ }
+    requires { ⌜ Small c × Rows (sheetOf (now s) c) (now cars) n × (length (now cars) ≡ 64)
+        × Decided (sheetOf (now s) c) (limitOf (now s)) (now decisions) × (from + 1920 ≤ length (now out)) ⌝ }
+    ensures { λ r. ⌜ Put (now (out .entry)) from (linesOf (rowDecision (sheetOf (now (s .entry)) c) (limitOf (now (s .entry)))) n)
+        (now (out .exit)) r × (r ≤ from + 1920) ⌝ }
 {
     let mut at = from;
     let mut r: usize = 0;
@@ -145,8 +147,10 @@ fn sweep_lines<'a>(
     out: &mut [u8],
     from: usize,
 ) -> usize
-    requires { ⌜ Small c × Rows (sheetOf (now s) c) (now cars) n × (length (now cars) ≡ 64) × Swept (sheetOf (now s) c) (now sweeps) × (from + 1920 ≤ length (now out)) ⌝ }
-    ensures { λ r. ⌜ Put (now (out .entry)) from (linesOf (rowSweep (sheetOf (now (s .entry)) c)) n) (now (out .exit)) r × (r ≤ from + 1920) ⌝ }
+    requires { ⌜ Small c × Rows (sheetOf (now s) c) (now cars) n × (length (now cars) ≡ 64) × Swept (sheetOf (now s) c) (now sweeps)
+        × (from + 1920 ≤ length (now out)) ⌝ }
+    ensures { λ r. ⌜ Put (now (out .entry)) from (linesOf (rowSweep (sheetOf (now (s .entry)) c)) n) (now (out .exit)) r
+        × (r ≤ from + 1920) ⌝ }
 {
     let mut at = from;
     let mut r: usize = 0;
@@ -169,7 +173,9 @@ fn sent_lines<'a>(
     sweeps: &'a [u8],
     out: &mut [u8],
 ) -> usize
-    requires { ⌜ (verdict (now s) ≡ Accepted c) × Answered (sheetOf (now s) c) (limitOf (now s)) cars stops total × Decided (sheetOf (now s) c) (limitOf (now s)) (now decisions) × Swept (sheetOf (now s) c) (now sweeps) × (4096 ≤ length (now out)) ⌝ }
+    requires { ⌜ (verdict (now s) ≡ Accepted c) × Answered (sheetOf (now s) c) (limitOf (now s)) cars stops total
+        × Decided (sheetOf (now s) c) (limitOf (now s)) (now decisions) × Swept (sheetOf (now s) c) (now sweeps)
+        × (4096 ≤ length (now out)) ⌝ }
     ensures { λ r. ⌜ Put (now (out .entry)) 0 (printed (now (s .entry))) (now (out .exit)) r × (r ≤ 4096) ⌝ }
 {
     let mut idle = [0usize; 64];

@@ -51,7 +51,8 @@ by-rsr t e r s u h = sym (ap (λ (x : Strategy). byStrategy x e r s u) h)
 pub by-scan : {A : Type 0} (t : Strategy) (e r s u : A) → t ≡ Scan → s ≡ byStrategy t e r s u
 by-scan t e r s u h = sym (ap (λ (x : Strategy). byStrategy x e r s u) h)
 
-by-parts : {A : Type 0} (t : Strategy) (d : A) {a b c : A} (x y z : A) → a ≡ x → b ≡ y → c ≡ z → byStrategy t a b c d ≡ byStrategy t x y z d
+by-parts : {A : Type 0} (t : Strategy) (d : A) {a b c : A} (x y z : A) → a ≡ x → b ≡ y → c ≡ z
+    → byStrategy t a b c d ≡ byStrategy t x y z d
 by-parts Etd d x y z p q r = p
 by-parts Rsr d x y z p q r = q
 by-parts Scan d x y z p q r = r
@@ -83,7 +84,8 @@ module _ (s : Sheet) (ids : List ℕ) (xs : List Float) (hs : HoldsStops s ids x
   cell-is = rw (h .kept-is j l, rank-is)
 
 -- the sweep of car i after the pass
-pub sweep-is : (s : Sheet) (ids : List ℕ) (xs : List Float) (pending demand : ℕ) → HoldsStops s ids xs (s .stops) → HoldsDemand s demand (s .stops)
+pub sweep-is : (s : Sheet) (ids : List ℕ) (xs : List Float) (pending demand : ℕ) → HoldsStops s ids xs (s .stops)
+    → HoldsDemand s demand (s .stops)
     → not (eqb pending 0) ≡ ltb 0 (pendingStops s) → (i : ℕ) → sweepBy (s .policy .strategy) (s .car i) pending demand xs (s .stops) ≡ sweepAfter s i
 unfolding sweepBy sweepAfter idle
 sweep-is s ids xs pending demand hs hd e i =

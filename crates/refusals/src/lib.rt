@@ -7,7 +7,8 @@ ghost use Rattle.components.specs.declared.Kind.the-variants.{Stop, Line, Aboar
 ghost use Rattle.layout.specs.Offsets.{Small, endOf};
 ghost use Rattle.layout.specs.Table.{field};
 ghost use Rattle.layout.specs.Records.{from, double};
-ghost use Rattle.layout.specs.Refusals.{absentSet, presentZero, seen, hasStop, hasLine, hasCar, hasDemand, lastStop, refusal8Waiting, refusal9Waiting};
+ghost use Rattle.layout.specs.Refusals.{absentSet, presentZero, seen, hasStop, hasLine, hasCar, hasDemand, lastStop, refusal8Waiting};
+ghost use Rattle.layout.specs.Refusals.{refusal9Waiting};
 ghost use Rattle.layout.specs.Verdict.{pick, bodyRefusal};
 use layout::Counts;
 use layout::aboard;

@@ -142,11 +142,13 @@ module _ (h : Case) (left : ℕ) where
 pub few-bytes : (cells width : ℕ) → cells ≤ 2048 → width ≤ 8 → cells * width ≤ 16384
 few-bytes cells width a b = omega (arith, mul-le-mul-right width a)
 
-pub misplaced-yes : (s : List ℕ) (at : ℕ) (places : List ℕ) (k : ℕ) {x y : ℕ} → x ≡ getD places k 0 → y ≡ number s (at + k) 1 → (x ≡ y → ⊥)
+pub misplaced-yes : (s : List ℕ) (at : ℕ) (places : List ℕ) (k : ℕ) {x y : ℕ} → x ≡ getD places k 0 → y ≡ number s (at + k) 1
+    → (x ≡ y → ⊥)
     → misplaced s at places k ≡ true
 misplaced-yes s at places k {x} {y} a b h = rw (← a, ← b, ne-eqb x y h)
 
-pub misplaced-no : (s : List ℕ) (at : ℕ) (places : List ℕ) (k : ℕ) {x y : ℕ} → x ≡ getD places k 0 → y ≡ number s (at + k) 1 → x ≡ y
+pub misplaced-no : (s : List ℕ) (at : ℕ) (places : List ℕ) (k : ℕ) {x y : ℕ} → x ≡ getD places k 0 → y ≡ number s (at + k) 1
+    → x ≡ y
     → misplaced s at places k ≡ false
 misplaced-no s at places k {x} {y} a b h = rw (← a, ← b, eq-eqb x y h)
 
@@ -181,7 +183,8 @@ pub record Turned (s : List ℕ) (at : ℕ) (t : Totals) (r : Step) : Type 0 whe
   pub within : r .next ≤ length s
   pub counted : Counted (r .next) (r .totals)
 
-cut-short : (s : List ℕ) (at : ℕ) (t : Totals) {r : Step} → at < length s → Counted at t → r ≡ cutAt s t → r ≡ turnOf s at t → Turned s at t r
+cut-short : (s : List ℕ) (at : ℕ) (t : Totals) {r : Step} → at < length s → Counted at t → r ≡ cutAt s t → r ≡ turnOf s at t
+    → Turned s at t r
 cut-short s at t {r} l h e is =
     record {
       is = is;

@@ -15,7 +15,8 @@ ghost use lib.ListN.{length};
 ghost use Rattle.laws.specs.Bools.{bit};
 ghost use Rattle.laws.specs.Folds.{any};
 ghost use Rattle.laws.specs.Tables.{tab};
-ghost use Rattle.replay_choices.specs.Cases.{answerOf, headAt, cellIn, answerAt, broken, misplaced, blanks, apart, differ, comparedAt, cutAt, Fitting, Counted, Turned, Replayed};
+ghost use Rattle.replay_choices.specs.Cases.{answerOf, headAt, cellIn, answerAt, broken, misplaced, blanks, apart, differ, comparedAt, cutAt};
+ghost use Rattle.replay_choices.specs.Cases.{Fitting, Counted, Turned, Replayed};
 
 // 1 and the total of a choice, or 0 and 0.
 struct Answer {

@@ -42,7 +42,8 @@ module _ (first second : List ℕ) where
   unfolding agree
   agree-is e h = rw (eq-eqb (length first) (length second) e) h
 
-  pub pair-is : {b : Bool} {x y : ℕ} → b ≡ agree first second → x ≡ limitOf first → y ≡ limitOf second → (b && ltb x y) ≡ isPair first second
+  pub pair-is : {b : Bool} {x y : ℕ} → b ≡ agree first second → x ≡ limitOf first → y ≡ limitOf second
+      → (b && ltb x y) ≡ isPair first second
   unfolding isPair
   pair-is e f g = cc (e, f, g)
 
@@ -63,7 +64,8 @@ agree-but-limit first second h k no-6 no-7 =
     (less? k (length first))
 
 -- two sheets that are a pair, both accepted, are a pair of demand 3
-pub pair-of : {x y : Lent} {c d : Counts} → outcomeOf x ≡ Accepted c → outcomeOf y ≡ Accepted d → isPair (x .bytes) (y .bytes) ≡ true → Pair x y c d
+pub pair-of : {x y : Lent} {c d : Counts} → outcomeOf x ≡ Accepted c → outcomeOf y ≡ Accepted d → isPair (x .bytes) (y .bytes) ≡ true
+    → Pair x y c d
 unfolding isPair
 pair-of {x} {y} e f h =
     record {

@@ -109,7 +109,8 @@ turned-as : (s : List ℕ) (at : ℕ) {v w r : Step} → v ≡ w → Turned s at
 turned-as s at {v} {w} {r} e h = subst (λ (z : Step). Turned s at z r) e h
 
 module _ (s : List ℕ) (at : ℕ) (t : Totals) {r : Step} (v : Place) where
-  pub turned-second : (p : Stored) → v ≡ caseOf s (p .next) → Turned s at (secondBy v s at p t) r → Turned s at (secondBy (caseOf s (p .next)) s at p t) r
+  pub turned-second : (p : Stored) → v ≡ caseOf s (p .next) → Turned s at (secondBy v s at p t) r
+      → Turned s at (secondBy (caseOf s (p .next)) s at p t) r
   turned-second p e h = turned-as s at (ap (λ (z : Place). secondBy z s at p t) e) h
 
   pub turned-first : v ≡ caseOf s at → Turned s at (stepBy v s at t) r → Turned s at (turnOf s at t) r

@@ -79,7 +79,8 @@ pub record Turned (s : List ℕ) (at : ℕ) (t : Totals) (r : Step) : Type 0 whe
   pub within : r .next ≤ length s
   pub counted : Counted (r .next) (r .totals)
 
-pub turned-by : (s : List ℕ) (at : ℕ) (t : Totals) (v : Place) {r : Step} → at < length s → Counted at t → v ≡ caseOf s at → Placed s (at + 2) v
+pub turned-by : (s : List ℕ) (at : ℕ) (t : Totals) (v : Place) {r : Step} → at < length s → Counted at t → v ≡ caseOf s at
+    → Placed s (at + 2) v
     → r ≡ stepBy v s at t → Counted (r .next) (r .totals) → Turned s at t r
 unfolding stepBy
 turned-by s at t (Whole p) {r} l h e i er k =

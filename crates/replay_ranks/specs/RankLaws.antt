@@ -65,11 +65,13 @@ some-stop k a (suc b) l = omega arith
 
 -- ---- a pair
 
-pub agrees : (s : Sheet) (p : Pair) {a : Answer} {b : Bool} → a ≡ answerFor s (p .car) (p .stop) → b ≡ same a (p .stored) → b ≡ true → 0 ≡ bit (differs s p)
+pub agrees : (s : Sheet) (p : Pair) {a : Answer} {b : Bool} → a ≡ answerFor s (p .car) (p .stop) → b ≡ same a (p .stored) → b ≡ true
+    → 0 ≡ bit (differs s p)
 unfolding differs
 agrees s p {a} {b} ea eb e = ap (λ (z : Bool). bit (not z)) (sym e ∙ eb ∙ ap (λ (z : Answer). same z (p .stored)) ea)
 
-pub disagrees : (s : Sheet) (p : Pair) {a : Answer} {b : Bool} → a ≡ answerFor s (p .car) (p .stop) → b ≡ same a (p .stored) → b ≡ false → 1 ≡ bit (differs s p)
+pub disagrees : (s : Sheet) (p : Pair) {a : Answer} {b : Bool} → a ≡ answerFor s (p .car) (p .stop) → b ≡ same a (p .stored) → b ≡ false
+    → 1 ≡ bit (differs s p)
 unfolding differs
 disagrees s p {a} {b} ea eb e = ap (λ (z : Bool). bit (not z)) (sym e ∙ eb ∙ ap (λ (z : Answer). same z (p .stored)) ea)
 
@@ -89,7 +91,8 @@ module _ (bytes : List ℕ) (c : Counts) (e : verdict bytes ≡ Accepted c) (ids
         demand-is = ed;
       }
 
-  pub ranked : (i j limit : ℕ) → i < sheetOf bytes c .cars → j < sheetOf bytes c .stops → (row : Row) {dests : List Float} → HoldsRow (sheetOf bytes c) i limit row dests
+  pub ranked : (i j limit : ℕ) → i < sheetOf bytes c .cars → j < sheetOf bytes c .stops → (row : Row) {dests : List Float}
+      → HoldsRow (sheetOf bytes c) i limit row dests
       → (waiters : List Waiters) → waiters ≡ gatheredOf (sheetOf bytes c)
       → rankBy row dests (getD waiters j noWaiters) xs (sheetOf bytes c .stops) j ≡ rank (sheetOf bytes c) i j
   ranked i j limit li lj row {dests} hr waiters hw =

@@ -36,7 +36,8 @@ module _ (s b : List ℕ) (case : Case) (t : Totals) where
   unfolding comparedBy
   by-refused {v} {r} n o e h = rw e h
 
-  pub by-accepted : {v : Reading} (c : Counts) (d : ℕ) → v ≡ Accepted c → d ≡ count (λ k. differs (sheetOf b c) (pairAt s case k)) (case .pairs)
+  pub by-accepted : {v : Reading} (c : Counts) (d : ℕ) → v ≡ Accepted c
+      → d ≡ count (λ k. differs (sheetOf b c) (pairAt s case k)) (case .pairs)
       → record { next = case .next; totals = record { sheets = t .sheets + 1; ranks = t .ranks + case .pairs; differ = t .differ + d } } ≡ comparedBy v s b case t
   unfolding comparedBy
   by-accepted {v} c d e h = rw (e, h)
@@ -46,7 +47,8 @@ module _ (s b : List ℕ) (case : Case) (t : Totals) where
   by-next (Refused n o) = refl
   by-next (Accepted c) = refl
 
-  by-counted : (at : ℕ) (v : Reading) → Counted at t → at + 4 + 9 * case .pairs ≤ case .next → Counted (case .next) (comparedBy v s b case t .totals)
+  by-counted : (at : ℕ) (v : Reading) → Counted at t → at + 4 + 9 * case .pairs ≤ case .next
+      → Counted (case .next) (comparedBy v s b case t .totals)
   unfolding comparedBy
   by-counted at (Refused n o) h l =
       record { sheets = omega (arith, h .sheets); ranks = omega (arith, h .ranks); differ = omega (arith, h .differ) }
@@ -66,7 +68,8 @@ pub record Turned (s : List ℕ) (at : ℕ) (t : Totals) (r : Step) : Type 0 whe
   pub within : r .next ≤ length s
   pub counted : Counted (r .next) (r .totals)
 
-pub turn-cut : (s : List ℕ) (at : ℕ) (t : Totals) {case : Case} {r : Step} → case ≡ caseAt s at → length s < case .next → at < length s → Counted at t
+pub turn-cut : (s : List ℕ) (at : ℕ) (t : Totals) {case : Case} {r : Step} → case ≡ caseAt s at → length s < case .next → at < length s
+    → Counted at t
     → r ≡ cutAt s t → Turned s at t r
 unfolding turnOf
 turn-cut s at t {case} {r} e l lt h er =

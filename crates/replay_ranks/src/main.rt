@@ -50,7 +50,8 @@ ghost use Rattle.manifest.specs.Stops.{HoldsStops};
 ghost use Rattle.assignment.specs.Pending.{pending};
 ghost use Rattle.assignment.specs.Cells.{rank};
 ghost use Rattle.pending.specs.Masks.{stopMask};
-ghost use Rattle.replay_ranks.specs.Ranks.{bitsOf, answerOf, answerFor, same, differs, caseAt, pairAt, refusedAt, comparedBy, cutAt, Inside, Counted, Replayed};
+ghost use Rattle.replay_ranks.specs.Ranks.{bitsOf, answerOf, answerFor, same, differs, caseAt, pairAt, refusedAt, comparedBy, cutAt, Inside};
+ghost use Rattle.replay_ranks.specs.Ranks.{Counted, Replayed};
 ghost use Rattle.replay_ranks.specs.TurnLaws.{Turned};
 
 // A mark, 1 where there is a rank and 0 where there is none, and the rank's bits.
@@ -132,7 +133,10 @@ fn rank_by<'a>(
     stops: u64,
 ) -> Rank
     requires { ⌜ (verdict (now s) ≡ Accepted c) × (i < c .cars) × (j < c .stops) × (length (now ids) ≡ 64) × (length (now xs) ≡ 64) ⌝ }
-    requires { ⌜ HoldsStops (sheetOf (now s) c) (now ids) (now xs) (c .stops) × (calls ≡ stopMask (sheetOf (now s) c) (riderlessCall (sheetOf (now s) c))) × (demand ≡ stopMask (sheetOf (now s) c) (demandStop (sheetOf (now s) c))) × (stops ≡ stopMask (sheetOf (now s) c) (pending (sheetOf (now s) c))) ⌝ }
+    requires { ⌜ HoldsStops (sheetOf (now s) c) (now ids) (now xs) (c .stops)
+        × (calls ≡ stopMask (sheetOf (now s) c) (riderlessCall (sheetOf (now s) c)))
+        × (demand ≡ stopMask (sheetOf (now s) c) (demandStop (sheetOf (now s) c)))
+        × (stops ≡ stopMask (sheetOf (now s) c) (pending (sheetOf (now s) c))) ⌝ }
     ensures { λ r. ⌜ r ≡ rank (sheetOf (now (s .entry)) c) i j ⌝ }
 {
     let mut acar = [0u32; 512];

@@ -70,7 +70,8 @@ pub record Counted (at : ℕ) (t : Totals) : Type 0 where
 
 -- ---- laws
 
-pub compared-by : (s : List ℕ) (at n : ℕ) (t : Totals) {c : Case} {took apart : ℕ} {same : Bool} → c ≡ caseAt s at n → took ≡ bit (eqb (c .got .number) 0)
+pub compared-by : (s : List ℕ) (at n : ℕ) (t : Totals) {c : Case} {took apart : ℕ} {same : Bool} → c ≡ caseAt s at n
+    → took ≡ bit (eqb (c .got .number) 0)
     → same ≡ agree c → apart ≡ bit (not same)
     → record { next = at + 7 + n; totals = record { compared = t .compared + 1; accepted = t .accepted + took; differ = t .differ + apart } } ≡ comparedAt s at n t
 unfolding comparedAt
@@ -79,7 +80,8 @@ compared-by s at n t ec et es ea =
     (λ (x y : ℕ). record { next = at + 7 + n; totals = record { compared = t .compared + 1; accepted = t .accepted + x; differ = t .differ + y } })
     (et ∙ ap (λ (k : Case). bit (eqb (k .got .number) 0)) ec) (ea ∙ ap (λ (b : Bool). bit (not b)) (es ∙ ap agree ec))
 
-pub compared-counted : (s : List ℕ) (at n : ℕ) (t : Totals) {r : Step} → r ≡ comparedAt s at n t → Counted at t → Counted (r .next) (r .totals)
+pub compared-counted : (s : List ℕ) (at n : ℕ) (t : Totals) {r : Step} → r ≡ comparedAt s at n t → Counted at t
+    → Counted (r .next) (r .totals)
 unfolding comparedAt
 compared-counted s at n t {r} e h =
     rw e (record {
@@ -99,7 +101,8 @@ pub record Turned (s : List ℕ) (at : ℕ) (t : Totals) (r : Step) : Type 0 whe
   pub within : r .next ≤ length s
   pub counted : Counted (r .next) (r .totals)
 
-cut-short : (s : List ℕ) (at : ℕ) (t : Totals) {r : Step} → at < length s → Counted at t → r ≡ cutAt s t → r ≡ turnOf s at t → Turned s at t r
+cut-short : (s : List ℕ) (at : ℕ) (t : Totals) {r : Step} → at < length s → Counted at t → r ≡ cutAt s t → r ≡ turnOf s at t
+    → Turned s at t r
 cut-short s at t {r} l h e is =
     record {
       is = is;
@@ -108,7 +111,8 @@ cut-short s at t {r} l h e is =
       counted = rw e (record { compared = omega (arith, h .compared); accepted = omega (arith, h .accepted); differ = omega (arith, h .differ) });
     }
 
-pub turn-headless : (s : List ℕ) (at : ℕ) (t : Totals) {r : Step} → at < length s → Counted at t → length s - at < 7 → r ≡ cutAt s t → Turned s at t r
+pub turn-headless : (s : List ℕ) (at : ℕ) (t : Totals) {r : Step} → at < length s → Counted at t → length s - at < 7 → r ≡ cutAt s t
+    → Turned s at t r
 unfolding turnOf
 turn-headless s at t l h short e = cut-short s at t l h e (rw (lt-ltb (length s - at) 7 short) e)
 
@@ -117,7 +121,8 @@ pub turn-cut : (s : List ℕ) (at n : ℕ) (t : Totals) {r : Step} → at < leng
 unfolding turnOf
 turn-cut s at n t l h long en short e = cut-short s at t l h e (rw (le-ltb (length s - at) 7 long, lt-ltb (length s - at - 7) (number s at 2) (rw en at short)) e)
 
-pub turn-whole : (s : List ℕ) (at n : ℕ) (t : Totals) {r : Step} → at < length s → Counted at t → 7 ≤ length s - at → n ≡ number s at 2
+pub turn-whole : (s : List ℕ) (at n : ℕ) (t : Totals) {r : Step} → at < length s → Counted at t → 7 ≤ length s - at
+    → n ≡ number s at 2
     → n ≤ length s - at - 7 → r ≡ comparedAt s at n t → Turned s at t r
 unfolding turnOf
 turn-whole s at n t {r} l h long en whole e =

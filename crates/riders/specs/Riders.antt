@@ -110,7 +110,8 @@ module _ (ids : List ℕ) (xs : List Float) (n : ℕ) (acar adest : List ℕ) (i
       let m = held-le a at entry now h in
       collected-length (knownAt ids n acar adest id) (λ c. getD xs (stopIndex ids n (getD adest c 0)) nan) a at entry now (h .counted) (omega arith) (h .held)
 
-  by : (b : Bool) (a at r : ℕ) (entry now exit : List Float) → knownAt ids n acar adest id a ≡ b → Seating a at entry now → at < length entry
+  by : (b : Bool) (a at r : ℕ) (entry now exit : List Float) → knownAt ids n acar adest id a ≡ b → Seating a at entry now
+      → at < length entry
       → r ≡ at + bit b → exit ≡ cond b (set now at (getD xs (stopIndex ids n (getD adest a 0)) nan)) now
       → exit ≡ destsIn ids n acar adest id xs (a + 1) ++ drop r entry
   unfolding destsIn

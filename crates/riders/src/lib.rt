@@ -101,8 +101,10 @@ fn destinations(
     id: u32,
     dests: &mut [f64],
 ) -> usize
-    requires { ⌜ (n ≤ length (now ids)) × (n ≤ length (now xs)) × (na ≤ length (now acar)) × (na ≤ length (now adest)) × (na ≤ length (now dests)) ⌝ }
-    ensures { λ r. ⌜ Seating (now (ids .entry)) (now (xs .entry)) n (now (acar .entry)) (now (adest .entry)) id na r (now (dests .entry)) (now (dests .exit)) ⌝ }
+    requires { ⌜ (n ≤ length (now ids)) × (n ≤ length (now xs)) × (na ≤ length (now acar)) × (na ≤ length (now adest))
+        × (na ≤ length (now dests)) ⌝ }
+    ensures { λ r. ⌜ Seating (now (ids .entry)) (now (xs .entry)) n (now (acar .entry)) (now (adest .entry)) id na r (now (dests .entry))
+        (now (dests .exit)) ⌝ }
 {
     let mut at = 0;
     let mut a = 0;
@@ -124,8 +126,10 @@ pub fn riders_of(
     id: u32,
     dests: &mut [f64],
 ) -> Riders
-    requires { ⌜ (n ≤ length (now ids)) × (n ≤ length (now xs)) × (n ≤ 64) × (na ≤ length (now acar)) × (na ≤ length (now adest)) × (na ≤ length (now dests)) ⌝ }
-    ensures { λ r. ⌜ Seats (now (ids .entry)) (now (xs .entry)) n (now (acar .entry)) (now (adest .entry)) na id (now (dests .entry)) r (now (dests .exit)) ⌝ }
+    requires { ⌜ (n ≤ length (now ids)) × (n ≤ length (now xs)) × (n ≤ 64) × (na ≤ length (now acar)) × (na ≤ length (now adest))
+        × (na ≤ length (now dests)) ⌝ }
+    ensures { λ r. ⌜ Seats (now (ids .entry)) (now (xs .entry)) n (now (acar .entry)) (now (adest .entry)) na id (now (dests .entry)) r
+        (now (dests .exit)) ⌝ }
 {
     let count = destinations(ids, xs, n, acar, adest, na, id, dests);
     let exits = exits(ids, n, acar, adest, na, id);

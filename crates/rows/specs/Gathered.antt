@@ -64,7 +64,8 @@ gathered-is s ids xs calls wstop wdest wweight wwait hs few hw e h =
     (λ j l. waiters-are s j _
     (waiters-held s ids xs (s .stops) hs wstop wdest wweight wwait (s .waits) hw j (has calls j) l (below-has s (riderlessCall s) calls few e j l))))
 
-pub gathered-held : (s : Sheet) (all : List Waiters) → all ≡ gatheredOf s → (j : ℕ) → j < s .stops → HoldsWaiters s j (getD all j noWaiters)
+pub gathered-held : (s : Sheet) (all : List Waiters) → all ≡ gatheredOf s → (j : ℕ) → j < s .stops
+    → HoldsWaiters s j (getD all j noWaiters)
 unfolding gatheredOf
 gathered-held s all e j l =
     rw (fields.held (waitersOf s) (s .stops) (drop (s .stops) (replicate 64 (waiters.nobody false))) all e noWaiters j l)

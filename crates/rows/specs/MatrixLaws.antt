@@ -117,7 +117,8 @@ module _ (s : Sheet) (few : s .stops ≤ 64) (mask : ℕ) (e : mask ≡ stopMask
       (λ k l. cells-are ids xs hs r limit weighed row dests hr waiters hw k)
 
 -- the mask of the stops that a car is ranked for has so many
-pub kept-size : (s : Sheet) (limit m : ℕ) (car : Car) → s .stops ≤ 64 → m ≡ stopMask s (keptOf s car limit) → count (has m) 64 ≡ count (keptOf s car limit) (s .stops)
+pub kept-size : (s : Sheet) (limit m : ℕ) (car : Car) → s .stops ≤ 64 → m ≡ stopMask s (keptOf s car limit)
+    → count (has m) 64 ≡ count (keptOf s car limit) (s .stops)
 kept-size s limit m car few e = masked-count (keptOf s car limit) (s .stops) few m e
 
 -- the row of a car by value, from what is held of the sheet
@@ -182,7 +183,8 @@ module _ (s : Sheet) (ids : List ℕ) (xs : List Float) (acar adest : List ℕ) 
       rw (listed-stop s (h .held .few) mask (h .held .stops-are) (h .entry) m stops (h .listed) k l)
       (column-below s (h .held .few) mask (h .held .stops-are) (h .entry) m stops (h .listed) k l)
 
-  pub ready-row : (i limit : ℕ) (row : Row) {dests : List Float} → i < s .cars → HoldsRow s i limit row dests → (r n : ℕ) → rowCar s r ≡ i
+  pub ready-row : (i limit : ℕ) (row : Row) {dests : List Float} → i < s .cars → HoldsRow s i limit row dests → (r n : ℕ)
+      → rowCar s r ≡ i
       → tab (padded (rowCell row dests waiters xs (s .stops) stops) m) n ≡ tab (matrix s limit r) n
   ready-row i limit row {dests} l hr r n e =
       row-is s (h .held .few) mask (h .held .stops-are) (h .entry) m stops (h .listed) ids xs (h .held .stops-held) r limit (rw e (h .weighed i l)) row dests
@@ -265,7 +267,8 @@ filling-start s limit columns entry =
 pub part-length : (at columns : ℕ) (now : List ℕ) → at + columns ≤ length now → length (take (at + columns - at) (drop at now)) ≡ columns
 part-length at columns now l = simp (length-take, length-drop) (omega arith)
 
-pub filling-next : (s : Sheet) (limit columns r at i ranked few′ k n : ℕ) (entry now row : List ℕ) → columns ≤ 64 → s .stops ≤ 64 → at + columns ≤ length entry
+pub filling-next : (s : Sheet) (limit columns r at i ranked few′ k n : ℕ) (entry now row : List ℕ) → columns ≤ 64 → s .stops ≤ 64
+    → at + columns ≤ length entry
     → Filling s limit columns r at entry ranked now → rowCar s r ≡ i → k ≡ columns → n ≡ columns → FilledRow s limit i n row → few′ ≡ keptNumber s limit i
     → Filling s limit columns (r + 1) (at + columns) entry (ranked + few′) (take at now ++ (row ++ drop k (drop at now)))
 unfolding keptNumber

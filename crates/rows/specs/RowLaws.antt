@@ -40,7 +40,8 @@ pub record Listing (mask : ℕ) (entry : List ℕ) (j m : ℕ) (now : List ℕ) 
   pub counted : m ≡ count (has mask) j
   pub held : now ≡ filtered (has mask) j ++ drop m entry
 
-pub listing-take : (mask j m : ℕ) (entry now : List ℕ) → Listing mask entry j m now → j < 64 → length entry ≡ 64 → has mask j ≡ true → Listing mask entry (j + 1) (m + 1) (set now m j)
+pub listing-take : (mask j m : ℕ) (entry now : List ℕ) → Listing mask entry j m now → j < 64 → length entry ≡ 64 → has mask j ≡ true
+    → Listing mask entry (j + 1) (m + 1) (set now m j)
 listing-take mask j m entry now l lj e t =
     let few = count-le (has mask) j in
     record {
@@ -50,7 +51,8 @@ listing-take mask j m entry now l lj e t =
       held = filtered-take (has mask) j m entry now t (l .counted) (omega (arith, l .counted)) (l .held);
     }
 
-pub listing-skip : (mask j m : ℕ) (entry now : List ℕ) → Listing mask entry j m now → j < 64 → has mask j ≡ false → Listing mask entry (j + 1) m now
+pub listing-skip : (mask j m : ℕ) (entry now : List ℕ) → Listing mask entry j m now → j < 64 → has mask j ≡ false
+    → Listing mask entry (j + 1) m now
 listing-skip mask j m entry now l lj t =
     record { below = omega arith; size = l .size; counted = count-no (has mask) j t (l .counted); held = filtered-skip (has mask) j m entry now t (l .held) }
 
@@ -90,7 +92,8 @@ sparing-next m k entry now h l =
 unfoldable pub padded : (ℕ → ℕ) → ℕ → ℕ → ℕ
 padded f m k = cond (ltb k m) (f k) sentinel
 
-pub whole-row : (f : ℕ → ℕ) (m : ℕ) (entry : List ℕ) {mid exit : List ℕ} → length mid ≡ length entry → mid ≡ tab f m ++ drop m entry → Spared m mid exit
+pub whole-row : (f : ℕ → ℕ) (m : ℕ) (entry : List ℕ) {mid exit : List ℕ} → length mid ≡ length entry
+    → mid ≡ tab f m ++ drop m entry → Spared m mid exit
     → exit ≡ tab (padded f m) (length entry)
 unfolding padded
 whole-row f m entry {mid} {exit} e d h =

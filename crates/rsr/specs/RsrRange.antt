@@ -52,7 +52,8 @@ penalty-size cost weight scaling wrong p q r = by (lt Num.zero weight && wrong)
     by true = plus-size 61 cost (times weight scaling) (lit≤ tt) p (grow 60 61 (times weight scaling) (lit≤ tt) (times-size 30 30 weight scaling (lit≤ tt) q r))
     by false = grow 61 62 cost (lit≤ tt) p
 
-call-size : (cost weight : Float) (call : Bool) → AtMost (2 ^ 62) cost → AtMost (2 ^ 30) weight → AtMost (2 ^ 63) (withCoincidentCall cost weight call)
+call-size : (cost weight : Float) (call : Bool) → AtMost (2 ^ 62) cost → AtMost (2 ^ 30) weight
+    → AtMost (2 ^ 63) (withCoincidentCall cost weight call)
 unfolding withCoincidentCall
 call-size cost weight call p q = by (lt Num.zero weight && call)
   where

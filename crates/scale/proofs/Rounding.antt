@@ -1,6 +1,9 @@
 -- The whole number nearest to a double, from its bits: one law for each way through the code. Assumes nothing.
 use Prim.Native.Nat.{ℕ, zero, suc, _+_, _-_, _*_, _/_, _%_, _^_, _≤_, _<_, min}
-use native.Mathlib.Nat.{one-mul, add-comm, eq-or-lt-of-le, mul-pos, mul-assoc, mul-comm, mul-left-comm, mul-right-comm, add-mul, mul-le-mul-left, mul-le-mul-right, mul-le-mul, le-trans, le-of-eq, lt-of-lt-of-le, lt-of-le-of-lt, mod-eq-of-lt, min-eq-right, div-eq-of-lt, le-div-iff-mul-le, lt-of-mul-lt-mul-right, le-of-mul-le-mul-right, mul-lt-mul-of-pos-right, eq-of-mul-eq-mul-left, mod-le, pow-succ'}
+use native.Mathlib.Nat.{one-mul, add-comm, eq-or-lt-of-le, mul-pos, mul-assoc, mul-comm, mul-left-comm, mul-right-comm, add-mul, mul-le-mul-left}
+use native.Mathlib.Nat.{mul-le-mul-right, mul-le-mul, le-trans, le-of-eq, lt-of-lt-of-le, lt-of-le-of-lt, mod-eq-of-lt, min-eq-right, div-eq-of-lt}
+use native.Mathlib.Nat.{le-div-iff-mul-le, lt-of-mul-lt-mul-right, le-of-mul-le-mul-right, mul-lt-mul-of-pos-right, eq-of-mul-eq-mul-left, mod-le}
+use native.Mathlib.Nat.{pow-succ'}
 use native.Mathlib.Omega.{arith}
 use mathlib.Core.Path.{_≡_, refl, sym, ap, _∙_, subst}
 use mathlib.Core.Logic.{inl, inr}
@@ -64,7 +67,8 @@ big (fin false m e) A C c v h =
     min-eq-right (le-div-iff-mul-le (mul-pos (lit< tt) (down-pos e)) .1 r)
 
 -- q * 2 ^ x units, where k + 1 of the digits of q lie below the point
-middle : (y : Float) (q x k : ℕ) → x + suc k ≡ 1074 → HasValue y false (q * 2 ^ x) (2 ^ 1074) → whole y ≡ min ((q + 2 ^ k) / 2 ^ suc k) ceiling
+middle : (y : Float) (q x k : ℕ) → x + suc k ≡ 1074 → HasValue y false (q * 2 ^ x) (2 ^ 1074)
+    → whole y ≡ min ((q + 2 ^ k) / 2 ^ suc k) ceiling
 unfolding whole
 middle nan q x k e v = absurd v
 middle (inf true) q x k e v = absurd v

@@ -98,7 +98,8 @@ pub differing-none : (s : List ℕ) (at width : ℕ) (ours : List ℕ) → diffe
 unfolding differing count
 differing-none s at width ours = refl
 
-pub differing-next : (s : List ℕ) (at width : ℕ) (ours : List ℕ) (k a : ℕ) {x y b c : ℕ} → x ≡ getD ours k 0 → y ≡ number s (at + width * k) width
+pub differing-next : (s : List ℕ) (at width : ℕ) (ours : List ℕ) (k a : ℕ) {x y b c : ℕ} → x ≡ getD ours k 0
+    → y ≡ number s (at + width * k) width
     → b ≡ a + differing s at width ours k → c ≡ b + apart x y → c ≡ a + differing s at width ours (k + 1)
 unfolding differing
 differing-next s at width ours k a {x} {y} {b} {c} ex ey eb ec =

@@ -188,7 +188,8 @@ fn compared<'a>(
     sweeps: &'a [u8],
 ) -> Tally
     requires { ⌜ Inside (now s) p × (length (now decisions) ≡ 32) × (length (now matrix) ≡ 2048) × (length (now sweeps) ≡ 32) ⌝ }
-    ensures { λ r. ⌜ r .differ ≡ caseDiffers (now (s .entry)) p cars stops total (now (decisions .entry)) (now (matrix .entry)) (now (sweeps .entry)) ⌝ }
+    ensures { λ r. ⌜ r .differ ≡ caseDiffers (now (s .entry)) p cars stops total (now (decisions .entry)) (now (matrix .entry))
+        (now (sweeps .entry)) ⌝ }
 {
     let none = Tally {
         differ: 0,

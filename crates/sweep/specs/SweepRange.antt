@@ -12,7 +12,8 @@ use Rattle.components.specs.declared.Rank.the-variants.{Cost, Never}
 use Rattle.sweep.specs.declared.Sweep.{Sweep}
 use Rattle.sweep.specs.Sweeps.{accepts, sweepRank}
 
-pub sweep-nonneg : (w : Sweep) (x p c : Float) → isPosition x ≡ true → isPosition p ≡ true → sweepRank w x p ≡ Cost c → (le zero c ≡ true) × (finite c ≡ true)
+pub sweep-nonneg : (w : Sweep) (x p c : Float) → isPosition x ≡ true → isPosition p ≡ true → sweepRank w x p ≡ Cost c
+    → (le zero c ≡ true) × (finite c ≡ true)
 unfolding sweepRank
 sweep-nonneg w x p c q r h = by (accepts (w .mode) (w .direction) x p) h
   where

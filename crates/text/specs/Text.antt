@@ -46,7 +46,8 @@ module _ {e : List ℕ} {a : ℕ} {t : List ℕ} {e′ : List ℕ} {r : ℕ} (p 
   rest = rw (p .buffer) (drop-at (take a e ++ t) (drop r e) r up-to)
 
 -- one piece after the other
-pub then : {e : List ℕ} {a : ℕ} {t : List ℕ} {e′ : List ℕ} {b : ℕ} {u e″ : List ℕ} {r : ℕ} → Put e a t e′ b → Put e′ b u e″ r → Put e a (t ++ u) e″ r
+pub then : {e : List ℕ} {a : ℕ} {t : List ℕ} {e′ : List ℕ} {b : ℕ} {u e″ : List ℕ} {r : ℕ} → Put e a t e′ b
+    → Put e′ b u e″ r → Put e a (t ++ u) e″ r
 then {e} {a} {t} {e′} {b} {u} {e″} {r} p q =
     let kept : drop r e′ ≡ drop r e = rw (q .next, ← drop-drop (length u) b e′, rest p) (drop-drop (length u) b e) in
     record {
@@ -60,11 +61,13 @@ nothing e a h = record { next = omega arith; fits = h; buffer = sym (simp append
 
 -- ---- a loop that copies a piece
 
-pub copied : (e : List ℕ) (a : ℕ) (piece l : List ℕ) (i v : ℕ) → i < length piece → a + i < length e → v ≡ getD piece i 0 → l ≡ paste e a piece i
+pub copied : (e : List ℕ) (a : ℕ) (piece l : List ℕ) (i v : ℕ) → i < length piece → a + i < length e → v ≡ getD piece i 0
+    → l ≡ paste e a piece i
     → set l (a + i) v ≡ paste e a piece (i + 1)
 copied e a piece l i v h k x d = rw (d, x, add-one i) (paste-suc e a piece i 0 k h)
 
-pub copied-all : (e : List ℕ) (a : ℕ) (piece l : List ℕ) (i : ℕ) → i ≡ length piece → a + i ≤ length e → l ≡ paste e a piece i → Put e a piece l (a + i)
+pub copied-all : (e : List ℕ) (a : ℕ) (piece l : List ℕ) (i : ℕ) → i ≡ length piece → a + i ≤ length e → l ≡ paste e a piece i
+    → Put e a piece l (a + i)
 copied-all e a piece l i q h d = record { next = omega arith; fits = h; buffer = d ∙ rw (q, take-length piece) }
 
 -- ---- the fewest digits of a number are its decimal ones
@@ -99,7 +102,8 @@ few k n h f =
     (less? 20 k)
 
 -- what io::decimal writes is put
-pub put-decimal : {e : List ℕ} {at : ℕ} {e′ : List ℕ} {r : ℕ} {text : List ℕ} (k n : ℕ) → n < 18446744073709551616 → Fewest 10 1 n k → k ≡ length text → text ≡ digits 10 k n
+pub put-decimal : {e : List ℕ} {at : ℕ} {e′ : List ℕ} {r : ℕ} {text : List ℕ} (k n : ℕ) → n < 18446744073709551616 → Fewest 10 1 n k
+    → k ≡ length text → text ≡ digits 10 k n
     → Put e at text e′ r → Put e at (decimal n) e′ r × (r ≤ at + 20)
 unfolding decimal
 put-decimal {e} {at} {e′} {r} {text} k n h f l d p =

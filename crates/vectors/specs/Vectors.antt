@@ -147,7 +147,8 @@ pub record Turned (s : List ℕ) (at : ℕ) (t : Totals) (r : Step) : Type 0 whe
   pub counted : Counted (r .next) (r .totals)
 
 -- a step by a vector that was read
-pub turned-by : (s : List ℕ) (at : ℕ) (t : Totals) (v : Vector) {r : Step} → at < length s → Counted at t → v ≡ vectorAt s at → Whole s at v
+pub turned-by : (s : List ℕ) (at : ℕ) (t : Totals) (v : Vector) {r : Step} → at < length s → Counted at t → v ≡ vectorAt s at
+    → Whole s at v
     → r ≡ stepBy v s at t → Turned s at t r
 unfolding stepBy
 turned-by s at t Scale {r} l h e w er =
@@ -187,13 +188,15 @@ turned-by s at t Unknown {r} l h e w er =
       });
     }
 
-pub step-scale : (s : List ℕ) (at : ℕ) (t : Totals) {c : Case} {same : Bool} {apart : ℕ} → c ≡ scaleCase s at → same ≡ agree c → apart ≡ bit (not same)
+pub step-scale : (s : List ℕ) (at : ℕ) (t : Totals) {c : Case} {same : Bool} {apart : ℕ} → c ≡ scaleCase s at → same ≡ agree c
+    → apart ≡ bit (not same)
     → record { next = at + 17; totals = record { scales = t .scales + 1; «scales_differ» = t .«scales_differ» + apart; fields = t .fields; «fields_differ» = t .«fields_differ» } }
     ≡ stepBy Scale s at t
 unfolding stepBy
 step-scale s at t ec es ea = rw (ea, es, ec)
 
-pub step-field : (s : List ℕ) (at w n : ℕ) (t : Totals) {c : Case} {same : Bool} {apart : ℕ} → c ≡ fieldCase s at w n → same ≡ agree c → apart ≡ bit (not same)
+pub step-field : (s : List ℕ) (at w n : ℕ) (t : Totals) {c : Case} {same : Bool} {apart : ℕ} → c ≡ fieldCase s at w n → same ≡ agree c
+    → apart ≡ bit (not same)
     → record { next = at + 19 + n; totals = record { scales = t .scales; «scales_differ» = t .«scales_differ»; fields = t .fields + 1; «fields_differ» = t .«fields_differ» + apart } }
     ≡ stepBy (Field w n) s at t
 unfolding stepBy

@@ -34,7 +34,8 @@ sum-is c =
 loop-again : tie.Need-loop-again Inv μ
 loop-again c = (search needs, sum-is c)
 
-sum-fits : (c : tie.After-shared-slice-known Inv μ) → c .before .before .loop .r * 2 ^ 8 % 2 ^ 64 + getD (c .before .before .before .args .s .now) (c .before .before .before .args .k + c .before .before .loop .i) 0 < 2 ^ 64
+sum-fits : (c : tie.After-shared-slice-known Inv μ) → c .before .before .loop .r * 2 ^ 8 % 2 ^ 64 + getD (c .before .before .before .args .s .now)
+    (c .before .before .before .args .k + c .before .before .loop .i) 0 < 2 ^ 64
 sum-fits c =
     let a = c .before .before .before .args in
     subst (λ (x : ℕ). x < 2 ^ 64) (sym (sum-is c)) (field-64 (a .s .now) (8 * a .k) (8 * (c .before .before .loop .i + 1)) (omega arith))

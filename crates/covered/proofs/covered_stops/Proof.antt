@@ -17,7 +17,13 @@ use Rattle.covered.proofs.covered_stops.Statement.{statement}
 use Rattle.covered.proofs.covered_stops.Tie as tie
 
 -- the columns hold the cars' and the lines' fields
-held-cars : (c : tie.After-ids3) → HoldsServing (sheetOf (c .before .before .before .before .before .before .before .before .before .before .before .before .before .before .before .before .before .before .before .before .before .before .args .s .now) (c .before .before .before .before .before .before .before .before .before .before .before .before .before .before .before .before .before .before .before .before .before .before .args .c)) (c .before .before .before .before .before .before .before .before .before .before .before .before .before .before .before .before .fill-targets .last .1 .1 .1 .0) (c .before .before .before .before .before .before .before .before .before .before .before .before .before .fill32 .last .1 .1 .1 .1 .1 .0) (c .before .before .before .before .before .before .before .before .before .before .fill-rooms .last .1 .1 .1 .0) (c .before .before .before .before .before .fill322 .last .1 .1 .1 .1 .1 .0)
+held-cars : (c : tie.After-ids3) → HoldsServing (sheetOf (c .before .before .before .before .before .before .before .before .before .before .before
+    .before .before .before .before .before .before .before .before .before .before .before .args .s .now)
+    (c .before .before .before .before .before .before .before .before .before .before .before .before .before .before .before .before .before .before
+    .before .before .before .before .args .c)) (c .before .before .before .before .before .before .before .before .before .before .before .before
+    .before .before .before .before .fill-targets .last .1 .1 .1 .0) (c .before .before .before .before .before .before .before .before .before
+    .before .before .before .before .fill32 .last .1 .1 .1 .1 .1 .0) (c .before .before .before .before .before .before .before .before .before
+    .before .fill-rooms .last .1 .1 .1 .0) (c .before .before .before .before .before .fill322 .last .1 .1 .1 .1 .1 .0)
 unfolding sheetOf carOf lineOf
 held-cars c =
     let a = c .before .before .before .before .before .before .before .before .before .before .before .before .before .before .before .before .before .before .before .before .before .before .args in

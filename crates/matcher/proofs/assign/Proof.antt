@@ -8,7 +8,8 @@ use mathlib.Core.Bool.{true}
 use lib.ListN.{length}
 use Rattle.matcher.specs.declared.Matching.the-variants.{None}
 use Rattle.matcher.specs.Promise.{refused, matching, written, all-fit}
-use Rattle.matcher.specs.Fits.{fits-matrix, small-product, many-cars, many-columns, few-columns, wrong-count, few-places, large-cell, refuse, accept}
+use Rattle.matcher.specs.Fits.{fits-matrix, small-product, many-cars, many-columns, few-columns, wrong-count, few-places, large-cell, refuse}
+use Rattle.matcher.specs.Fits.{accept}
 
 module _ (s : tie.Start) where
   refusal : refused (s .args .cars) (s .args .columns) (s .args .cells .now) (length (s .args .places .now)) ≡ true

@@ -24,7 +24,8 @@ use Rattle.pending.proofs.bound_stops.Statement.{statement}
 use Rattle.pending.proofs.bound_stops.Tie as tie
 
 -- a column of one table is that of another which is the same
-held-as : (f : ℕ → ℕ) (n : ℕ) (g : ℕ → ℕ) (r l : List ℕ) → l ≡ tab g n ++ r → g ≡ f → (d k : ℕ) → k < n → getD l k d ≡ f k
+held-as : (f : ℕ → ℕ) (n : ℕ) (g : ℕ → ℕ) (r l : List ℕ) → l ≡ tab g n ++ r → g ≡ f → (d k : ℕ) → k < n
+    → getD l k d ≡ f k
 held-as f n g r l e same d k h = held g n r l e d k h ∙ ap (λ (q : ℕ → ℕ). q k) same
 
 -- a car id is among the idle cars' ids

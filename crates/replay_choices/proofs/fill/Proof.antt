@@ -25,7 +25,8 @@ abbrev entry : tie.In-loop Inv-loop μ-loop → tie.Start Inv-loop μ-loop
 entry c = c .before .before .before .before
 
 -- a cell's bytes are among those of the cells
-within : (c : tie.In-loop Inv-loop μ-loop) → entry c .args .at + (c .before .loop .k * entry c .args .width + entry c .args .width) ≤ length (entry c .args .s .now)
+within : (c : tie.In-loop Inv-loop μ-loop) → entry c .args .at + (c .before .loop .k * entry c .args .width + entry c .args .width) ≤ length
+    (entry c .args .s .now)
 within c = omega (arith, row-in (c .before .loop .k) (length (entry c .args .cells .now)) (entry c .args .width) (omega (arith, c .loop-test .taken, c .before .loop .inv .1)), entry c .pre .2)
 
 mul-number : tie.Need-mul-number Inv-loop μ-loop

@@ -20,9 +20,11 @@ use prog.Wp.{Heap, Calls, Loops, WpFn, Tables}
 use ghost.Atoms.{Atoms, sem}
 use contract.Monad.{Fun, fact}
 use contract.Running.{givenOf, tables, tablesOf}
-use types.Kit.{Given, ‵, raw, _⊛_, ⋆, some, later, _$_, _∵_, !, qed, by, move, keep, drop, use1, use2, split, join, pick, rewrite, fsplit, fjoin, fpick, fpack, feqL, suffices, frame, await, done}
+use types.Kit.{Given, ‵, raw, _⊛_, ⋆, some, later, _$_, _∵_, !, qed, by, move, keep, drop, use1, use2, split, join, pick, rewrite, fsplit, fjoin}
+use types.Kit.{fpick, fpack, feqL, suffices, frame, await, done}
 use types.Part.{agg, whole, sub, look-in}
-use types.Run.{look, look-raw, init, forget, stop, hop, fld, from, load, lit, of-opd, bin, addr, and-then, no-more, assigns, land, returns, enter, alloc1, alloc0, params1, pass1, pass0, free1, free0}
+use types.Run.{look, look-raw, init, forget, stop, hop, fld, from, load, lit, of-opd, bin, addr, and-then, no-more, assigns, land, returns, enter}
+use types.Run.{alloc1, alloc0, params1, pass1, pass0, free1, free0}
 use sound.WpLaws.{FmC, fmOf, WpFn-mono}
 use denote.RattleType.{RattleType, owns}
 use denote.Laws.{Is, Tells, shows}
@@ -98,17 +100,65 @@ module _ {M : Type 1} (𝓤 : URA M) (H : Heap 𝓤) (A : Atoms 𝓤) (W : Given
   abbrev to : Callee 𝓤 H A mem run .Ghost
   to = (((κr, (κ1, tt)), (qr, (q1, tt)), tt, (row, (e, (s, (c, (limit, (ids, (xs, (acar, (adest, (pending, (demand, (waiters, (stops, (m, tt)))))))))))))), (slice-vals row, (vals e, (slice-vals s, (LL.vals M-Counts.the-type M-Counts-laws.the-laws c, (vint w32 limit ∷ [], (slice-vals ids, (slice-vals xs, (slice-vals acar, (slice-vals adest, (vint w64 pending ∷ [], (vint w64 demand ∷ [], (arrayVal (map (λ x. LL.val M-Waiters.the-type M-Waiters-laws.the-laws x) waiters) ∷ [], (slice-vals stops, (vint w64 m ∷ [], tt))))))))))))))), tt)
 
-  asked : CarNeeds (now s) c (now ids) (now xs) (now acar) (now adest) pending demand waiters (now stops) m (length (now row)) → ent 𝓤 (onEntry 𝓤 H A fill-car.signature (κr, (κ1, tt)) (qr, (q1, tt)) (row, (e, (s, (c, (limit, (ids, (xs, (acar, (adest, (pending, (demand, (waiters, (stops, (m, tt)))))))))))))) (slice-vals row, (vals e, (slice-vals s, (LL.vals M-Counts.the-type M-Counts-laws.the-laws c, (vint w32 limit ∷ [], (slice-vals ids, (slice-vals xs, (slice-vals acar, (slice-vals adest, (vint w64 pending ∷ [], (vint w64 demand ∷ [], (arrayVal (map (λ x. LL.val M-Waiters.the-type M-Waiters-laws.the-laws x) waiters) ∷ [], (slice-vals stops, (vint w64 m ∷ [], tt))))))))))))))) (Callee 𝓤 H A mem run .pre (to))
+  asked : CarNeeds (now s) c (now ids) (now xs) (now acar) (now adest) pending demand waiters (now stops) m (length (now row))
+      → ent 𝓤 (onEntry 𝓤 H A fill-car.signature (κr, (κ1, tt)) (qr, (q1, tt))
+      (row, (e, (s, (c, (limit, (ids, (xs, (acar, (adest, (pending, (demand, (waiters, (stops, (m, tt)))))))))))))) (
+        slice-vals row,
+        (
+          vals e,
+          (
+            slice-vals s,
+            (
+              LL.vals M-Counts.the-type M-Counts-laws.the-laws c,
+              (
+                vint w32 limit ∷ [],
+                (
+                  slice-vals ids,
+                  (
+                    slice-vals xs,
+                    (
+                      slice-vals acar,
+                      (
+                        slice-vals adest,
+                        (
+                          vint w64 pending ∷ [],
+                          (
+                            vint w64 demand ∷ [],
+                            (
+                              arrayVal (map (λ x. LL.val M-Waiters.the-type M-Waiters-laws.the-laws x) waiters) ∷ [],
+                              (slice-vals stops, (vint w64 m ∷ [], tt)),
+                            ),
+                          ),
+                        ),
+                      ),
+                    ),
+                  ),
+                ),
+              ),
+            ),
+          ),
+        ),
+      )) (Callee 𝓤 H A mem run .pre (to))
   asked h = qed W ((‵ (flft κr qr) ⊛ ‵ (flft κ1 q1) ⊛ ‵ ftrue) ∷ ‵ (owns (MutSlice (named 0) κr u64 ∷ T.the-row ∷ ShrSlice (named 1) κ1 u8 ∷ M-Counts.the-row ∷ u32 ∷ ShrSlice (named 1) κ1 u32 ∷ ShrSlice (named 1) κ1 f64 ∷ ShrSlice (named 1) κ1 u32 ∷ ShrSlice (named 1) κ1 u32 ∷ u64 ∷ u64 ∷ (Array M-Waiters.the-row 64) ∷ ShrSlice (named 1) κ1 usize ∷ usize ∷ []) (row, (e, (s, (c, (limit, (ids, (xs, (acar, (adest, (pending, (demand, (waiters, (stops, (m, tt)))))))))))))) (slice-vals row, (vals e, (slice-vals s, (LL.vals M-Counts.the-type M-Counts-laws.the-laws c, (vint w32 limit ∷ [], (slice-vals ids, (slice-vals xs, (slice-vals acar, (slice-vals adest, (vint w64 pending ∷ [], (vint w64 demand ∷ [], (arrayVal (map (λ x. LL.val M-Waiters.the-type M-Waiters-laws.the-laws x) waiters) ∷ [], (slice-vals stops, (vint w64 m ∷ [], tt))))))))))))))) ∷ []) ∵ says ! h $ frame ! $ done !
 
-  exits : (r : ℕ) (u : Val) (zs : List ℕ) → Said r zs → length zs ≡ length (now row) → ent 𝓤 (⋆ 𝓤 H A (‵ (flft κ q) ∷ (‵ (flft κr qr) ⊛ ‵ (flft κ1 q1) ⊛ ‵ ftrue) ∷ ‵ (finally u64 (row .name) zs) ∷ ‵ (usize .own r (u ∷ [])) ∷ [])) (Post u)
+  exits : (r : ℕ) (u : Val) (zs : List ℕ) → Said r zs → length zs ≡ length (now row)
+      → ent 𝓤 (⋆ 𝓤 H A (‵ (flft κ q) ∷ (‵ (flft κr qr) ⊛ ‵ (flft κ1 q1) ⊛ ‵ ftrue) ∷ ‵ (finally u64 (row .name) zs) ∷
+      ‵ (usize .own r (u ∷ [])) ∷ [])) (Post u)
   exits r u zs is l =
       qed W (‵ (flft κ q) ∷ (‵ (flft κr qr) ⊛ ‵ (flft κ1 q1) ⊛ ‵ ftrue) ∷ ‵ (finally u64 (row .name) zs) ∷ ‵ (usize .own r (u ∷ [])) ∷ []) ∵
       suffices ! _ (ends-at 𝓤 H A fill-car-of.ended stayed (fill-car-of.clauses 𝓤 H A mem run) W bound u r (tt, (tt, (zs, (tt, (tt, (tt, (tt, (tt, (tt, (tt, (tt, (tt, (tt, (tt, (tt, tt))))))))))))))) (tt, (tt, (l, (tt, (tt, (tt, (tt, (tt, (tt, (tt, (tt, (tt, (tt, (tt, (tt, tt)))))))))))))))) $ says ! is $
       join ! $ frame ! $ nothing ! $ nothing ! $ fjoin ! $ nothing ! $ fjoin ! $ nothing ! $ fjoin ! $ nothing ! $ fjoin ! $ nothing ! $ fjoin ! $ nothing ! $ fjoin ! $ nothing ! $ fjoin ! $ nothing ! $ fjoin ! $ nothing ! $ fjoin ! $ nothing ! $ fjoin ! $ nothing ! $ fjoin ! $ nothing ! $ fjoin ! $ move ! (1 ∷ 0 ∷ []) $ fjoin ! $ nothing ! $ fjoin ! $ nothing ! $ fjoin ! $ frame ! $ done !
 
   module _ (C : Calls 𝓤 H) (Λ : Loops 𝓤 H) (fm : FmC 𝓤 H (W .laws) C) (known : Triple 𝓤 (C #rows·fill-car) (Callee 𝓤 H A mem run)) where
-    walk : Room T.the-row (length (now cars)) → i < 2 ^ 64 → Room u64 (length (now row)) → Is (ShrSlice (named 2) κ1 u8) s (slice-vals s) → Is (M-Counts.the-row) c (LL.vals M-Counts.the-type M-Counts-laws.the-laws c) → Is (u32) limit (vint w32 limit ∷ []) → Is (ShrSlice (named 2) κ1 u32) ids (slice-vals ids) → Is (ShrSlice (named 2) κ1 f64) xs (slice-vals xs) → Is (ShrSlice (named 2) κ1 u32) acar (slice-vals acar) → Is (ShrSlice (named 2) κ1 u32) adest (slice-vals adest) → Is (u64) pending (vint w64 pending ∷ []) → Is (u64) demand (vint w64 demand ∷ []) → Is ((Array M-Waiters.the-row 64)) waiters (arrayVal (map (λ x. LL.val M-Waiters.the-type M-Waiters-laws.the-laws x) waiters) ∷ []) → Is (ShrSlice (named 2) κ1 usize) stops (slice-vals stops) → Is (usize) m (vint w64 m ∷ []) → i * 120 < 2 ^ 64 → (i < length (now cars)) × CarNeeds (now s) c (now ids) (now xs) (now acar) (now adest) pending demand waiters (now stops) m (length (now row))
+    walk : Room T.the-row (length (now cars)) → i < 2 ^ 64 → Room u64 (length (now row)) → Is (ShrSlice (named 2) κ1 u8) s (slice-vals s)
+        → Is (M-Counts.the-row) c (LL.vals M-Counts.the-type M-Counts-laws.the-laws c) → Is (u32) limit (vint w32 limit ∷ [])
+        → Is (ShrSlice (named 2) κ1 u32) ids (slice-vals ids) → Is (ShrSlice (named 2) κ1 f64) xs (slice-vals xs)
+        → Is (ShrSlice (named 2) κ1 u32) acar (slice-vals acar) → Is (ShrSlice (named 2) κ1 u32) adest (slice-vals adest)
+        → Is (u64) pending (vint w64 pending ∷ []) → Is (u64) demand (vint w64 demand ∷ [])
+        → Is ((Array M-Waiters.the-row 64)) waiters (arrayVal (map (λ x. LL.val M-Waiters.the-type M-Waiters-laws.the-laws x) waiters) ∷ [])
+        → Is (ShrSlice (named 2) κ1 usize) stops (slice-vals stops) → Is (usize) m (vint w64 m ∷ []) → i * 120 < 2 ^ 64
+        → (i < length (now cars)) × CarNeeds (now s) c (now ids) (now xs) (now acar) (now adest) pending demand waiters (now stops) m
+        (length (now row))
         → ent 𝓤 (onEntry 𝓤 H A fill-car-of.signature (bound .0 .0) (bound .0 .1) (bound .0 .3) (bound .0 .4)) (WpFn 𝓤 H C Λ code.function (sliceVal (cars .ptr) (length (now cars)) ∷ vint w64 i ∷ sliceVal (row .ptr) (length (now row)) ∷ sliceVal (s .ptr) (length (now s)) ∷ LL.val M-Counts.the-type M-Counts-laws.the-laws c ∷ vint w32 limit ∷ sliceVal (ids .ptr) (length (now ids)) ∷ sliceVal (xs .ptr) (length (now xs)) ∷ sliceVal (acar .ptr) (length (now acar)) ∷ sliceVal (adest .ptr) (length (now adest)) ∷ vint w64 pending ∷ vint w64 demand ∷ arrayVal (map (λ x. LL.val M-Waiters.the-type M-Waiters-laws.the-laws x) waiters) ∷ sliceVal (stops .ptr) (length (now stops)) ∷ vint w64 m ∷ []) Post)
     walk gc gi gr g-s g-c g-limit g-ids g-xs g-acar g-adest g-pending g-demand g-waiters g-stops g-m gmul pre =
         qed W ((‵ (flft κ q) ⊛ ‵ (flft κr qr) ⊛ ‵ (flft κ1 q1) ⊛ ‵ ftrue) ∷ ‵ (owns (ShrSlice (named 0) κ T.the-row ∷ usize ∷ MutSlice (named 1) κr u64 ∷ ShrSlice (named 2) κ1 u8 ∷ M-Counts.the-row ∷ u32 ∷ ShrSlice (named 2) κ1 u32 ∷ ShrSlice (named 2) κ1 f64 ∷ ShrSlice (named 2) κ1 u32 ∷ ShrSlice (named 2) κ1 u32 ∷ u64 ∷ u64 ∷ (Array M-Waiters.the-row 64) ∷ ShrSlice (named 2) κ1 usize ∷ usize ∷ []) (bound .0 .3) (bound .0 .4)) ∷ []) ∵
@@ -158,7 +208,8 @@ module _ {M : Type 1} (𝓤 : URA M) (H : Heap 𝓤) (A : Atoms 𝓤) (W : Given
       (λ pre. walk 𝓤 H A W mem run (κs .0) (κs .1 .0) (κs .1 .1 .0) (qs .0) (qs .1 .0) (qs .1 .1 .0) (a .0) (a .1 .0) (a .1 .1 .0) (a .1 .1 .1 .0) (a .1 .1 .1 .1 .0) (a .1 .1 .1 .1 .1 .0) (a .1 .1 .1 .1 .1 .1 .0) (a .1 .1 .1 .1 .1 .1 .1 .0) (a .1 .1 .1 .1 .1 .1 .1 .1 .0) (a .1 .1 .1 .1 .1 .1 .1 .1 .1 .0) (a .1 .1 .1 .1 .1 .1 .1 .1 .1 .1 .0) (a .1 .1 .1 .1 .1 .1 .1 .1 .1 .1 .1 .0) (a .1 .1 .1 .1 .1 .1 .1 .1 .1 .1 .1 .1 .0) (a .1 .1 .1 .1 .1 .1 .1 .1 .1 .1 .1 .1 .1 .0) (a .1 .1 .1 .1 .1 .1 .1 .1 .1 .1 .1 .1 .1 .1 .0) C Λ fm known
       (are .0 .0 .1) (are .1 .0 .1) (are .1 .1 .0 .0 .1) (are .1 .1 .1 .0) (are .1 .1 .1 .1 .0) (are .1 .1 .1 .1 .1 .0) (are .1 .1 .1 .1 .1 .1 .0) (are .1 .1 .1 .1 .1 .1 .1 .0) (are .1 .1 .1 .1 .1 .1 .1 .1 .0) (are .1 .1 .1 .1 .1 .1 .1 .1 .1 .0) (are .1 .1 .1 .1 .1 .1 .1 .1 .1 .1 .0) (are .1 .1 .1 .1 .1 .1 .1 .1 .1 .1 .1 .0) (are .1 .1 .1 .1 .1 .1 .1 .1 .1 .1 .1 .1 .0) (are .1 .1 .1 .1 .1 .1 .1 .1 .1 .1 .1 .1 .1 .0) (are .1 .1 .1 .1 .1 .1 .1 .1 .1 .1 .1 .1 .1 .1 .0) (within (a .1 .0) (length (now (a .0))) (pre .0) (are .0 .0 .1 .1)) pre))
 
-meets : {M : Type 1} (𝓤 : URA M) (H : Heap 𝓤) (A : Atoms 𝓤) (W : Given 𝓤 H A) (mem : Memory → SProp 𝓤) (run : Routine → Fun 𝓤) (𝓣 : Tables 𝓤 H)
+meets : {M : Type 1} (𝓤 : URA M) (H : Heap 𝓤) (A : Atoms 𝓤) (W : Given 𝓤 H A) (mem : Memory → SProp 𝓤) (run : Routine
+    → Fun 𝓤) (𝓣 : Tables 𝓤 H)
     → Triple 𝓤 (𝓣 .C #rows·fill-car) (Callee 𝓤 H A mem run) → Meets 𝓤 H A fill-car-of.signature (WpFn 𝓤 H (𝓣 .C) (𝓣 .Λ) code.function) (fill-car-of.spec 𝓤 H A mem run)
 meets 𝓤 H A W mem run 𝓣 known = walk-meets 𝓤 H A fill-car-of.ended stayed W
     (goes-dropped 𝓤 H A W 3 (shrSliceOf (0 ∷ []) tt (plain (λ _. T.the-row))) yes (λ κs x f. refl), (goes-dropped 𝓤 H A W 3 (plain (λ _. usize)) yes (λ κs x f. refl), (goes-gave-slice 𝓤 H A W 3 1 tt (plain (λ _. u64)), (goes-dropped 𝓤 H A W 3 (shrSliceOf (2 ∷ []) tt (plain (λ _. u8))) yes (λ κs x f. refl), (goes-dropped 𝓤 H A W 3 (plain (λ _. M-Counts.the-row)) yes (λ κs x f. refl), (goes-dropped 𝓤 H A W 3 (plain (λ _. u32)) yes (λ κs x f. refl), (goes-dropped 𝓤 H A W 3 (shrSliceOf (2 ∷ []) tt (plain (λ _. u32))) yes (λ κs x f. refl), (goes-dropped 𝓤 H A W 3 (shrSliceOf (2 ∷ []) tt (plain (λ _. f64))) yes (λ κs x f. refl), (goes-dropped 𝓤 H A W 3 (shrSliceOf (2 ∷ []) tt (plain (λ _. u32))) yes (λ κs x f. refl), (goes-dropped 𝓤 H A W 3 (shrSliceOf (2 ∷ []) tt (plain (λ _. u32))) yes (λ κs x f. refl), (goes-dropped 𝓤 H A W 3 (plain (λ _. u64)) yes (λ κs x f. refl), (goes-dropped 𝓤 H A W 3 (plain (λ _. u64)) yes (λ κs x f. refl), (goes-dropped 𝓤 H A W 3 (arrayOf (plain (λ _. M-Waiters.the-row)) 64) yes (λ κs x f. refl), (goes-dropped 𝓤 H A W 3 (shrSliceOf (2 ∷ []) tt (plain (λ _. usize))) yes (λ κs x f. refl), (goes-dropped 𝓤 H A W 3 (plain (λ _. usize)) yes (λ κs x f. refl), tt)))))))))))))))

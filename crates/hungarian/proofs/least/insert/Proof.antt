@@ -9,7 +9,8 @@ use mathlib.Core.Path.{_≡_, refl, sym, _∙_}
 use mathlib.Core.List.{List}
 use lib.ListN.{length-set, set}
 use Rattle.alternating_tree.specs.Lists.{at, at-same, at-other}
-use Rattle.alternating_tree.specs.State.{Sizes, Scratch, GrowingAt, unseen, unseen-less, unseen-most, f-unseen, u-low, w-low, co-low, d-low, grown, join-under, joined, inside-free, going, ended}
+use Rattle.alternating_tree.specs.State.{Sizes, Scratch, GrowingAt, unseen, unseen-less, unseen-most, f-unseen, u-low, w-low, co-low, d-low, grown}
+use Rattle.alternating_tree.specs.State.{join-under, joined, inside-free, going, ended}
 
 abbrev Inv-loop : tie.InvT-loop
 Inv-loop cells n cols i u₀ w₀ row-of₀ col-of₀ dist₀ from₀ seen₀ f t₀ u w row-of col-of dist from seen t =

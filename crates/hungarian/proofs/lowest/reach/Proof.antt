@@ -13,7 +13,9 @@ Inv-loop cells n cols i u w row-of j k seen₀ from₀ queue₀ len end₀ h₀ 
 abbrev μ-loop : tie.MeasureT-loop
 μ-loop cells n cols i u w row-of j k seen₀ from₀ queue₀ len end₀ h₀ seen from queue end h = cols - h
 
-more-of : (a : tie.At-loop Inv-loop μ-loop) → (z : ℕ) → 0 < at (a .before .before .before .before .before .before .before .before .before .before .before .before .before .before .before .before .before .before .args .seen .now) z → 0 < at (a .before .before .before .before .before .before .before .visit .last .1 .1 .1 .1 .1 .1 .1 .1 .1 .1 .0) z
+more-of : (a : tie.At-loop Inv-loop μ-loop) → (z : ℕ) → 0 < at (a .before .before .before .before .before .before .before .before .before
+    .before .before .before .before .before .before .before .before .before .args .seen .now) z
+    → 0 < at (a .before .before .before .before .before .before .before .visit .last .1 .1 .1 .1 .1 .1 .1 .1 .1 .1 .0) z
 more-of a = let s = a .before .before .before .before .before .before .before .before .before .before .before .before .before .before .before .before .before .before in reach-more (s .pre .0 .0) (s .pre .0 .1) (s .pre .1) (a .before .before .before .before .before .before .before .visit .ensures)
 
 visit-requires : tie.Need-visit-requires Inv-loop μ-loop
