@@ -9,6 +9,7 @@ ghost use Prim.Native.Nat.{_+_, _≤_, _<_, _*_, max};
 ghost use lib.ListN.{length};
 ghost use Rattle.stored_passes.specs.Cases.{apart, differing, Inside, Placed, partsOf, caseOf, caseDiffers};
 ghost use Rattle.stored_passes.specs.Passes.{passDiffers};
+ghost use Rattle.stored_passes.specs.Tallies.{metOf, talliedOf, caseTally, passTally};
 
 // Where the parts of a case lie: the sheet's end, the decisions, the cells, the sweeps and the next case, by byte; and how many idle cars, cells and
 // car records are stored.
@@ -102,7 +103,7 @@ pub fn case_at(s: &[u8], at: usize) -> Place
 // One entry more.
 fn met(t: Tally, kind: u8, index: usize, ours: u64, theirs: u64) -> Tally
     requires { ⌜ t .differ < 1000000 ⌝ }
-    ensures { λ r. ⌜ r .differ ≡ t .differ + apart ours theirs ⌝ }
+    ensures { λ r. ⌜ (r ≡ metOf t kind index ours theirs) × (r .differ ≡ t .differ + apart ours theirs) ⌝ }
 {
     if ours == theirs {
         return t;
@@ -139,7 +140,8 @@ fn wide8(x: u8) -> u64
 
 fn decisions_met<'a>(s: &'a [u8], at: usize, ours: &'a [u32], n: usize, t: Tally) -> Tally
     requires { ⌜ (at + 4 * n ≤ length (now s)) × (n ≤ length (now ours)) × (n ≤ 2048) × (t .differ ≤ 9000) ⌝ }
-    ensures { λ r. ⌜ r .differ ≡ t .differ + differing (now (s .entry)) at 4 (now (ours .entry)) n ⌝ }
+    ensures { λ r. ⌜ (r ≡ talliedOf (now (s .entry)) at 4 3 (now (ours .entry)) t n)
+        × (r .differ ≡ t .differ + differing (now (s .entry)) at 4 (now (ours .entry)) n) ⌝ }
 {
     let mut d = t;
     let mut k: usize = 0;
@@ -152,7 +154,8 @@ fn decisions_met<'a>(s: &'a [u8], at: usize, ours: &'a [u32], n: usize, t: Tally
 
 fn cells_met<'a>(s: &'a [u8], at: usize, ours: &'a [u64], n: usize, t: Tally) -> Tally
     requires { ⌜ (at + 8 * n ≤ length (now s)) × (n ≤ length (now ours)) × (n ≤ 2048) × (t .differ ≤ 9000) ⌝ }
-    ensures { λ r. ⌜ r .differ ≡ t .differ + differing (now (s .entry)) at 8 (now (ours .entry)) n ⌝ }
+    ensures { λ r. ⌜ (r ≡ talliedOf (now (s .entry)) at 8 4 (now (ours .entry)) t n)
+        × (r .differ ≡ t .differ + differing (now (s .entry)) at 8 (now (ours .entry)) n) ⌝ }
 {
     let mut d = t;
     let mut k: usize = 0;
@@ -165,7 +168,8 @@ fn cells_met<'a>(s: &'a [u8], at: usize, ours: &'a [u64], n: usize, t: Tally) ->
 
 fn sweeps_met<'a>(s: &'a [u8], at: usize, ours: &'a [u8], n: usize, t: Tally) -> Tally
     requires { ⌜ (at + 1 * n ≤ length (now s)) × (n ≤ length (now ours)) × (n ≤ 2048) × (t .differ ≤ 9000) ⌝ }
-    ensures { λ r. ⌜ r .differ ≡ t .differ + differing (now (s .entry)) at 1 (now (ours .entry)) n ⌝ }
+    ensures { λ r. ⌜ (r ≡ talliedOf (now (s .entry)) at 1 5 (now (ours .entry)) t n)
+        × (r .differ ≡ t .differ + differing (now (s .entry)) at 1 (now (ours .entry)) n) ⌝ }
 {
     let mut d = t;
     let mut k: usize = 0;
@@ -188,7 +192,8 @@ fn compared<'a>(
     sweeps: &'a [u8],
 ) -> Tally
     requires { ⌜ Inside (now s) p × (length (now decisions) ≡ 32) × (length (now matrix) ≡ 2048) × (length (now sweeps) ≡ 32) ⌝ }
-    ensures { λ r. ⌜ r .differ ≡ caseDiffers (now (s .entry)) p cars stops total (now (decisions .entry)) (now (matrix .entry))
+    ensures tally { λ r. ⌜ r ≡ caseTally (now (s .entry)) p cars stops total (now (decisions .entry)) (now (matrix .entry)) (now (sweeps .entry)) ⌝ }
+    ensures differ { λ r. ⌜ r .differ ≡ caseDiffers (now (s .entry)) p cars stops total (now (decisions .entry)) (now (matrix .entry))
         (now (sweeps .entry)) ⌝ }
 {
     let none = Tally {
@@ -216,7 +221,8 @@ pub fn answered<'a>(
     sweeps: &'a [u8],
 ) -> Tally
     requires { ⌜ Inside (now s) p × (length (now decisions) ≡ 32) × (length (now matrix) ≡ 2048) × (length (now sweeps) ≡ 32) ⌝ }
-    ensures { λ r. ⌜ r .differ ≡ passDiffers (now (s .entry)) p answer (now (decisions .entry)) (now (matrix .entry)) (now (sweeps .entry)) ⌝ }
+    ensures tally { λ r. ⌜ r ≡ passTally (now (s .entry)) p answer (now (decisions .entry)) (now (matrix .entry)) (now (sweeps .entry)) ⌝ }
+    ensures differ { λ r. ⌜ r .differ ≡ passDiffers (now (s .entry)) p answer (now (decisions .entry)) (now (matrix .entry)) (now (sweeps .entry)) ⌝ }
 {
     match answer {
         Answer::Refused { number, offset: _ } => Tally {

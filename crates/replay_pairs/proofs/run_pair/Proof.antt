@@ -14,9 +14,9 @@ returns c =
     let a = c .before .before .before .before .before .before .before .before .before .before .before .before .before .before .before .before .before .before .before .before .before .before .before .before .before .before .before .args in
     let two = c .before .before .before .before .before .before .before .before .before .before .before .before .before .before .before .before .pass-two .ensures in
     let s = a .s .now in (
-      differs-at s (a .at) (a .p) (two .0) (c .before .before .before .before .before .before .answered .ensures),
+      differs-at s (a .at) (a .p) (two .0) (c .before .before .before .before .before .before .answered .ensures .1),
       (
-        differs-at s (a .p .next) (a .q) (two .1 .0) (c .before .before .answered2 .ensures),
+        differs-at s (a .p .next) (a .q) (two .1 .0) (c .before .before .answered2 .ensures .1),
         ap₂ ltb (c .before .total .ensures ∙ total-at s (a .p .next) (a .q) (two .1 .0)) (c .total2 .ensures ∙ total-at s (a .at) (a .p) (two .0)),
       ),
     )

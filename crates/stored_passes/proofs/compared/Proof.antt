@@ -1,5 +1,6 @@
 -- stored_passes::compared meets its contract.
 use Rattle.stored_passes.specs.Cases.{apart-le, differing-le, differs-is, head-inside}
+use Rattle.stored_passes.specs.Tallies.{tally-is}
 use borrow.Author.Needs.{needs}
 use native.Mathlib.Omega.{arith}
 use Rattle.stored_passes.proofs.compared.Statement.{statement}
@@ -15,7 +16,7 @@ number-requires-2 : tie.Need-number-requires-2
 number-requires-2 c κs = let h = head-inside (c .before .before .before .before .before .before .before .args .s .now) (c .before .before .before .before .before .before .before .args .p) (c .before .before .before .before .before .before .before .pre .0) in (omega arith, omega (arith, h))
 
 met-requires-2 : tie.Need-met-requires-2
-met-requires-2 c κs = let a = c .before .before .before .before .before .before .before .before .args in omega (arith, c .before .before .met .ensures, apart-le (a .cars) (c .before .before .before .number .result))
+met-requires-2 c κs = let a = c .before .before .before .before .before .before .before .before .args in omega (arith, c .before .before .met .ensures .1, apart-le (a .cars) (c .before .before .before .number .result))
 
 add-number-2 : tie.Need-add-number-2
 add-number-2 c = let good = c .before .before .before .before .before .before .before .before .before .before .good in let h = head-inside (c .before .before .before .before .before .before .before .before .before .before .args .s .now) (c .before .before .before .before .before .before .before .before .before .before .args .p) (c .before .before .before .before .before .before .before .before .before .before .pre .0) in omega (arith, h)
@@ -24,33 +25,35 @@ number-requires-3 : tie.Need-number-requires-3
 number-requires-3 c κs = let h = head-inside (c .before .before .before .before .before .before .before .before .before .before .args .s .now) (c .before .before .before .before .before .before .before .before .before .before .args .p) (c .before .before .before .before .before .before .before .before .before .before .pre .0) in (omega arith, omega (arith, h))
 
 met-requires-3 : tie.Need-met-requires-3
-met-requires-3 c κs = let a = c .before .before .before .before .before .before .before .before .before .before .before .args in omega (arith, c .before .before .before .before .before .met .ensures, apart-le (a .cars) (c .before .before .before .before .before .before .number .result), c .before .before .met2 .ensures, apart-le (a .stops) (c .before .before .before .number2 .result))
+met-requires-3 c κs = let a = c .before .before .before .before .before .before .before .before .before .before .before .args in omega (arith, c .before .before .before .before .before .met .ensures .1, apart-le (a .cars) (c .before .before .before .before .before .before .number .result), c .before .before .met2 .ensures .1, apart-le (a .stops) (c .before .before .before .number2 .result))
 
 decisions-met-requires : tie.Need-decisions-met-requires
 decisions-met-requires c κs =
     let a = c .before .before .before .before .before .before .before .before .before .before .before .before .args in
     let p = c .before .before .before .before .before .before .before .before .before .before .before .before .pre in
     let i = p .0 in
-    (omega (arith, i .decisions-from, i .cells-from, i .sweeps-from, i .ends, i .inside), omega (arith, i .few-cars, p .1), omega (arith, i .few-cars), omega (arith, c .before .before .before .before .before .before .met .ensures, apart-le (a .cars) (c .before .before .before .before .before .before .before .number .result), c .before .before .before .met2 .ensures, apart-le (a .stops) (c .before .before .before .before .number2 .result), c .met3 .ensures, apart-le (a .total) (c .before .number3 .result)))
+    (omega (arith, i .decisions-from, i .cells-from, i .sweeps-from, i .ends, i .inside), omega (arith, i .few-cars, p .1), omega (arith, i .few-cars), omega (arith, c .before .before .before .before .before .before .met .ensures .1, apart-le (a .cars) (c .before .before .before .before .before .before .before .number .result), c .before .before .before .met2 .ensures .1, apart-le (a .stops) (c .before .before .before .before .number2 .result), c .met3 .ensures .1, apart-le (a .total) (c .before .number3 .result)))
 
 cells-met-requires : tie.Need-cells-met-requires
 cells-met-requires c κs =
     let a = c .before .before .before .before .before .before .before .before .before .before .before .before .before .args in
     let p = c .before .before .before .before .before .before .before .before .before .before .before .before .before .pre in
     let i = p .0 in
-    (omega (arith, i .sweeps-from, i .ends, i .inside), omega (arith, i .few-cells, p .2), i .few-cells, omega (arith, i .few-cars, c .before .before .before .before .before .before .before .met .ensures, apart-le (a .cars) (c .before .before .before .before .before .before .before .before .number .result), c .before .before .before .before .met2 .ensures, apart-le (a .stops) (c .before .before .before .before .before .number2 .result), c .before .met3 .ensures, apart-le (a .total) (c .before .before .number3 .result), c .decisions-met .ensures, differing-le (a .s .now) (a .p .decisions) 4 (a .decisions .now) (a .p .cars)))
+    (omega (arith, i .sweeps-from, i .ends, i .inside), omega (arith, i .few-cells, p .2), i .few-cells, omega (arith, i .few-cars, c .before .before .before .before .before .before .before .met .ensures .1, apart-le (a .cars) (c .before .before .before .before .before .before .before .before .number .result), c .before .before .before .before .met2 .ensures .1, apart-le (a .stops) (c .before .before .before .before .before .number2 .result), c .before .met3 .ensures .1, apart-le (a .total) (c .before .before .number3 .result), c .decisions-met .ensures .1, differing-le (a .s .now) (a .p .decisions) 4 (a .decisions .now) (a .p .cars)))
 
 sweeps-met-requires : tie.Need-sweeps-met-requires
 sweeps-met-requires c κs =
     let a = c .before .before .before .before .before .before .before .before .before .before .before .before .before .before .args in
     let p = c .before .before .before .before .before .before .before .before .before .before .before .before .before .before .pre in
     let i = p .0 in
-    (omega (arith, i .ends, i .inside), omega (arith, i .few-records, p .3), omega (arith, i .few-records), omega (arith, i .few-cars, i .few-cells, c .before .before .before .before .before .before .before .before .met .ensures, apart-le (a .cars) (c .before .before .before .before .before .before .before .before .before .number .result), c .before .before .before .before .before .met2 .ensures, apart-le (a .stops) (c .before .before .before .before .before .before .number2 .result), c .before .before .met3 .ensures, apart-le (a .total) (c .before .before .before .number3 .result), c .before .decisions-met .ensures, differing-le (a .s .now) (a .p .decisions) 4 (a .decisions .now) (a .p .cars), c .cells-met .ensures, differing-le (a .s .now) (a .p .cells) 8 (a .matrix .now) (a .p .size)))
+    (omega (arith, i .ends, i .inside), omega (arith, i .few-records, p .3), omega (arith, i .few-records), omega (arith, i .few-cars, i .few-cells, c .before .before .before .before .before .before .before .before .met .ensures .1, apart-le (a .cars) (c .before .before .before .before .before .before .before .before .before .number .result), c .before .before .before .before .before .met2 .ensures .1, apart-le (a .stops) (c .before .before .before .before .before .before .number2 .result), c .before .before .met3 .ensures .1, apart-le (a .total) (c .before .before .before .number3 .result), c .before .decisions-met .ensures .1, differing-le (a .s .now) (a .p .decisions) 4 (a .decisions .now) (a .p .cars), c .cells-met .ensures .1, differing-le (a .s .now) (a .p .cells) 8 (a .matrix .now) (a .p .size)))
 
 returns : tie.Need-returns
 returns c =
-    let a = c .before .before .before .before .before .before .before .before .before .before .before .before .before .before .before .args in
-    differs-is (a .s .now) (a .p) (a .cars) (a .stops) (a .total) (a .decisions .now) (a .matrix .now) (a .sweeps .now) (c .before .before .before .before .before .before .before .before .before .before .number .ensures .0) (c .before .before .before .before .before .before .before .number2 .ensures .0) (c .before .before .before .before .number3 .ensures .0) (c .before .before .before .before .before .before .before .before .before .met .ensures) (c .before .before .before .before .before .before .met2 .ensures) (c .before .before .before .met3 .ensures) (c .before .before .decisions-met .ensures) (c .before .cells-met .ensures) (c .sweeps-met .ensures)
+    let a = c .before .before .before .before .before .before .before .before .before .before .before .before .before .before .before .args in (
+      tally-is (a .s .now) (a .p) (a .cars) (a .stops) (a .total) (a .decisions .now) (a .matrix .now) (a .sweeps .now) (c .before .before .before .before .before .before .before .before .before .before .number .ensures .0) (c .before .before .before .before .before .before .before .number2 .ensures .0) (c .before .before .before .before .number3 .ensures .0) (c .before .before .before .before .before .before .before .before .before .met .ensures .0) (c .before .before .before .before .before .before .met2 .ensures .0) (c .before .before .before .met3 .ensures .0) (c .before .before .decisions-met .ensures .0) (c .before .cells-met .ensures .0) (c .sweeps-met .ensures .0),
+      differs-is (a .s .now) (a .p) (a .cars) (a .stops) (a .total) (a .decisions .now) (a .matrix .now) (a .sweeps .now) (c .before .before .before .before .before .before .before .before .before .before .number .ensures .0) (c .before .before .before .before .before .before .before .number2 .ensures .0) (c .before .before .before .before .number3 .ensures .0) (c .before .before .before .before .before .before .before .before .before .met .ensures .1) (c .before .before .before .before .before .before .met2 .ensures .1) (c .before .before .before .met3 .ensures .1) (c .before .before .decisions-met .ensures .1) (c .before .cells-met .ensures .1) (c .sweeps-met .ensures .1),
+    )
 
 pub compared-spec : {M : Type 1} → statement M
 compared-spec =
