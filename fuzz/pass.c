@@ -161,10 +161,10 @@ struct pending {
 
 static void ask_pending(struct pending *p, const uint8_t *data, size_t size, size_t length, int at_end, uint8_t pattern) {
     struct lengths none = {0, 0, 0};
-    uint64_t *w = words();
     memset(p, 0, sizeof *p);
     lend(data, size, none, at_end, pattern);
     guarded_lend(&places, 4 * length, at_end, pattern);
+    uint64_t *w = words();
     p->number = dispatch_bench_pending(sheet.at, sheet.length, (uint32_t *)(void *)places.at, length, &w[STOPS], &w[OFFSET]);
     check_sheet(data, size);
     if (p->number != 0) {
@@ -187,7 +187,7 @@ static void run_pending(struct pending *p, const struct answer *read, const uint
     ask_pending(&again, data, size, DISPATCH_BENCH_STOPS + by % MORE, 0, 0x3c);
     require(memcmp(p, &again, sizeof again) == 0, "what the places hold and where they are changes no pending stop");
     require(p->number == read->number, "the pending stops and the reader answer the same number");
-    require(p->number == 0 || p->offset == read->value[OFFSET], "the pending stops and the reader give the same bit");
+    require(p->number == 0 || p->offset == read->value[OFFSET], "the pending stops and the reader give the same offset");
     ask_pending(&again, data, size, DISPATCH_BENCH_STOPS - 1, 1, 0x96);
     require(again.number == 1 && again.offset == 0, "63 places are refusal 1 at 0");
     ask_pending(&again, data, size, by % DISPATCH_BENCH_STOPS, 1, 0x96);
@@ -356,13 +356,13 @@ int LLVMFuzzerTestOneInput(const uint8_t *data, size_t size) {
     run_pass(&second, &facts, data, size, more, 0, 0x5a);
     require(memcmp(&first, &second, sizeof first) == 0, "what the buffers hold and where they are changes no answer");
     require(first.number == read.number, "the pass and the reader answer the same number");
+    require(first.number == 0 || first.value[OFFSET] == read.value[OFFSET], "the pass and the reader give the same offset");
     check_short(data, size, h);
     run_pending(&pending, &read, data, size, h);
     if (h % 8 == 0) {
         check_long(data, size, h / 8);
     }
     if (first.number != 0) {
-        require(first.value[OFFSET] == read.value[OFFSET], "the pass and the reader give the same offset");
         refusals[first.number]++;
         tell_refusal(&first, data, size);
         return 0;

@@ -174,7 +174,7 @@ fn pending_stops_are_the_columns() {
             }
         }
     }
-    assert!(sent > 100, "{sent} cars are sent");
+    assert!(sent > 80, "{sent} cars are sent");
 }
 
 #[test]
