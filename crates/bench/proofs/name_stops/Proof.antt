@@ -27,10 +27,10 @@ shared-slice-read-j : tie.Need-shared-slice-read-j Inv-loop μ-loop
 shared-slice-read-j c = omega (arith, c .before .before .before .pre .0, c .before .before .before .pre .2, c .before .loop-test .taken)
 
 mul-stops : tie.Need-mul-stops Inv-loop μ-loop
-mul-stops c = omega (arith, c .before .before .before .pre .3 (c .before .before .loop .k) (c .before .loop-test .taken))
+mul-stops c = omega (arith, c .before .before .before .pre .2, c .before .before .before .pre .3 (c .before .before .loop .k) (c .before .loop-test .taken), c .before .loop-test .taken)
 
 shared-slice-read-stops : tie.Need-shared-slice-read-stops Inv-loop μ-loop
-shared-slice-read-stops c = omega (arith, c .before .before .before .before .pre .1, c .before .before .before .before .pre .3 (c .before .before .before .loop .k) (c .before .before .loop-test .taken))
+shared-slice-read-stops c = omega (arith, c .before .before .before .before .pre .1, c .before .before .before .before .pre .2, c .before .before .before .before .pre .3 (c .before .before .before .loop .k) (c .before .before .loop-test .taken), c .before .before .loop-test .taken)
 
 mul-stops-2 : tie.Need-mul-stops-2 Inv-loop μ-loop
 mul-stops-2 c = omega (arith, c .before .before .before .before .pre .2, c .before .before .loop-test .taken)
