@@ -1,6 +1,6 @@
 -- The pending stops for a host: what is answered and left, of the bytes of a sheet and of what the lent places held. One definition. Assumes nothing.
 use Prim.Native.Nat.{ℕ, _≤_, _<_}
-use mathlib.Core.Path.{_≡_, refl, sym, ap, ap₂, _∙_}
+use mathlib.Core.Path.{_≡_, sym, ap, _∙_}
 use mathlib.Core.Bool.{Bool, true, false, cond}
 use mathlib.Core.List.{List, _++_}
 use native.Mathlib.Omega.{arith}
@@ -23,7 +23,7 @@ use Rattle.bench.specs.Passing.{Masks}
 use Rattle.bench.specs.declared.PendingIds.{PendingIds}
 use Rattle.bench.specs.declared.PendingIds.the-variants.{Found, Refused}
 
--- refusal 1 of these places: fewer than 64, of which every sheet's stops are at most ("2 stop", "At most" 64)
+-- refusal 1, of these places: fewer than the most stops of a sheet, 64
 unfoldable pub fewPlaces : ℕ → Bool
 fewPlaces places = ltb places 64
 
@@ -31,7 +31,7 @@ fewPlaces places = ltb places 64
 unfoldable pub pendingOutcome : List ℕ → ℕ → Reading
 pendingOutcome bytes places = cond (fewPlaces places) (reading.Refused 1 0) (verdict bytes)
 
--- the id of the stop of each column below m, "Further entries keep their contents."
+-- the id of each pending stop, in column order; "Further entries keep their contents."
 unfoldable pub idsOf : Sheet → List ℕ → List ℕ
 idsOf s entry = tab (λ c. stopId s (columnStop s c)) (pendingStops s) ++ drop (pendingStops s) entry
 
@@ -48,16 +48,17 @@ abbrev pub pendingDoneOf : Reading → List ℕ → List ℕ → PendingDone
 pendingDoneOf (reading.Refused number offset) bytes entry = pendingDone (Refused number offset) entry
 pendingDoneOf (reading.Accepted c) bytes entry = let s = sheetOf bytes c in pendingDone (Found (pendingStops s)) (idsOf s entry)
 
+-- of what is lent
 abbrev pub pendingOf : List ℕ → List ℕ → PendingDone
 pendingOf bytes entry = pendingDoneOf (pendingOutcome bytes (length entry)) bytes entry
 
--- the values of an answer: that of a sheet has number 0
+-- the values of an answer: where the stops are found the number is 0
 
 abbrev pub pendingNumber : PendingIds → ℕ
 pendingNumber (Found count) = 0
 pendingNumber (Refused number offset) = number
 
--- what is written where a value is lent: a refusal leaves the count, an accepted sheet the offset
+-- what is written where a value is lent: a refusal leaves the count, what is found the offset
 
 abbrev pub pendingCount : PendingIds → ℕ → ℕ
 pendingCount (Found count) entry = count

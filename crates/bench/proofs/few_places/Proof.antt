@@ -1,6 +1,6 @@
 -- bench::few_places meets its contract.
 use Rattle.bench.specs.PendingStops.{fewPlaces}
-use mathlib.Core.Path.{_≡_, refl}
+use mathlib.Core.Path.{refl}
 use Rattle.bench.proofs.few_places.Statement.{statement}
 use Rattle.bench.proofs.few_places.Tie as tie
 

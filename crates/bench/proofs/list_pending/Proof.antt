@@ -1,11 +1,11 @@
 -- bench::list_pending meets its contract.
 use Rattle.bench.specs.declared.PendingIds.the-variants.{Found}
-use Rattle.bench.specs.Passing.{Masks, small-of}
+use Rattle.bench.specs.Passing.{small-of}
 use Rattle.bench.specs.PendingStops.{same-pending, found, most, below, ids-are}
 use Rattle.cells.specs.Survey.{listed-length}
 use Rattle.layout.specs.Records.{sheetOf}
 use borrow.Author.Needs.{needs}
-use mathlib.Core.Path.{_≡_, refl, ap}
+use mathlib.Core.Path.{refl, ap}
 use Rattle.bench.proofs.list_pending.Statement.{statement}
 use Rattle.bench.proofs.list_pending.Tie as tie
 

@@ -1,7 +1,7 @@
 -- bench::pending_ids meets its contract.
 use Rattle.bench.specs.PendingStops.{is-pending, few, enough, at-least}
 use borrow.Author.Needs.{needs}
-use mathlib.Core.Path.{_≡_, refl, sym, _∙_}
+use mathlib.Core.Path.{refl, sym, _∙_}
 use Rattle.bench.proofs.pending_ids.Statement.{statement}
 use Rattle.bench.proofs.pending_ids.Tie as tie
 

@@ -1,9 +1,8 @@
 -- bench::see_stops meets its contract.
 use Rattle.accepted.specs.Accepted.{accepted}
-use Rattle.cells.specs.Begun.{Begun, begun}
+use Rattle.cells.specs.Begun.{begun}
 use Rattle.layout.specs.Records.{sheetOf}
-use borrow.Author.Needs.{needs}
-use mathlib.Core.Path.{_≡_, _∙_}
+use mathlib.Core.Path.{_∙_}
 use Rattle.bench.proofs.see_stops.Statement.{statement}
 use Rattle.bench.proofs.see_stops.Tie as tie
 

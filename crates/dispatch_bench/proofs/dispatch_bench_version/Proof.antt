@@ -1,5 +1,5 @@
 -- dispatch_bench::dispatch_bench_version meets its contract.
-use mathlib.Core.Path.{_≡_, refl}
+use mathlib.Core.Path.{refl}
 use Rattle.dispatch_bench.proofs.dispatch_bench_version.Statement.{statement}
 use Rattle.dispatch_bench.proofs.dispatch_bench_version.Tie as tie
 
