@@ -12,6 +12,8 @@ uint32_t __real_dispatch_bench_pass(const uint8_t *, size_t, uint32_t *, size_t,
                                     uint64_t *, uint64_t *);
 uint32_t __wrap_dispatch_bench_pass(const uint8_t *, size_t, uint32_t *, size_t, uint64_t *, size_t, uint8_t *, size_t, uint64_t *, uint64_t *, uint64_t *,
                                     uint64_t *, uint64_t *);
+uint32_t __real_dispatch_bench_pending(const uint8_t *, size_t, uint32_t *, size_t, uint64_t *, uint64_t *);
+uint32_t __wrap_dispatch_bench_pending(const uint8_t *, size_t, uint32_t *, size_t, uint64_t *, uint64_t *);
 
 static int is(const char *fault) {
     const char *named = getenv("FAULT");
@@ -96,4 +98,64 @@ uint32_t __wrap_dispatch_bench_pass(const uint8_t *sheet, size_t length, uint32_
         ((uint8_t *)(uintptr_t)sheet)[0] ^= 1;
     }
     return is("short_is_2") && number == 1 ? 2 : is("number") && number == 2 ? 3 : number;
+}
+
+#define MOST_PLACES 128
+
+/* The id of a stop record, 0 where there is none. Stop records follow the policy's. */
+static uint32_t stop_at(const uint8_t *sheet, size_t length, size_t place) {
+    uint64_t record = 0;
+    size_t at = 24 + 22 + 468 + place * (22 + 96);
+    for (size_t bit = at; bit < at + 54; bit++) {
+        record = record << 1 | (bit / 8 < length ? sheet[bit / 8] >> (7 - bit % 8) & 1 : 0);
+    }
+    return record >> 48 == 2 ? (uint32_t)record : 0;
+}
+
+/* The last of the pending stops is named as the stop record after it. */
+static void name_next(const uint8_t *sheet, size_t length, uint32_t *last) {
+    size_t place = 0;
+    while (stop_at(sheet, length, place) != *last) {
+        place++;
+    }
+    uint32_t next = stop_at(sheet, length, place + 1);
+    *last = next != 0 ? next : *last;
+}
+
+/* The faults of pending stops that were found; held is what stood in the places. */
+static void spoil_pending(const uint8_t *sheet, size_t length, uint32_t *stops, size_t places, const uint32_t *held, uint64_t *count,
+                          uint64_t *offset) {
+    *offset ^= is("pending_writes_offset");
+    stops[places - 1] ^= is("pending_past") && *count < places;
+    if (*count > 0 && is("pending_other")) {
+        name_next(sheet, length, &stops[*count - 1]);
+    }
+    if (*count > 0 && is("pending_unknown")) {
+        stops[0] = 0;
+    }
+    if (*count > 1 && is("pending_falls")) {
+        uint32_t first = stops[0];
+        stops[0] = stops[1];
+        stops[1] = first;
+    }
+    if (*count > 0 && (is("pending_one_less") || (is("pending_held") && (held[places - 1] & 2) != 0))) {
+        --*count;
+        stops[*count] = held[*count];
+    }
+}
+
+uint32_t __wrap_dispatch_bench_pending(const uint8_t *sheet, size_t length, uint32_t *stops, size_t places, uint64_t *count, uint64_t *offset) {
+    uint32_t held[MOST_PLACES];
+    memcpy(held, stops, sizeof *held * (places < MOST_PLACES ? places : MOST_PLACES));
+    uint32_t number = __real_dispatch_bench_pending(sheet, length, stops, places, count, offset);
+    if (number == 0) {
+        spoil_pending(sheet, length, stops, places, held, count, offset);
+    } else {
+        if (places > 0) {
+            stops[0] ^= is("refusal_writes_place");
+        }
+        *count ^= is("refusal_writes_count");
+        *offset += is("pending_offset") && number == 11;
+    }
+    return is("pending_few") && number == 1 && places == 63 ? 2 : is("pending_number") && number == 9 ? 10 : number;
 }

@@ -1,5 +1,6 @@
-/* Any bytes as a sheet, through the C interface: dispatch_bench_read, dispatch_bench_pass and, on what the pass leaves, dispatch_bench_choose. Every
-   pointer leads to guarded pages. The pass is run twice, with other contents, lengths and places of the buffers; and once with each buffer too short. */
+/* Any bytes as a sheet, through the C interface: dispatch_bench_read, dispatch_bench_pass, dispatch_bench_pending and, on what the pass leaves,
+   dispatch_bench_choose. Every pointer leads to guarded pages. The pass is run twice, with other contents, lengths and places of the buffers; and once
+   with each buffer too short. So are the pending stops asked for. */
 #include <stdio.h>
 #include <stdlib.h>
 #include <string.h>
@@ -16,7 +17,7 @@
 /* The numbers that a pass answers stand between words of the pattern. */
 enum { CARS = 1, STOPS = 3, TOTAL = 5, RANKED = 7, OFFSET = 9, NUMBERS = 11 };
 
-static struct guarded sheet, decisions, matrix, sweeps, numbers, chosen;
+static struct guarded sheet, decisions, matrix, sweeps, numbers, chosen, places;
 
 /* How long the buffers are, in entries. */
 struct lengths {
@@ -61,6 +62,7 @@ static void begin(void) {
         guarded_make(&sweeps, DISPATCH_BENCH_SWEEPS + MORE);
         guarded_make(&numbers, 8 * NUMBERS);
         guarded_make(&chosen, 4 * DISPATCH_BENCH_DECISIONS);
+        guarded_make(&places, 4 * (DISPATCH_BENCH_STOPS + MORE));
         made = 1;
     }
 }
@@ -150,6 +152,57 @@ static void run_pass(struct answer *a, const struct facts *f, const uint8_t *dat
     memcpy(a->sweeps, sweeps.at, f->cars);
 }
 
+/* The pending stops that were answered: the count stands where a pass has its stops. */
+struct pending {
+    uint32_t number;
+    uint64_t count, offset;
+    uint32_t stops[DISPATCH_BENCH_STOPS];
+};
+
+static void ask_pending(struct pending *p, const uint8_t *data, size_t size, size_t length, int at_end, uint8_t pattern) {
+    struct lengths none = {0, 0, 0};
+    memset(p, 0, sizeof *p);
+    lend(data, size, none, at_end, pattern);
+    guarded_lend(&places, 4 * length, at_end, pattern);
+    uint64_t *w = words();
+    p->number = dispatch_bench_pending(sheet.at, sheet.length, (uint32_t *)(void *)places.at, length, &w[STOPS], &w[OFFSET]);
+    check_sheet(data, size);
+    if (p->number != 0) {
+        require(guarded_kept(&places, 0, 0), "a refusal keeps the places");
+        require(guarded_kept(&numbers, 8 * OFFSET, 8 * OFFSET + 8), "a refusal writes no count");
+        p->offset = w[OFFSET];
+        return;
+    }
+    require(guarded_kept(&numbers, 8 * STOPS, 8 * STOPS + 8), "the pending stops keep the offset");
+    p->count = w[STOPS];
+    require(p->count <= DISPATCH_BENCH_STOPS, "there are at most 64 pending stops");
+    require(guarded_kept(&places, 0, 4 * p->count), "further places are kept");
+    memcpy(p->stops, places.at, 4 * p->count);
+}
+
+/* The pending stops of a sheet with that answer of the reader: asked twice, with other contents, lengths and places; and with too few places. */
+static void run_pending(struct pending *p, const struct answer *read, const uint8_t *data, size_t size, unsigned by) {
+    static struct pending again;
+    ask_pending(p, data, size, DISPATCH_BENCH_STOPS, 1, 0x96);
+    ask_pending(&again, data, size, DISPATCH_BENCH_STOPS + by % MORE, 0, 0x3c);
+    require(memcmp(p, &again, sizeof again) == 0, "what the places hold and where they are changes no pending stop");
+    require(p->number == read->number, "the pending stops and the reader answer the same number");
+    require(p->number == 0 || p->offset == read->value[OFFSET], "the pending stops and the reader give the same offset");
+    ask_pending(&again, data, size, DISPATCH_BENCH_STOPS - 1, 1, 0x96);
+    require(again.number == 1 && again.offset == 0, "63 places are refusal 1 at 0");
+    ask_pending(&again, data, size, by % DISPATCH_BENCH_STOPS, 1, 0x96);
+    require(again.number == 1 && again.offset == 0, "too few places are refusal 1 at 0");
+}
+
+/* They are as many as the pass has, stops of the sheet, and rise. */
+static void check_pending(const struct pending *p, const struct answer *a, const struct facts *f) {
+    require(p->count == a->value[STOPS], "the pending stops are as many as the pass has");
+    for (size_t k = 0; k < p->count; k++) {
+        require(stop_place(f, p->stops[k]) < f->stops, "a pending stop is one of the sheet");
+        require(k == 0 || p->stops[k - 1] < p->stops[k], "the pending stops rise");
+    }
+}
+
 /* The columns of the matrix that a pass left, and that their cells are its total. */
 static void run_choose(const struct answer *a, size_t columns, uint32_t *picked) {
     size_t cars = a->value[CARS];
@@ -173,8 +226,8 @@ static void run_choose(const struct answer *a, size_t columns, uint32_t *picked)
     require(sum == total, "the total is the sum of the chosen cells");
 }
 
-/* Each decision is what the chosen column says, and a stop that the car may go to; no two are the same. */
-static void check_decisions(const struct answer *a, const struct facts *f) {
+/* Each decision is what the chosen column says, the pending stop of that column, and a stop that the car may go to; no two are the same. */
+static void check_decisions(const struct answer *a, const struct pending *p, const struct facts *f) {
     size_t cars = a->value[CARS], stops = a->value[STOPS], columns = cars < stops ? stops : cars;
     uint32_t picked[DISPATCH_BENCH_DECISIONS];
     run_choose(a, columns, picked);
@@ -186,6 +239,7 @@ static void check_decisions(const struct answer *a, const struct facts *f) {
             size_t stop = stop_place(f, a->decisions[i]);
             require(stop < f->stops, "a decision is the id of a stop record");
             require((sent >> stop & 1) == 0, "no two cars are sent to one stop");
+            require(p->stops[picked[i]] == a->decisions[i], "a sent car's stop is the pending stop of its column");
             require(may_go(f, f->idle_car[i], stop), "a sent car's line serves the stop, which is not barred to it");
             sent |= UINT64_C(1) << stop;
         }
@@ -287,6 +341,7 @@ static unsigned hash(const uint8_t *data, size_t size) {
 
 int LLVMFuzzerTestOneInput(const uint8_t *data, size_t size) {
     static struct answer read, first, second;
+    static struct pending pending;
     static struct facts facts;
     if (size > MOST_BYTES + 4096) {
         return 0;
@@ -301,18 +356,20 @@ int LLVMFuzzerTestOneInput(const uint8_t *data, size_t size) {
     run_pass(&second, &facts, data, size, more, 0, 0x5a);
     require(memcmp(&first, &second, sizeof first) == 0, "what the buffers hold and where they are changes no answer");
     require(first.number == read.number, "the pass and the reader answer the same number");
+    require(first.number == 0 || first.value[OFFSET] == read.value[OFFSET], "the pass and the reader give the same offset");
     check_short(data, size, h);
+    run_pending(&pending, &read, data, size, h);
     if (h % 8 == 0) {
         check_long(data, size, h / 8);
     }
     if (first.number != 0) {
-        require(first.value[OFFSET] == read.value[OFFSET], "the pass and the reader give the same offset");
         refusals[first.number]++;
         tell_refusal(&first, data, size);
         return 0;
     }
     check_lists(&first, &facts);
-    check_decisions(&first, &facts);
+    check_pending(&pending, &first, &facts);
+    check_decisions(&first, &pending, &facts);
     passes[facts.strategy]++;
     tell_pass(&first, &facts);
     return 0;

@@ -12,6 +12,12 @@
 extern "C" {
 #endif
 
+/* The number of this interface. It rises where a function or a number of this header changes its meaning. */
+#define DISPATCH_BENCH_VERSION 1
+
+/* The number of the library's interface: DISPATCH_BENCH_VERSION of the header that it was built with. */
+uint32_t dispatch_bench_version(void);
+
 /* Reads a sheet. 0: accepted, and *offset keeps its contents. Otherwise the refusal's number, 2 to 16, and in *offset the bit offset where the
    refused record starts (docs/manual/desk.md). Every byte string has an answer; bytes past the first 65,536 change none. */
 uint32_t dispatch_bench_read(const uint8_t *sheet, size_t length, uint64_t *offset);
@@ -24,7 +30,7 @@ uint32_t dispatch_bench_choose(size_t cars, size_t columns, const uint64_t *cell
 /* The refusals, by document 01's numbers. */
 enum dispatch_bench_refusal {
     DISPATCH_BENCH_ACCEPTED = 0,
-    DISPATCH_BENCH_SHORT_BUFFER = 1,    /* a lent buffer is too short (dispatch_bench_pass alone) */
+    DISPATCH_BENCH_SHORT_BUFFER = 1,    /* a lent buffer is too short (dispatch_bench_pass, dispatch_bench_pending) */
     DISPATCH_BENCH_PAST_END = 2,        /* what is stated passes the last byte */
     DISPATCH_BENCH_EDITION = 3,         /* the edition is not known */
     DISPATCH_BENCH_UNKNOWN_KIND = 4,    /* a record of an unknown kind */
@@ -47,6 +53,9 @@ enum dispatch_bench_refusal {
 #define DISPATCH_BENCH_CELLS 2048
 #define DISPATCH_BENCH_SWEEPS 32
 
+/* The least places for the pending stops. */
+#define DISPATCH_BENCH_STOPS 64
+
 /* The cell of a pair without a rank, and the largest cell. */
 #define DISPATCH_BENCH_SENTINEL UINT64_C(281474976710656)
 
@@ -59,11 +68,17 @@ enum dispatch_bench_refusal {
    none). Otherwise the refusal's number, 1 to 16, with the bit offset where the refused record starts in *offset (0 for 1); nothing else is written.
 
    A cell is the cost times 1,000,000, rounded, or DISPATCH_BENCH_SENTINEL where there is no rank, and in spare columns; the first *stops columns are
-   the pending stops by rising id. *total is the sum of a cell for each idle car: that of the stop where it is sent, or the sentinel where it stays
-   idle. Which car a decision is for is read off the sheet: decision k is that of the k-th car record whose bit 154, counted from 0 where the
-   record starts, is set (idle-listed); its id is the 32 bits from bit 22 on (docs/manual/format.md; examples/c/pass.c does it). */
+   the pending stops by rising id, which dispatch_bench_pending gives. *total is the sum of a cell for each idle car: that of the stop where it is
+   sent, or the sentinel where it stays idle. Which car a decision is for is read off the sheet: decision k is that of the k-th car record whose bit
+   154, counted from 0 where the record starts, is set (idle-listed); its id is the 32 bits from bit 22 on (docs/manual/format.md; examples/c/pass.c
+   does it). */
 uint32_t dispatch_bench_pass(const uint8_t *sheet, size_t length, uint32_t *decisions, size_t decision_count, uint64_t *matrix, size_t cell_count,
                              uint8_t *sweeps, size_t sweep_count, uint64_t *cars, uint64_t *stops, uint64_t *total, uint64_t *ranked, uint64_t *offset);
+
+/* The pending stops of a sheet. 0: *count of them, as many as *stops of a pass, and their ids in column order, which rise, first in stops; what
+   stands past these is left, and so is *offset. Otherwise the refusal's number with the bit offset where the refused record starts in *offset, and
+   nothing else is written: 1 at 0 where fewer than DISPATCH_BENCH_STOPS places are lent, else what dispatch_bench_read answers. */
+uint32_t dispatch_bench_pending(const uint8_t *sheet, size_t length, uint32_t *stops, size_t places, uint64_t *count, uint64_t *offset);
 
 #ifdef __cplusplus
 }

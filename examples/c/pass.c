@@ -1,5 +1,6 @@
 /* Prints the pass over one sheet as the program passprint does: pass SHEET.
-   Exit 0: a pass or a refusal was printed. 1: the sheet cannot be read, or the lines cannot be written. 2: no sheet was named. */
+   Exit 0: a pass or a refusal was printed. 1: the sheet cannot be read, or the lines cannot be written, or the library is not of this header's
+   interface. 2: no sheet was named. */
 #include <inttypes.h>
 #include <stdio.h>
 
@@ -87,6 +88,10 @@ int main(int argc, char **argv) {
     if (argc != 2) {
         fprintf(stderr, "usage: pass SHEET\n");
         return 2;
+    }
+    if (dispatch_bench_version() != DISPATCH_BENCH_VERSION) {
+        fprintf(stderr, "the library's interface is %" PRIu32 ", the header's %d\n", dispatch_bench_version(), DISPATCH_BENCH_VERSION);
+        return 1;
     }
     FILE *file = fopen(argv[1], "rb");
     if (file == NULL) {

@@ -23,6 +23,7 @@
 mod library;
 mod lines;
 mod pass;
+mod pending;
 mod records;
 mod refusal;
 mod rules;
@@ -31,12 +32,16 @@ pub use lines::lines;
 pub use pass::{
     Buffers, Decision, Pass, Summary, Sweep, SweepDirection, SweepMode, pass, pass_into,
 };
+pub use pending::{STOPS, pending, pending_into};
 pub use records::{Car, cars};
 pub use refusal::Refusal;
 
 /// The cell of a pair that has no rank and of a spare column, what a car that stays idle counts in the total, and the largest cell that
 /// [`choose`] takes. A cost of 1 is a cell of 1,000,000.
 pub const SENTINEL: u64 = 281_474_976_710_656;
+
+/// The number of the interface that this crate is written for: DISPATCH_BENCH_VERSION of include/dispatch_bench.h.
+pub const VERSION: u32 = 1;
 
 /// The most cars of a matrix.
 const MOST_CARS: usize = 32;
@@ -48,6 +53,11 @@ pub struct Choice {
     pub columns: Vec<u32>,
     /// The sum of their cells.
     pub total: u64,
+}
+
+/// The number of the linked library's interface: [`VERSION`], where the library belongs to this crate.
+pub fn version() -> u32 {
+    library::version()
 }
 
 /// Whether a sheet is accepted.

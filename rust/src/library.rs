@@ -7,6 +7,7 @@
 use crate::{Decision, Sweep};
 
 unsafe extern "C" {
+    fn dispatch_bench_version() -> u32;
     fn dispatch_bench_read(sheet: *const u8, length: usize, offset: *mut u64) -> u32;
     fn dispatch_bench_choose(
         cars: usize,
@@ -32,6 +33,14 @@ unsafe extern "C" {
         ranked: *mut u64,
         offset: *mut u64,
     ) -> u32;
+    fn dispatch_bench_pending(
+        sheet: *const u8,
+        length: usize,
+        stops: *mut u32,
+        places: usize,
+        count: *mut u64,
+        offset: *mut u64,
+    ) -> u32;
 }
 
 /// The numbers that a pass answers, beside what it leaves in the buffers.
@@ -42,6 +51,12 @@ pub struct Numbers {
     pub total: u64,
     pub ranked: u64,
     pub offset: u64,
+}
+
+/// The number of the library's interface.
+pub fn version() -> u32 {
+    // SAFETY: nothing is lent.
+    unsafe { dispatch_bench_version() }
 }
 
 /// 0 for an accepted sheet, or the refusal's number; then its offset.
@@ -99,6 +114,21 @@ pub fn pass(
             &mut numbers.total,
             &mut numbers.ranked,
             &mut numbers.offset,
+        )
+    }
+}
+
+/// 0 where the pending stops stand first in `stops`, `count` of them, or the refusal's number.
+pub fn pending(sheet: &[u8], stops: &mut [u32], count: &mut u64, offset: &mut u64) -> u32 {
+    // SAFETY: both slices are lent as their addresses and lengths, and each number as the address of one `u64`; see above.
+    unsafe {
+        dispatch_bench_pending(
+            sheet.as_ptr(),
+            sheet.len(),
+            stops.as_mut_ptr(),
+            stops.len(),
+            count,
+            offset,
         )
     }
 }

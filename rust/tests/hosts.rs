@@ -4,8 +4,8 @@ use std::num::NonZeroU32;
 use std::path::Path;
 
 use dispatch_bench::{
-    Buffers, Refusal, SENTINEL, Sweep, SweepDirection, SweepMode, cars, choose, pass, pass_into,
-    read,
+    Buffers, Refusal, SENTINEL, STOPS, Sweep, SweepDirection, SweepMode, VERSION, cars, choose,
+    pass, pass_into, pending, pending_into, read, version,
 };
 
 const EXAMPLE: &[u8] = include_bytes!("../../crates/passprint/stdin");
@@ -150,6 +150,73 @@ fn the_matcher() {
     assert_eq!(choose(33, 64, &[0; 33 * 64]), None);
     assert_eq!(choose(1, 1, &[SENTINEL + 1]), None);
     assert_eq!(choose(usize::MAX, usize::MAX, &[0]), None);
+}
+
+/// The pending stops are the columns of the pass: as many, rising, and a sent car's stop is that of the column that was chosen for it.
+#[test]
+fn pending_stops_are_the_columns() {
+    let mut sent = 0;
+    for (name, sheet) in corpus() {
+        let (Ok(pass), Ok(stops)) = (pass(&sheet), pending(&sheet)) else {
+            assert_eq!(pending(&sheet).err(), read(&sheet).err(), "{name}");
+            assert!(pass(&sheet).is_err(), "{name}");
+            continue;
+        };
+        assert_eq!(stops.len(), pass.stops, "{name}");
+        assert!(stops.is_sorted_by(|a, b| a < b), "{name}");
+        let columns = choose(pass.cars, pass.columns(), &pass.matrix)
+            .unwrap()
+            .columns;
+        for (column, decision) in columns.iter().zip(&pass.decisions) {
+            if let Some(stop) = decision {
+                assert_eq!(stops.get(*column as usize), Some(&stop.get()), "{name}");
+                sent += 1;
+            }
+        }
+    }
+    assert!(sent > 80, "{sent} cars are sent");
+}
+
+#[test]
+fn places_are_lent_again() {
+    let mut places = [99; STOPS + 6];
+    assert_eq!(pending_into(EXAMPLE, &mut places), Ok(&[2, 3][..]));
+    assert!(places[2..].iter().all(|place| *place == 99));
+    let before = places;
+    let refused = pending_into(&EXAMPLE[..9], &mut places);
+    assert_eq!(refused, Err(read(&EXAMPLE[..9]).unwrap_err()));
+    assert_eq!(before, places);
+    for sheet in [EXAMPLE, b"no sheet"] {
+        for short in [0, STOPS - 1] {
+            let refused = pending_into(sheet, &mut places[..short]).unwrap_err();
+            assert_eq!((refused.number, refused.offset), (1, 0));
+        }
+    }
+    assert_eq!(before, places);
+}
+
+/// The header's numbers are the crate's and the library's.
+#[test]
+fn numbers_of_the_header() {
+    let header = include_str!("../../include/dispatch_bench.h");
+    let number = |name: &str| -> u64 {
+        let define = format!("#define DISPATCH_BENCH_{name} ");
+        let after = header.split(&define).nth(1).unwrap();
+        let word = after.lines().next().unwrap();
+        let digits = word.trim_start_matches("UINT64_C(").trim_end_matches(')');
+        digits.parse().unwrap()
+    };
+    assert_eq!(number("VERSION"), u64::from(VERSION));
+    assert_eq!(number("VERSION"), u64::from(version()));
+    assert_eq!(number("SENTINEL"), SENTINEL);
+    let mut places = vec![0; number("STOPS") as usize];
+    assert_eq!(places.len(), STOPS);
+    assert!(pending_into(EXAMPLE, &mut places).is_ok());
+    assert!(pending_into(EXAMPLE, &mut places[1..]).is_err());
+    let least = Buffers::new();
+    assert_eq!(number("DECISIONS"), least.decisions.len() as u64);
+    assert_eq!(number("CELLS"), least.matrix.len() as u64);
+    assert_eq!(number("SWEEPS"), least.sweeps.len() as u64);
 }
 
 /// The sentences of the refusals are those of docs/manual/desk.md.

@@ -20,6 +20,8 @@ pub struct Pass {
     pub decisions: Vec<u32>,
     pub cells: Vec<u64>,
     pub sweeps: Vec<u8>,
+    /// The ids of the pending stops, in column order.
+    pub pending: Vec<u32>,
     /// Whether the Rust built the matrix.
     pub from_the_rust: bool,
 }
@@ -75,6 +77,7 @@ pub fn of_rust(sheet: &Sheet, pass: &RustPass) -> Pass {
         decisions,
         cells: cells.iter().map(|c| *c as u64).collect(),
         sweeps: pass.sweeps.clone(),
+        pending: pass.pending.clone(),
         from_the_rust,
     }
 }

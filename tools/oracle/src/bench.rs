@@ -9,6 +9,7 @@ pub struct Has {
     pub read: bool,
     pub pass: bool,
     pub choose: bool,
+    pub pending: bool,
 }
 
 /// What stands in the offset before it is lent.
@@ -43,6 +44,25 @@ impl Lent {
     }
 }
 
+/// What the question for the pending stops is lent, and what it leaves there.
+#[derive(Clone, Debug, PartialEq)]
+pub struct Places {
+    pub stops: Vec<u32>,
+    pub count: u64,
+    pub offset: u64,
+}
+
+impl Places {
+    /// So many places, with contents that no answer would write.
+    pub fn new(places: usize) -> Self {
+        Self {
+            stops: vec![0xdead_beef; places],
+            count: 0xa6a6_a6a6_a6a6,
+            offset: KEPT,
+        }
+    }
+}
+
 pub trait Bench {
     fn has(&self) -> Has;
     /// 0 where the sheet is accepted, else the refusal's number; and what stands in the offset, which held KEPT.
@@ -58,6 +78,8 @@ pub trait Bench {
         chosen: &mut [u32],
         total: &mut u64,
     ) -> u32;
+    /// 0 with the ids of the pending stops and their number, else the refusal's number.
+    fn pending(&mut self, sheet: &[u8], places: &mut Places) -> u32;
 }
 
 type Read = unsafe extern "C" fn(*const u8, usize, *mut u64) -> u32;
@@ -78,6 +100,7 @@ type Pass = unsafe extern "C" fn(
 ) -> u32;
 type Choose =
     unsafe extern "C" fn(usize, usize, *const u64, usize, *mut u32, usize, *mut u64) -> u32;
+type Pending = unsafe extern "C" fn(*const u8, usize, *mut u32, usize, *mut u64, *mut u64) -> u32;
 
 unsafe extern "C" {
     fn dlopen(path: *const c_char, flags: c_int) -> *mut c_void;
@@ -92,6 +115,7 @@ pub struct Linked {
     read: Option<Read>,
     pass: Option<Pass>,
     choose: Option<Choose>,
+    pending: Option<Pending>,
 }
 
 impl Linked {
@@ -115,6 +139,9 @@ impl Linked {
                 choose: std::mem::transmute::<*mut c_void, Option<Choose>>(find(
                     c"dispatch_bench_choose",
                 )),
+                pending: std::mem::transmute::<*mut c_void, Option<Pending>>(find(
+                    c"dispatch_bench_pending",
+                )),
             })
         }
     }
@@ -126,6 +153,7 @@ impl Bench for Linked {
             read: self.read.is_some(),
             pass: self.pass.is_some(),
             choose: self.choose.is_some(),
+            pending: self.pending.is_some(),
         }
     }
 
@@ -172,6 +200,19 @@ impl Bench for Linked {
                 chosen.as_mut_ptr(),
                 chosen.len(),
                 total,
+            )
+        }
+    }
+
+    fn pending(&mut self, sheet: &[u8], places: &mut Places) -> u32 {
+        unsafe {
+            self.pending.unwrap()(
+                sheet.as_ptr(),
+                sheet.len(),
+                places.stops.as_mut_ptr(),
+                places.stops.len(),
+                &mut places.count,
+                &mut places.offset,
             )
         }
     }

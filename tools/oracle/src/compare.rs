@@ -7,7 +7,7 @@ use sheetgen::shrink::shrink;
 use sheetgen::{Refusal, Sheet, describe, read};
 
 use crate::answer::{Answer, Pass, answer};
-use crate::bench::{Bench, Has, KEPT, Lent};
+use crate::bench::{Bench, Has, KEPT, Lent, Places};
 use crate::choice;
 use crate::rust_pass::Rust;
 
@@ -50,6 +50,8 @@ pub struct Tally {
     pub rust_passes: u64,
     pub document_passes: u64,
     pub cells: u64,
+    /// Pending stops whose ids the Rust gave.
+    pub pending: u64,
     /// Refusals by number.
     pub numbers: [u64; 17],
 }
@@ -101,13 +103,61 @@ impl<'a> Comparison<'a> {
                 self.tally.numbers[r.number as usize] += 1;
                 Answer::Refused(r)
             }
-            None if self.has.pass => answer(&mut self.rust, bytes),
+            None if self.has.pass || self.has.pending => answer(&mut self.rust, bytes),
             None => return None,
         };
+        let mut found = None;
         if self.has.pass {
-            self.pass(bytes, &right)
-        } else {
-            None
+            found = self.pass(bytes, &right);
+        }
+        if self.has.pending && found.is_none() {
+            found = self.pending(bytes, &right);
+        }
+        found
+    }
+
+    /// The pending stops, which the Rust gives for every accepted sheet. Every sheet is tried with 63 places as well.
+    fn pending(&mut self, bytes: &[u8], right: &Answer) -> Option<Difference> {
+        let (few, fresh) = (Places::new(63), Places::new(64 + bytes.len() % 3));
+        let mut short = few.clone();
+        let number = self.bench.pending(bytes, &mut short);
+        if (number, short.offset) != (1, 0) {
+            return differ("pending: refusal 1", (1, 0), (number, short.offset));
+        }
+        if short != (Places { offset: 0, ..few }) {
+            return plain("pending: refusal 1 writes", "a refusal changed a place");
+        }
+        let mut lent = fresh.clone();
+        let number = self.bench.pending(bytes, &mut lent);
+        match right {
+            Answer::Refused(r) => {
+                if (number, lent.offset) != (r.number, r.offset) {
+                    let found = (number, lent.offset);
+                    return differ("pending: refusal", (r.number, r.offset), found);
+                }
+                let offset = r.offset;
+                if lent != (Places { offset, ..fresh }) {
+                    return plain("pending: refusal writes", "a refusal changed a place");
+                }
+                None
+            }
+            Answer::Passed(pass) => {
+                let m = pass.pending.len();
+                if (number, lent.count) != (0, m as u64) {
+                    return differ("pending: count", (0, m as u64), (number, lent.count));
+                }
+                if lent.stops[..m] != pass.pending[..] {
+                    return differ("pending: stops", &pass.pending[..], &lent.stops[..m]);
+                }
+                if lent.stops[m..] != fresh.stops[m..] || lent.offset != fresh.offset {
+                    return plain(
+                        "pending: further places",
+                        "a place beyond the stops, or the offset, was changed",
+                    );
+                }
+                self.tally.pending += m as u64;
+                None
+            }
         }
     }
 
@@ -352,7 +402,8 @@ pub fn library(bench: &mut dyn Bench, seed: u64, count: u64, only: Option<&str>)
     said("dispatch_bench_read", has.read, on_sheets);
     said("dispatch_bench_pass", has.pass, on_sheets);
     said("dispatch_bench_choose", has.choose, on_matrices);
-    (has.read || has.pass || has.choose) && run(bench, seed, count, only)
+    said("dispatch_bench_pending", has.pending, on_sheets);
+    (has.read || has.pass || has.choose || has.pending) && run(bench, seed, count, only)
 }
 
 /// The papers' definitions against the Rust: pending stops, cells and sweeps of accepted sheets. Refusals
@@ -379,7 +430,7 @@ fn run(bench: &mut dyn Bench, seed: u64, count: u64, only: Option<&str>) -> bool
         only != Some("matrices"),
         only.is_none_or(|o| o == "matrices"),
     );
-    if (has.read || has.pass) && on_sheets {
+    if (has.read || has.pass || has.pending) && on_sheets {
         for (name, profile) in PROFILES {
             if only.is_some_and(|o| o != name) {
                 continue;
@@ -400,11 +451,12 @@ fn run(bench: &mut dyn Bench, seed: u64, count: u64, only: Option<&str>) -> bool
                 .map(|k| format!("{k}:{}", t.numbers[k]))
                 .collect();
             println!(
-                "{name}: {} sheets, {} with cells of the Rust ({} cells), {} of document 01 alone, refused {} in {seconds:.1} s",
+                "{name}: {} sheets, {} with cells of the Rust ({} cells), {} of document 01 alone, {} pending stops, refused {} in {seconds:.1} s",
                 t.sheets,
                 t.rust_passes,
                 t.cells,
                 t.document_passes,
+                t.pending,
                 if numbers.is_empty() {
                     "none".into()
                 } else {

@@ -218,6 +218,7 @@ fn telling(seed: u64, count: u64, each: usize) -> Cases {
         let mut bench = Paper { fault, whole: true };
         let mut c = Comparison::new(&mut bench);
         c.has.read = false;
+        c.has.pending = false;
         for (_, profile) in PROFILES {
             if matches!(
                 profile,

@@ -6,7 +6,7 @@ use sheetgen::sheet::{ETD, NO_LIMIT, RSR, SCAN, mask_bit};
 use sheetgen::{Car, Sheet, Waiting, bits, read};
 
 use crate::answer::SENTINEL;
-use crate::bench::{Bench, Has, KEPT, Lent};
+use crate::bench::{Bench, Has, KEPT, Lent, Places};
 use crate::choice;
 
 macro_rules! faults {
@@ -132,6 +132,12 @@ faults! {
     CutOff
     /// Held to the sentinel.
     CeilingIsSentinel
+    /// The pending stops are named by their records' places.
+    PendingByPlace
+    /// 63 places are taken for the pending stops.
+    FewPlacesTaken
+    /// One place past the pending stops is cleared.
+    OnePlaceMore
 }
 
 pub struct Paper {
@@ -267,6 +273,12 @@ impl<'a> Pass<'a> {
         }
         pass.sweeps = sheet.cars.iter().map(|c| pass.sweep(c)).collect();
         pass
+    }
+
+    /// The places of the pending stops' records, in column order.
+    fn pending_stops(&self) -> Vec<usize> {
+        let stops = 0..self.sheet.stops.len();
+        stops.filter(|j| nth(self.pending, *j)).collect()
     }
 
     fn is(&self, fault: Fault) -> bool {
@@ -719,6 +731,7 @@ impl Bench for Paper {
             read: self.whole,
             pass: true,
             choose: self.whole,
+            pending: true,
         }
     }
 
@@ -748,9 +761,7 @@ impl Bench for Paper {
         let idle: Vec<usize> = (0..sheet.cars.len())
             .filter(|i| sheet.cars[*i].idle)
             .collect();
-        let pending: Vec<usize> = (0..sheet.stops.len())
-            .filter(|j| nth(pass.pending, *j))
-            .collect();
+        let pending = pass.pending_stops();
         let (n, m) = (idle.len(), pending.len());
         let columns = n.max(m);
         let mut cells = vec![SENTINEL as u64; n * columns];
@@ -806,5 +817,37 @@ impl Bench for Paper {
             *total += seen[i * columns + found[i]];
         }
         1
+    }
+
+    fn pending(&mut self, bytes: &[u8], places: &mut Places) -> u32 {
+        let least = match self.fault {
+            Fault::FewPlacesTaken => 63,
+            _ => 64,
+        };
+        let refusal = if places.stops.len() < least {
+            Some((1, 0))
+        } else {
+            self.refusal(bytes)
+        };
+        if let Some((number, offset)) = refusal {
+            places.offset = offset;
+            return number;
+        }
+        if read(bytes).is_some() {
+            return 0;
+        }
+        let sheet = Sheet::of_accepted(bytes);
+        let pending = Pass::new(self.fault, &sheet).pending_stops();
+        for (place, j) in places.stops.iter_mut().zip(&pending) {
+            *place = match self.fault {
+                Fault::PendingByPlace => *j as u32,
+                _ => sheet.stops[*j].id,
+            };
+        }
+        if self.fault == Fault::OnePlaceMore && pending.len() < places.stops.len() {
+            places.stops[pending.len()] = 0;
+        }
+        places.count = pending.len() as u64;
+        0
     }
 }

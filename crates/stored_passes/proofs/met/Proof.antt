@@ -18,7 +18,7 @@ returns-2 : tie.Need-returns-2
 unfolding metOf
 returns-2 c =
     let a = c .before .before .before .before .args in (
-      rw (ne-eqb _ _ (c .before .before .before .if1 .left), lt-ltb _ _ (c .before .before .if2 .taken)) refl,
+      rw (ne-eqb _ _ (c .before .before .before .if1 .left), lt-ltb _ _ (c .before .if2 .taken)) refl,
       omega (arith, apart-yes (a .ours) (a .theirs) (c .before .before .before .if1 .left)),
     )
 
@@ -26,8 +26,8 @@ returns-3 : tie.Need-returns-3
 unfolding metOf
 returns-3 c =
     let a = c .before .before .before .args in (
-      rw (ne-eqb _ _ (c .before .before .if1 .left), le-ltb _ _ (c .before .if2 .left)) refl,
-      omega (arith, apart-yes (a .ours) (a .theirs) (c .before .before .if1 .left), c .before .if2 .left),
+      rw (ne-eqb _ _ (c .before .before .if1 .left), le-ltb _ _ (c .if2 .left)) refl,
+      omega (arith, apart-yes (a .ours) (a .theirs) (c .before .before .if1 .left), c .if2 .left),
     )
 
 pub met-spec : {M : Type 1} → statement M

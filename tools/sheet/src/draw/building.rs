@@ -110,8 +110,7 @@ fn labels(sheet: &Sheet, chosen: &Chosen, heights: &Heights) -> Vec<Label> {
         if riding > 0 {
             more.push(format!("{riding} riding"));
         }
-        let known = chosen.pending.len() == chosen.pass.stops;
-        if known && has_demand && !chosen.pending.contains(&stop.id) {
+        if has_demand && !chosen.pending.contains(&stop.id) {
             more.push("not pending".into());
         }
         Label {

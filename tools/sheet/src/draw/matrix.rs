@@ -210,7 +210,6 @@ fn mark(svg: &mut Svg, at: (f64, f64), size: (f64, f64), reason: NoRank, tip: &s
 fn column_names(chosen: &Chosen) -> Vec<String> {
     let name = |k: usize| match chosen.pending.get(k) {
         Some(stop) => format!("stop {stop}"),
-        None if k < chosen.pass.stops => format!("column {}", k + 1),
         None => "spare".into(),
     };
     (0..chosen.pass.columns()).map(name).collect()

@@ -4,13 +4,12 @@ mod building;
 mod heights;
 mod legend;
 mod matrix;
-mod pending;
 mod reasons;
 mod refused;
 mod riders;
 mod svg;
 
-use dispatch_bench::{Pass, SENTINEL};
+use dispatch_bench::{Pass, Refusal, SENTINEL};
 use sheetgen::Sheet;
 
 use crate::fields::STRATEGIES;
@@ -25,8 +24,8 @@ const LEGEND: (f64, f64) = (660.0, 1_100.0);
 
 /// A sheet and its pass, or where the sheet is refused.
 pub fn draw(bytes: &[u8]) -> String {
-    match dispatch_bench::pass(bytes) {
-        Ok(pass) => draw_pass(&Sheet::of_accepted(bytes), pass),
+    match Chosen::of(bytes) {
+        Ok(chosen) => draw_pass(&Sheet::of_accepted(bytes), &chosen),
         Err(refusal) => refused::draw(bytes, refusal),
     }
 }
@@ -36,20 +35,19 @@ struct Chosen {
     pass: Pass,
     /// The column of each idle car: the matrix has one choice that the rules allow.
     columns: Vec<u32>,
-    /// The stop of each column that has one.
+    /// The stop of each column that is not spare.
     pending: Vec<u32>,
 }
 
 impl Chosen {
-    fn new(sheet: &Sheet, pass: Pass) -> Self {
+    fn of(bytes: &[u8]) -> Result<Self, Refusal> {
+        let pass = dispatch_bench::pass(bytes)?;
         let choice = dispatch_bench::choose(pass.cars, pass.columns(), &pass.matrix);
-        let columns = choice.map_or(Vec::new(), |choice| choice.columns);
-        let pending = pending::pending(sheet, &pass);
-        Self {
+        Ok(Self {
             pass,
-            columns,
-            pending,
-        }
+            columns: choice.map_or(Vec::new(), |choice| choice.columns),
+            pending: dispatch_bench::pending(bytes)?,
+        })
     }
 
     /// The chosen cell of an idle car.
@@ -70,14 +68,13 @@ fn cell(pass: &Pass, row: usize, column: usize) -> Option<u64> {
     pass.rows().nth(row)?.get(column).copied()
 }
 
-fn draw_pass(sheet: &Sheet, pass: Pass) -> String {
-    let chosen = Chosen::new(sheet, pass);
+fn draw_pass(sheet: &Sheet, chosen: &Chosen) -> String {
     let mut svg = Svg::default();
-    let (title, total) = (title(sheet, &chosen), total(&chosen));
+    let (title, total) = (title(sheet, chosen), total(chosen));
     svg.text("title", EDGE, 30.0, Anchor::Start, &title);
     svg.text("", EDGE, 49.0, Anchor::Start, &total);
-    let (width, height) = building::draw(&mut svg, sheet, &chosen, (EDGE, 78.0));
-    let (right, bottom) = matrix::draw(&mut svg, sheet, &chosen, (EDGE, height + 40.0));
+    let (width, height) = building::draw(&mut svg, sheet, chosen, (EDGE, 78.0));
+    let (right, bottom) = matrix::draw(&mut svg, sheet, chosen, (EDGE, height + 40.0));
     let width = width.max(right).max(svg::width("title", &title) + EDGE);
     let width = width.max(svg::width("", &total) + EDGE);
     svg.finish(width + EDGE, bottom + EDGE)
