@@ -22,7 +22,7 @@ oracle compare LIBRARY SEED COUNT [PROFILE]
 oracle program PROGRAM SEED COUNT
                                the program passprint, built, against `oracle passprint`
 oracle papers SEED COUNT [PROFILE]
-                               the papers' definitions against the Rust, with no library
+                               document 01's definitions against the Rust, with no library
 oracle selftest [COUNT [FAULT]]
                                benches that are wrong on purpose must be found out
 oracle time LIBRARY [ROUNDS]   from bytes to decisions, the bench beside the Rust, in microseconds a sheet

@@ -1,5 +1,5 @@
-//! The pass as the papers define it, apart from the published Rust: group, demand, coverage, the candidate
-//! cut by counting, ranks, cells. Compared with the Rust it shows that the papers say what the Rust does.
+//! The pass as document 01 defines it, apart from the published Rust: group, demand, coverage, the candidate
+//! cut by counting, ranks, cells. Compared with the Rust it shows that document 01 says what the Rust does.
 //! Each fault below changes one place of it; the comparison must find every one of them out.
 
 use sheetgen::sheet::{ETD, NO_LIMIT, RSR, SCAN, mask_bit};
@@ -18,7 +18,7 @@ macro_rules! faults {
 }
 
 faults! {
-    /// As the papers have it.
+    /// As document 01 has it.
     None
     /// 16 is given where the last record starts.
     TailOffset
