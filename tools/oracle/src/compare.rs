@@ -406,7 +406,7 @@ pub fn library(bench: &mut dyn Bench, seed: u64, count: u64, only: Option<&str>)
     (has.read || has.pass || has.choose || has.pending) && run(bench, seed, count, only)
 }
 
-/// The papers' definitions against the Rust: pending stops, cells and sweeps of accepted sheets. Refusals
+/// Document 01's definitions against the Rust: pending stops, cells and sweeps of accepted sheets. Refusals
 /// and choices come from one source here, so they aren't compared.
 pub fn papers(seed: u64, count: u64, only: Option<&str>) -> bool {
     use crate::paper::{Fault, Paper};
