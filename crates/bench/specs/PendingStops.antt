@@ -19,7 +19,7 @@ use Rattle.assignment.specs.Pending.{pendingStops, columnStop}
 use Rattle.assignment.specs.CellLaws.{pending-le}
 use Rattle.rows.specs.RowLaws.{Listed}
 use Rattle.rows.specs.MatrixLaws.{listed-count, listed-stop, column-below}
-use Rattle.bench.specs.Passing.{Masks}
+use Rattle.cells.specs.Survey.{Masks}
 use Rattle.bench.specs.declared.PendingIds.{PendingIds}
 use Rattle.bench.specs.declared.PendingIds.the-variants.{Found, Refused}
 

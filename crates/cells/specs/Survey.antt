@@ -40,13 +40,16 @@ use Rattle.rows.specs.Gathered.{gatheredOf, gathered-held}
 use Rattle.rows.specs.MatrixLaws.{Ready, Rows, listed-number, listed-at, listed-below}
 use Rattle.accepted.specs.Ids.{rising-of}
 
--- the stops with their ids and positions, the masks of those with a call without a rider, with demand, and pending; the cars; the pending stops and the idle
--- cars, listed
-pub record Survey (s : Sheet) (ids : List ℕ) (xs : List Float) (calls demand mask : ℕ) (stops : List ℕ) (m : ℕ) (cars : List Car) (idle : List ℕ) (n : ℕ) : Type 0 where
+-- the stops with their ids and positions, and the masks of those with a call without a rider, with demand, and pending
+pub record Masks (s : Sheet) (ids : List ℕ) (xs : List Float) (calls demand mask : ℕ) : Type 0 where
   pub stops-held : HoldsStops s ids xs (s .stops)
   pub calls-are : calls ≡ stopMask s (riderlessCall s)
   pub demand-is : demand ≡ stopMask s (demandStop s)
   pub stops-are : mask ≡ stopMask s (pending s)
+
+-- these; the cars; the pending stops and the idle cars, listed
+pub record Survey (s : Sheet) (ids : List ℕ) (xs : List Float) (calls demand mask : ℕ) (stops : List ℕ) (m : ℕ) (cars : List Car) (idle : List ℕ) (n : ℕ) : Type 0 where
+  pub masks : Masks s ids xs calls demand mask
   pub entry : List ℕ
   pub listed : Listed mask entry m stops
   pub cars-held : HoldsCars s cars
@@ -142,12 +145,12 @@ ready bytes c e ids xs calls demand mask stops m cars idle n h acar adest ha wai
     let sound = accepted bytes c e .sheet in
     record {
       held = record {
-        stops-held = h .stops-held;
+        stops-held = h .masks .stops-held;
         aboard-held = ha;
         rising = rising-of bytes c e;
         few = sound .most-stops;
-        stops-are = h .stops-are;
-        demand-is = h .demand-is;
+        stops-are = h .masks .stops-are;
+        demand-is = h .masks .demand-is;
       };
       waiting = gathered-held (sheetOf bytes c) waiters hw;
       weighed = weighed-of (sheetOf bytes c) sound;

@@ -21,7 +21,7 @@ unfolding sheetOf
 waiting-requires c κs =
     let a = c .before .before .before .before .before .before .before .before .before .before .before .args in
     let p = c .before .before .before .before .before .before .before .before .before .before .before .pre in
-    (accepted (a .s .now) (a .c) (p .0 .0) .small, p .0 .1, p .0 .2, p .1 .stops-held, p .1 .calls-are)
+    (accepted (a .s .now) (a .c) (p .0 .0) .small, p .0 .1, p .0 .2, p .1 .masks .stops-held, p .1 .masks .calls-are)
 
 fill-rows-requires : tie.Need-fill-rows-requires
 unfolding sheetOf
