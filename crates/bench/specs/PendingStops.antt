@@ -19,7 +19,9 @@ use Rattle.assignment.specs.Pending.{pendingStops, columnStop}
 use Rattle.assignment.specs.CellLaws.{pending-le}
 use Rattle.rows.specs.RowLaws.{Listed}
 use Rattle.rows.specs.MatrixLaws.{listed-count, listed-stop, column-below}
-use Rattle.cells.specs.Survey.{Masks}
+use Rattle.pending.specs.declared.StopMasks.{StopMasks}
+use Rattle.pending.specs.Masks.{pending-are}
+use Rattle.cells.specs.Survey.{SeenStops}
 use Rattle.bench.specs.declared.PendingIds.{PendingIds}
 use Rattle.bench.specs.declared.PendingIds.the-variants.{Found, Refused}
 
@@ -90,21 +92,21 @@ unfolding fewPlaces
 at-least places e = ltb-false places 64 e
 
 -- the stops of the pending mask are the columns'
-module _ (s : Sheet) (few : s .stops ≤ 64) (ids : List ℕ) (xs : List Float) (calls demand mask : ℕ) (h : Masks s ids xs calls demand mask) (blank : List ℕ) (m : ℕ)
-    (listed : List ℕ) (l : Listed mask blank m listed) where
+module _ (s : Sheet) (few : s .stops ≤ 64) (ids : List ℕ) (xs : List Float) (masks : StopMasks) (h : SeenStops s ids xs masks) (blank : List ℕ) (m : ℕ)
+    (listed : List ℕ) (l : Listed (masks .pending) blank m listed) where
   pub found : m ≡ pendingStops s
-  found = listed-count s few mask (h .stops-are) blank m listed l
+  found = listed-count s few (masks .pending) (pending-are s (h .masks-are)) blank m listed l
 
   pub most : m ≤ 64
   most = omega (arith, found, pending-le s)
 
   pub below : (k : ℕ) → k < m → getD listed k 0 < 64
-  below k lk = rw (listed-stop s few mask (h .stops-are) blank m listed l k lk) (omega (arith, column-below s few mask (h .stops-are) blank m listed l k lk))
+  below k lk = rw (listed-stop s few (masks .pending) (pending-are s (h .masks-are)) blank m listed l k lk) (omega (arith, column-below s few (masks .pending) (pending-are s (h .masks-are)) blank m listed l k lk))
 
   pub ids-are : (entry : List ℕ) {exit : List ℕ} → exit ≡ tab (λ k. getD ids (getD listed k 0) 0) m ++ drop m entry → exit ≡ idsOf s entry
   unfolding idsOf
   ids-are entry {exit} e =
       e ∙ ap (λ (t : List ℕ). t ++ drop m entry)
       (tab-cong (λ k. getD ids (getD listed k 0) 0) (λ k. stopId s (columnStop s k)) m
-      (λ k lk. rw (listed-stop s few mask (h .stops-are) blank m listed l k lk) (h .stops-held .id-of (columnStop s k) (column-below s few mask (h .stops-are) blank m listed l k lk))))
+      (λ k lk. rw (listed-stop s few (masks .pending) (pending-are s (h .masks-are)) blank m listed l k lk) (h .stops-held .id-of (columnStop s k) (column-below s few (masks .pending) (pending-are s (h .masks-are)) blank m listed l k lk))))
       ∙ ap (λ (n : ℕ). tab (λ k. stopId s (columnStop s k)) n ++ drop n entry) found

@@ -5,6 +5,7 @@ use mathlib.Core.List.{List, _++_}
 use native.Mathlib.Omega.{arith}
 use lib.Ieee.{Float}
 use Rattle.laws.specs.Tables.{tab}
+use Rattle.components.specs.Sheet.{Sheet}
 use Rattle.layout.specs.declared.Counts.{Counts}
 use Rattle.layout.specs.declared.Reading.the-variants.{Accepted}
 use Rattle.layout.specs.Records.{sheetOf}
@@ -12,8 +13,9 @@ use Rattle.layout.specs.Verdict.{verdict}
 use Rattle.accepted.specs.Accepted.{accepted}
 use Rattle.manifest.specs.World.{stopId, stopAt}
 use Rattle.manifest.specs.Stops.{HoldsStops}
-use Rattle.pending.specs.Masks.{HoldsNames, Boarded}
-use Rattle.cells.specs.Survey.{holds-stops}
+use Rattle.pending.specs.declared.StopMasks.{StopMasks}
+use Rattle.pending.specs.Masks.{masksOf, HoldsNames, Boarded}
+use Rattle.cells.specs.Survey.{SeenStops, holds-stops}
 use Rattle.accepted.specs.Ids.{rising-of}
 
 pub record Begun (bytes : List ℕ) (c : Counts) (ids : List ℕ) (xs : List Float) : Type 0 where
@@ -34,3 +36,8 @@ begun bytes c e ids xs r q ei ex =
       boarded = record { above-zero = λ a l. let (i, b, q) = sound .aboard a l in omega (arith, q, sound .car i b .id) };
       few-demands = omega (arith, sound .most-demands, sound .most-stops);
     }
+
+-- the stops are seen where their ids, positions and masks are at hand
+pub stops-seen : (s : Sheet) {ids : List ℕ} {xs : List Float} (r : List ℕ) (q : List Float) {masks : StopMasks} → ids ≡ tab (stopId s) (s .stops) ++ r
+    → xs ≡ tab (stopAt s) (s .stops) ++ q → masks ≡ masksOf s → SeenStops s ids xs masks
+stops-seen s {ids} {xs} r q ei ex em = record { stops-held = holds-stops s ids xs r q ei ex; masks-are = em }

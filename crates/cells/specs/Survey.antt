@@ -29,29 +29,27 @@ use Rattle.fp.specs.Inside.{mass-finite}
 use Rattle.fp.specs.Distances.{room-finite}
 use Rattle.manifest.specs.declared.Waiters.{Waiters}
 use Rattle.manifest.specs.World.{stopId, stopAt}
-use Rattle.manifest.specs.Manifest.{riderlessCall, demandStop}
 use Rattle.manifest.specs.Holds.{HoldsAboard, HoldsWaiting}
 use Rattle.manifest.specs.Stops.{HoldsStops}
 use Rattle.dispatch.specs.WaitersLaws.{Weighed}
-use Rattle.assignment.specs.Pending.{pending, idle, idleCars, rowCar}
-use Rattle.pending.specs.Masks.{stopMask}
+use Rattle.assignment.specs.Pending.{idle, idleCars, rowCar}
+use Rattle.pending.specs.declared.StopMasks.{StopMasks}
+use Rattle.pending.specs.Masks.{masksOf}
 use Rattle.rows.specs.RowLaws.{Listed}
 use Rattle.rows.specs.Gathered.{gatheredOf, gathered-held}
 use Rattle.rows.specs.MatrixLaws.{Ready, Rows, listed-number, listed-at, listed-below}
 use Rattle.accepted.specs.Ids.{rising-of}
 
--- the stops with their ids and positions, and the masks of those with a call without a rider, with demand, and pending
-pub record Masks (s : Sheet) (ids : List ℕ) (xs : List Float) (calls demand mask : ℕ) : Type 0 where
+-- the stops with their ids and positions, and their masks
+pub record SeenStops (s : Sheet) (ids : List ℕ) (xs : List Float) (masks : StopMasks) : Type 0 where
   pub stops-held : HoldsStops s ids xs (s .stops)
-  pub calls-are : calls ≡ stopMask s (riderlessCall s)
-  pub demand-is : demand ≡ stopMask s (demandStop s)
-  pub stops-are : mask ≡ stopMask s (pending s)
+  pub masks-are : masks ≡ masksOf s
 
 -- these; the cars; the pending stops and the idle cars, listed
-pub record Survey (s : Sheet) (ids : List ℕ) (xs : List Float) (calls demand mask : ℕ) (stops : List ℕ) (m : ℕ) (cars : List Car) (idle : List ℕ) (n : ℕ) : Type 0 where
-  pub masks : Masks s ids xs calls demand mask
+pub record Survey (s : Sheet) (ids : List ℕ) (xs : List Float) (masks : StopMasks) (stops : List ℕ) (m : ℕ) (cars : List Car) (idle : List ℕ) (n : ℕ) : Type 0 where
+  pub seen : SeenStops s ids xs masks
   pub entry : List ℕ
-  pub listed : Listed mask entry m stops
+  pub listed : Listed (masks .pending) entry m stops
   pub cars-held : HoldsCars s cars
   pub rows : Rows s idle n
 
@@ -138,19 +136,18 @@ weighed-of s h i l =
     }
 
 pub ready : (bytes : List ℕ) (c : Counts) → verdict bytes ≡ Accepted c
-    → (ids : List ℕ) (xs : List Float) (calls demand mask : ℕ) (stops : List ℕ) (m : ℕ) (cars : List Car) (idle : List ℕ) (n : ℕ)
-    → Survey (sheetOf bytes c) ids xs calls demand mask stops m cars idle n → (acar adest : List ℕ) → HoldsAboard (sheetOf bytes c) acar adest (sheetOf bytes c .aboards)
-    → (waiters : List Waiters) → waiters ≡ gatheredOf (sheetOf bytes c) → Ready (sheetOf bytes c) ids xs acar adest mask demand waiters stops m
-ready bytes c e ids xs calls demand mask stops m cars idle n h acar adest ha waiters hw =
+    → (ids : List ℕ) (xs : List Float) (masks : StopMasks) (stops : List ℕ) (m : ℕ) (cars : List Car) (idle : List ℕ) (n : ℕ)
+    → Survey (sheetOf bytes c) ids xs masks stops m cars idle n → (acar adest : List ℕ) → HoldsAboard (sheetOf bytes c) acar adest (sheetOf bytes c .aboards)
+    → (waiters : List Waiters) → waiters ≡ gatheredOf (sheetOf bytes c) → Ready (sheetOf bytes c) ids xs acar adest masks waiters stops m
+ready bytes c e ids xs masks stops m cars idle n h acar adest ha waiters hw =
     let sound = accepted bytes c e .sheet in
     record {
       held = record {
-        stops-held = h .masks .stops-held;
+        stops-held = h .seen .stops-held;
         aboard-held = ha;
         rising = rising-of bytes c e;
         few = sound .most-stops;
-        stops-are = h .masks .stops-are;
-        demand-is = h .masks .demand-is;
+        masks-are = h .seen .masks-are;
       };
       waiting = gathered-held (sheetOf bytes c) waiters hw;
       weighed = weighed-of (sheetOf bytes c) sound;

@@ -11,7 +11,7 @@ ghost use Rattle.layout.specs.Verdict.{verdict};
 ghost use Rattle.manifest.specs.World.{stopId, stopAt};
 ghost use Rattle.manifest.specs.Stops.{HoldsStops};
 ghost use Rattle.manifest.specs.Manifest.{riderlessCall};
-ghost use Rattle.pending.specs.Masks.{stopMask};
+ghost use Rattle.pending.specs.Masks.{stopMask, masksOf};
 ghost use Rattle.cars.specs.Cars.{carsIn};
 ghost use Rattle.rows.specs.RowLaws.{Listed};
 ghost use Rattle.rows.specs.MatrixLaws.{FilledRows};
@@ -23,9 +23,10 @@ use layout::aboard;
 use layout::stop;
 use layout::waiting;
 use manifest::Waiters;
+use pending::StopMasks;
 
 // The ids and the positions of the stops.
-pub fn fill_stops(s: &[u8], c: Counts, ids: &mut [u32], xs: &mut [f64])
+fn fill_stops(s: &[u8], c: Counts, ids: &mut [u32], xs: &mut [f64])
     requires { ⌜ Small c × (length (now ids) ≡ 64) × (length (now xs) ≡ 64) ⌝ }
     ensures ids { λ _. ⌜ (length (now (ids .exit)) ≡ length (now (ids .entry)))
         × (now (ids .exit) ≡ tab (stopId (sheetOf (now (s .entry)) c)) (c .stops) ++ drop (c .stops) (now (ids .entry))) ⌝ }
@@ -36,6 +37,19 @@ pub fn fill_stops(s: &[u8], c: Counts, ids: &mut [u32], xs: &mut [f64])
     let at = c.stops_from();
     fields::fill32(s, at, stop::BITS, stop::ID, n, ids);
     fields::fill_doubles(s, at, stop::BITS, stop::POSITION, n, xs);
+}
+
+// The ids and the positions of the stops of an accepted sheet, and their masks.
+pub fn see_stops(s: &[u8], c: Counts, ids: &mut [u32], xs: &mut [f64]) -> StopMasks
+    requires { ⌜ (verdict (now s) ≡ Accepted c) × (length (now ids) ≡ 64) × (length (now xs) ≡ 64) ⌝ }
+    ensures ids { λ _. ⌜ (length (now (ids .exit)) ≡ length (now (ids .entry)))
+        × (now (ids .exit) ≡ tab (stopId (sheetOf (now (s .entry)) c)) (c .stops) ++ drop (c .stops) (now (ids .entry))) ⌝ }
+    ensures positions { λ _. ⌜ (length (now (xs .exit)) ≡ length (now (xs .entry)))
+        × (now (xs .exit) ≡ tab (stopAt (sheetOf (now (s .entry)) c)) (c .stops) ++ drop (c .stops) (now (xs .entry))) ⌝ }
+    ensures masks { λ r. ⌜ r ≡ masksOf (sheetOf (now (s .entry)) c) ⌝ }
+{
+    fill_stops(s, c, ids, xs);
+    pending::stop_masks(s, c, ids)
 }
 
 // The cars and the destinations of those aboard.
@@ -157,9 +171,7 @@ pub fn fill_matrix<'a>(
     limit: u32,
     ids: &'a [u32],
     xs: &'a [f64],
-    calls: u64,
-    demand: u64,
-    pending: u64,
+    masks: StopMasks,
     stops: &'a [usize],
     m: usize,
     cars: [Car; 32],
@@ -170,13 +182,13 @@ pub fn fill_matrix<'a>(
 ) -> u64
     requires { ⌜ (verdict (now s) ≡ Accepted c) × (length (now ids) ≡ 64) × (length (now xs) ≡ 64) × (length (now stops) ≡ 64)
         × (length (now idle) ≡ 64) × (m ≤ columns) × (columns ≤ 64) × (2048 ≤ length (now matrix)) ⌝ }
-    requires { ⌜ Survey (sheetOf (now s) c) (now ids) (now xs) calls demand pending (now stops) m cars (now idle) n ⌝ }
+    requires { ⌜ Survey (sheetOf (now s) c) (now ids) (now xs) masks (now stops) m cars (now idle) n ⌝ }
     ensures { λ r. ⌜ FilledRows (sheetOf (now (s .entry)) c) limit n columns (now (matrix .entry)) r (now (matrix .exit)) ⌝ }
 {
     let mut acar = [0u32; 512];
     let mut adest = [0u32; 512];
     fill_aboard(s, c, &mut acar, &mut adest);
-    let waiters = waiting(s, c, ids, xs, calls);
+    let waiters = waiting(s, c, ids, xs, masks.calls);
     rows::fill_rows(
         s,
         c,
@@ -185,8 +197,7 @@ pub fn fill_matrix<'a>(
         xs,
         &acar,
         &adest,
-        pending,
-        demand,
+        masks,
         waiters,
         stops,
         m,

@@ -2,7 +2,7 @@
 use Rattle.layout.specs.Records.{from, read}
 use Rattle.layout.specs.Table.{aboard·car, aboard·destination}
 use Prim.Native.Nat.{ℕ, _<_}
-use mathlib.Core.Path.{_≡_}
+use mathlib.Core.Path.{_≡_, ap}
 use mathlib.Core.Bool.{Bool, _&&_, _||_, cond}
 use mathlib.Core.List.{List}
 use lib.Dec.{eqb, ltb}
@@ -12,10 +12,27 @@ use Rattle.fields.specs.Named.{contains}
 use Rattle.mask.specs.Mask.{has, built}
 use Rattle.components.specs.Sheet.{Sheet}
 use Rattle.manifest.specs.World.{stopId}
+use Rattle.manifest.specs.Manifest.{riderlessCall, demandStop}
+use Rattle.assignment.specs.Pending.{pending}
+use Rattle.pending.specs.declared.StopMasks.{StopMasks}
 
 -- the stops with a record that pass
 abbrev pub stopMask : Sheet → (ℕ → Bool) → ℕ
 stopMask s p = built (λ j. ltb j (s .stops) && p j) 64
+
+-- those with a call without a rider, those with demand, the pending ones
+abbrev pub masksOf : Sheet → StopMasks
+masksOf s = record { calls = stopMask s (riderlessCall s); demand = stopMask s (demandStop s); pending = stopMask s (pending s) }
+
+module _ (s : Sheet) {masks : StopMasks} (e : masks ≡ masksOf s) where
+  pub calls-are : masks .calls ≡ stopMask s (riderlessCall s)
+  calls-are = ap (λ (m : StopMasks). m .calls) e
+
+  pub demand-is : masks .demand ≡ stopMask s (demandStop s)
+  demand-is = ap (λ (m : StopMasks). m .demand) e
+
+  pub pending-are : masks .pending ≡ stopMask s (pending s)
+  pending-are = ap (λ (m : StopMasks). m .pending) e
 
 -- the stops of every line, or of the lines with this id
 unfoldable pub lineStop : Sheet → Bool → ℕ → ℕ → ℕ → Bool

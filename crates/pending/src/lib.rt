@@ -15,7 +15,7 @@ ghost use mathlib.Core.List.{_++_};
 ghost use lib.ListN.{drop};
 ghost use Prim.Native.Nat.{_+_, _*_, _^_};
 ghost use Rattle.laws.specs.Tables.{tab};
-ghost use Rattle.pending.specs.Masks.{stopMask, HoldsNames, boundId, Boarded};
+ghost use Rattle.pending.specs.Masks.{stopMask, masksOf, HoldsNames, boundId, Boarded};
 use components::Line;
 use layout::Counts;
 use layout::aboard;
@@ -50,7 +50,7 @@ pub fn line_stops(s: &[u8], c: Counts, every: bool, id: u32) -> u64
 }
 
 // The stops where a hall call has no rider.
-pub fn call_stops<'a>(s: &'a [u8], c: Counts, names: &'a [u32]) -> u64
+fn call_stops<'a>(s: &'a [u8], c: Counts, names: &'a [u32]) -> u64
     requires { ⌜ Small c × (c .demands ≤ 64) × (length (now names) ≡ 64) × HoldsNames (sheetOf (now s) c) (now names) ⌝ }
     ensures { λ r. ⌜ r ≡ stopMask (sheetOf (now (s .entry)) c) (riderlessCall (sheetOf (now (s .entry)) c)) ⌝ }
 {
@@ -101,7 +101,7 @@ fn waited_stops<'a>(s: &'a [u8], c: Counts, names: &'a [u32]) -> u64
 }
 
 // The demand stops of the group.
-pub fn demand_stops<'a>(s: &'a [u8], c: Counts, calls: u64, names: &'a [u32]) -> u64
+fn demand_stops<'a>(s: &'a [u8], c: Counts, calls: u64, names: &'a [u32]) -> u64
     requires { ⌜ Small c × (c .demands ≤ 64) × (length (now names) ≡ 64) × HoldsNames (sheetOf (now s) c) (now names) ⌝ }
     requires { ⌜ calls ≡ stopMask (sheetOf (now s) c) (riderlessCall (sheetOf (now s) c)) ⌝ }
     ensures { λ r. ⌜ r ≡ stopMask (sheetOf (now (s .entry)) c) (demandStop (sheetOf (now (s .entry)) c)) ⌝ }
@@ -161,7 +161,7 @@ fn bound_stops<'a>(s: &'a [u8], c: Counts, names: &'a [u32]) -> u64
 }
 
 // The pending stops.
-pub fn pending_stops<'a>(s: &'a [u8], c: Counts, demand: u64, names: &'a [u32]) -> u64
+fn pending_stops<'a>(s: &'a [u8], c: Counts, demand: u64, names: &'a [u32]) -> u64
     requires { ⌜ Small c × (length (now names) ≡ 64) × HoldsNames (sheetOf (now s) c) (now names) × Boarded (sheetOf (now s) c) ⌝ }
     requires { ⌜ demand ≡ stopMask (sheetOf (now s) c) (demandStop (sheetOf (now s) c)) ⌝ }
     ensures { λ r. ⌜ r ≡ stopMask (sheetOf (now (s .entry)) c) (pending (sheetOf (now (s .entry)) c)) ⌝ }
@@ -169,4 +169,26 @@ pub fn pending_stops<'a>(s: &'a [u8], c: Counts, demand: u64, names: &'a [u32]) 
     let bound = bound_stops(s, c, names);
     let covered = covered::covered_stops(s, c, demand, names);
     mask::without(demand, mask::without(covered, bound))
+}
+
+// The masks of a sheet's stops: those with a call without a rider, those with demand, the pending ones.
+pub struct StopMasks {
+    pub calls: u64,
+    pub demand: u64,
+    pub pending: u64,
+}
+
+// The masks of the stops, whose ids are at hand.
+pub fn stop_masks<'a>(s: &'a [u8], c: Counts, names: &'a [u32]) -> StopMasks
+    requires { ⌜ Small c × (c .demands ≤ 64) × (length (now names) ≡ 64) × HoldsNames (sheetOf (now s) c) (now names) × Boarded (sheetOf (now s) c) ⌝ }
+    ensures { λ r. ⌜ r ≡ masksOf (sheetOf (now (s .entry)) c) ⌝ }
+{
+    let calls = call_stops(s, c, names);
+    let demand = demand_stops(s, c, calls, names);
+    let pending = pending_stops(s, c, demand, names);
+    StopMasks {
+        calls,
+        demand,
+        pending,
+    }
 }

@@ -18,12 +18,11 @@ use Rattle.layout.specs.Records.{sheetOf}
 use Rattle.layout.specs.Verdict.{verdict}
 use Rattle.accepted.specs.Accepted.{accepted}
 use Rattle.manifest.specs.declared.Waiters.{Waiters}
-use Rattle.manifest.specs.Manifest.{demandStop}
 use Rattle.manifest.specs.Holds.{HoldsAboard}
 use Rattle.manifest.specs.Stops.{HoldsStops}
-use Rattle.assignment.specs.Pending.{pending}
 use Rattle.assignment.specs.Cells.{rank}
-use Rattle.pending.specs.Masks.{stopMask}
+use Rattle.pending.specs.declared.StopMasks.{StopMasks}
+use Rattle.pending.specs.Masks.{masksOf}
 use Rattle.ranking.specs.declared.Row.{Row}
 use Rattle.ranking.specs.Ranking.{rankBy}
 use Rattle.ranking.specs.RankingLaws.{HoldsRow, rank-is}
@@ -78,17 +77,15 @@ disagrees s p {a} {b} ea eb e = ap (λ (z : Bool). bit (not z)) (sym e ∙ eb �
 -- ---- the rank
 
 module _ (bytes : List ℕ) (c : Counts) (e : verdict bytes ≡ Accepted c) (ids : List ℕ) (xs : List Float) (hs : HoldsStops (sheetOf bytes c) ids xs (sheetOf bytes c .stops)) where
-  pub held : (acar adest : List ℕ) → HoldsAboard (sheetOf bytes c) acar adest (sheetOf bytes c .aboards) → (stops demand : ℕ)
-      → stops ≡ stopMask (sheetOf bytes c) (pending (sheetOf bytes c)) → demand ≡ stopMask (sheetOf bytes c) (demandStop (sheetOf bytes c))
-      → Held (sheetOf bytes c) ids xs acar adest stops demand
-  held acar adest ha stops demand es ed =
+  pub held : (acar adest : List ℕ) → HoldsAboard (sheetOf bytes c) acar adest (sheetOf bytes c .aboards) → (masks : StopMasks) → masks ≡ masksOf (sheetOf bytes c)
+      → Held (sheetOf bytes c) ids xs acar adest masks
+  held acar adest ha masks em =
       record {
         stops-held = hs;
         aboard-held = ha;
         rising = rising-of bytes c e;
         few = accepted bytes c e .sheet .most-stops;
-        stops-are = es;
-        demand-is = ed;
+        masks-are = em;
       }
 
   pub ranked : (i j limit : ℕ) → i < sheetOf bytes c .cars → j < sheetOf bytes c .stops → (row : Row) {dests : List Float}

@@ -36,6 +36,7 @@ use layout::Counts;
 use layout::Reading;
 use libc::STDIN_FILENO;
 use libc::STDOUT_FILENO;
+use pending::StopMasks;
 ghost use mathlib.Core.Path.{_≡_};
 ghost use Prim.Native.Nat.{_+_, _*_, _^_, _≤_, _<_};
 ghost use lib.ListN.{length};
@@ -45,11 +46,8 @@ ghost use Rattle.bits.specs.Field.{IsField};
 ghost use Rattle.layout.specs.declared.Reading.the-variants.{Accepted};
 ghost use Rattle.layout.specs.Records.{sheetOf};
 ghost use Rattle.layout.specs.Verdict.{verdict};
-ghost use Rattle.manifest.specs.Manifest.{riderlessCall, demandStop};
-ghost use Rattle.manifest.specs.Stops.{HoldsStops};
-ghost use Rattle.assignment.specs.Pending.{pending};
 ghost use Rattle.assignment.specs.Cells.{rank};
-ghost use Rattle.pending.specs.Masks.{stopMask};
+ghost use Rattle.cells.specs.Survey.{SeenStops};
 ghost use Rattle.replay_ranks.specs.Ranks.{bitsOf, answerOf, answerFor, same, differs, caseAt, pairAt, refusedAt, comparedBy, cutAt, Inside};
 ghost use Rattle.replay_ranks.specs.Ranks.{Counted, Replayed};
 ghost use Rattle.replay_ranks.specs.TurnLaws.{Turned};
@@ -128,36 +126,19 @@ fn rank_by<'a>(
     j: usize,
     ids: &'a [u32],
     xs: &'a [f64],
-    calls: u64,
-    demand: u64,
-    stops: u64,
+    masks: StopMasks,
 ) -> Rank
     requires { ⌜ (verdict (now s) ≡ Accepted c) × (i < c .cars) × (j < c .stops) × (length (now ids) ≡ 64) × (length (now xs) ≡ 64) ⌝ }
-    requires { ⌜ HoldsStops (sheetOf (now s) c) (now ids) (now xs) (c .stops)
-        × (calls ≡ stopMask (sheetOf (now s) c) (riderlessCall (sheetOf (now s) c)))
-        × (demand ≡ stopMask (sheetOf (now s) c) (demandStop (sheetOf (now s) c)))
-        × (stops ≡ stopMask (sheetOf (now s) c) (pending (sheetOf (now s) c))) ⌝ }
+    requires { ⌜ SeenStops (sheetOf (now s) c) (now ids) (now xs) masks ⌝ }
     ensures { λ r. ⌜ r ≡ rank (sheetOf (now (s .entry)) c) i j ⌝ }
 {
     let mut acar = [0u32; 512];
     let mut adest = [0u32; 512];
     let mut dests = [0.0f64; 512];
     cells::fill_aboard(s, c, &mut acar, &mut adest);
-    let waiters = cells::waiting(s, c, ids, xs, calls);
+    let waiters = cells::waiting(s, c, ids, xs, masks.calls);
     let car = sheet::car_at(s, c, i);
-    let row = rows::row_for(
-        s,
-        c,
-        car,
-        65535,
-        ids,
-        xs,
-        &acar,
-        &adest,
-        stops,
-        demand,
-        &mut dests,
-    );
+    let row = rows::row_for(s, c, car, 65535, ids, xs, &acar, &adest, masks, &mut dests);
     let v = waiters[j];
     ranking::rank(row, &dests, v, xs, c.stops as usize, j)
 }
@@ -169,11 +150,8 @@ fn rank_of(s: &[u8], c: Counts, i: u32, j: usize) -> Rank
 {
     let mut ids = [0u32; 64];
     let mut xs = [0.0f64; 64];
-    cells::fill_stops(s, c, &mut ids, &mut xs);
-    let calls = pending::call_stops(s, c, &ids);
-    let demand = pending::demand_stops(s, c, calls, &ids);
-    let stops = pending::pending_stops(s, c, demand, &ids);
-    rank_by(s, c, i, j, &ids, &xs, calls, demand, stops)
+    let masks = cells::see_stops(s, c, &mut ids, &mut xs);
+    rank_by(s, c, i, j, &ids, &xs, masks)
 }
 
 // What the proved functions answer of a pair. Where there is no such car or stop, 256, which no byte holds, so that it differs from all that is stored.

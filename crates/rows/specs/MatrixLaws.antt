@@ -33,7 +33,8 @@ use Rattle.dispatch.specs.WaitersLaws.{Weighed, HoldsWaiters}
 use Rattle.assignment.specs.Pending.{pending, pendingStops, columnStop, idleCars, rowCar}
 use Rattle.assignment.specs.Candidates.{kept, keptOf}
 use Rattle.assignment.specs.Cells.{matrix}
-use Rattle.pending.specs.Masks.{stopMask}
+use Rattle.pending.specs.declared.StopMasks.{StopMasks}
+use Rattle.pending.specs.Masks.{stopMask, pending-are}
 use Rattle.sweep.specs.declared.Sweep.{Sweep}
 use Rattle.ranking.specs.declared.Row.{Row}
 use Rattle.ranking.specs.Ranking.{sweepBy}
@@ -122,40 +123,40 @@ pub kept-size : (s : Sheet) (limit m : ℕ) (car : Car) → s .stops ≤ 64 → 
 kept-size s limit m car few e = masked-count (keptOf s car limit) (s .stops) few m e
 
 -- the row of a car by value, from what is held of the sheet
-unfoldable pub rowFor : Sheet → List ℕ → List Float → List ℕ → List ℕ → ℕ → ℕ → ℕ → Car → Row
-rowFor s ids xs acar adest stops demand limit car =
+unfoldable pub rowFor : Sheet → List ℕ → List Float → List ℕ → List ℕ → StopMasks → ℕ → Car → Row
+rowFor s ids xs acar adest masks limit car =
     record {
       policy = s .policy;
       car = car;
-      sweep = sweepBy (s .policy .strategy) car stops demand xs (s .stops);
+      sweep = sweepBy (s .policy .strategy) car (masks .pending) (masks .demand) xs (s .stops);
       goal = goalOf (positionIn ids xs (s .stops)) (car .phase);
       riders = ridersIn ids (s .stops) acar adest (car .id) (s .aboards);
-      demand = demand;
+      demand = masks .demand;
       kept = stopMask s (keptOf s car limit);
     }
 
-pub row-for-is : (s : Sheet) (ids : List ℕ) (xs : List Float) (acar adest : List ℕ) (stops demand limit : ℕ) (policy : Policy) (car : Car) (sweep : Sweep) (goal : Place) (riders : Riders) (kept : ℕ)
+pub row-for-is : (s : Sheet) (ids : List ℕ) (xs : List Float) (acar adest : List ℕ) (masks : StopMasks) (limit : ℕ) (policy : Policy) (car : Car) (sweep : Sweep) (goal : Place) (riders : Riders) (kept : ℕ)
     → policy ≡ s .policy → riders ≡ ridersIn ids (s .stops) acar adest (car .id) (s .aboards)
-    → goal ≡ goalOf (positionIn ids xs (s .stops)) (car .phase) → sweep ≡ sweepBy (policy .strategy) car stops demand xs (s .stops)
+    → goal ≡ goalOf (positionIn ids xs (s .stops)) (car .phase) → sweep ≡ sweepBy (policy .strategy) car (masks .pending) (masks .demand) xs (s .stops)
     → kept ≡ stopMask s (keptOf s car limit)
-    → record { policy = policy; car = car; sweep = sweep; goal = goal; riders = riders; demand = demand; kept = kept } ≡ rowFor s ids xs acar adest stops demand limit car
+    → record { policy = policy; car = car; sweep = sweep; goal = goal; riders = riders; demand = masks .demand; kept = kept } ≡ rowFor s ids xs acar adest masks limit car
 unfolding rowFor
-row-for-is s ids xs acar adest stops demand limit policy car sweep goal riders kept ep er eg es ek = rw (es, ep, er, eg, ek) refl
+row-for-is s ids xs acar adest masks limit policy car sweep goal riders kept ep er eg es ek = rw (es, ep, er, eg, ek) refl
 
 -- it is the row of the record that the car is
 pub record RowOf (s : Sheet) (limit : ℕ) (car : Car) (row : Row) (dests : List Float) : Type 0 where
   pub held : (i : ℕ) → car ≡ s .car i → HoldsRow s i limit row dests
 
-pub row-of : (s : Sheet) (ids : List ℕ) (xs : List Float) (acar adest : List ℕ) (stops demand : ℕ) → Held s ids xs acar adest stops demand
-    → (limit : ℕ) (car : Car) (row : Row) (entry : List Float) {dests : List Float} → row ≡ rowFor s ids xs acar adest stops demand limit car
+pub row-of : (s : Sheet) (ids : List ℕ) (xs : List Float) (acar adest : List ℕ) (masks : StopMasks) → Held s ids xs acar adest masks
+    → (limit : ℕ) (car : Car) (row : Row) (entry : List Float) {dests : List Float} → row ≡ rowFor s ids xs acar adest masks limit car
     → dests ≡ destsIn ids (s .stops) acar adest (car .id) xs (s .aboards) ++ drop (row .riders .count) entry → RowOf s limit car row dests
 unfolding rowFor
-row-of s ids xs acar adest stops demand h limit car row entry er ed =
+row-of s ids xs acar adest masks h limit car row entry er ed =
     let riders : row .riders ≡ ridersIn ids (s .stops) acar adest (car .id) (s .aboards) = ap (λ (r : Row). r .riders) er in
     record {
       held = λ i e.
           rw er
-          (row-held s ids xs acar adest stops demand h i limit (s .policy) car (sweepBy (s .policy .strategy) car stops demand xs (s .stops))
+          (row-held s ids xs acar adest masks h i limit (s .policy) car (sweepBy (s .policy .strategy) car (masks .pending) (masks .demand) xs (s .stops))
           (goalOf (positionIn ids xs (s .stops)) (car .phase)) (ridersIn ids (s .stops) acar adest (car .id) (s .aboards)) (stopMask s (keptOf s car limit))
           refl e (record { answered = refl; held = rw riders at ed }) refl refl refl);
     }
@@ -166,32 +167,32 @@ pub record FilledRow (s : Sheet) (limit i n : ℕ) (exit : List ℕ) : Type 0 wh
 
 -- ---- what the pass has at hand when it fills rows
 
-pub record Ready (s : Sheet) (ids : List ℕ) (xs : List Float) (acar adest : List ℕ) (mask demand : ℕ) (waiters : List Waiters) (stops : List ℕ) (m : ℕ) : Type 0 where
-  pub held : Held s ids xs acar adest mask demand
+pub record Ready (s : Sheet) (ids : List ℕ) (xs : List Float) (acar adest : List ℕ) (masks : StopMasks) (waiters : List Waiters) (stops : List ℕ) (m : ℕ) : Type 0 where
+  pub held : Held s ids xs acar adest masks
   pub waiting : (j : ℕ) → j < s .stops → HoldsWaiters s j (getD waiters j noWaiters)
   pub weighed : (i : ℕ) → i < s .cars → Weighed s i
   pub entry : List ℕ
-  pub listed : Listed mask entry m stops
+  pub listed : Listed (masks .pending) entry m stops
 
-module _ (s : Sheet) (ids : List ℕ) (xs : List Float) (acar adest : List ℕ) (mask demand : ℕ) (waiters : List Waiters) (stops : List ℕ) (m : ℕ)
-    (h : Ready s ids xs acar adest mask demand waiters stops m) where
+module _ (s : Sheet) (ids : List ℕ) (xs : List Float) (acar adest : List ℕ) (masks : StopMasks) (waiters : List Waiters) (stops : List ℕ) (m : ℕ)
+    (h : Ready s ids xs acar adest masks waiters stops m) where
   pub ready-few : m ≤ 64
-  ready-few = let few = count-le (has mask) 64 in omega (arith, h .listed .counted)
+  ready-few = let few = count-le (has (masks .pending)) 64 in omega (arith, h .listed .counted)
 
   pub ready-below : (k : ℕ) → k < m → getD stops k 0 < s .stops
   ready-below k l =
-      rw (listed-stop s (h .held .few) mask (h .held .stops-are) (h .entry) m stops (h .listed) k l)
-      (column-below s (h .held .few) mask (h .held .stops-are) (h .entry) m stops (h .listed) k l)
+      rw (listed-stop s (h .held .few) (masks .pending) (pending-are s (h .held .masks-are)) (h .entry) m stops (h .listed) k l)
+      (column-below s (h .held .few) (masks .pending) (pending-are s (h .held .masks-are)) (h .entry) m stops (h .listed) k l)
 
   pub ready-row : (i limit : ℕ) (row : Row) {dests : List Float} → i < s .cars → HoldsRow s i limit row dests → (r n : ℕ)
       → rowCar s r ≡ i
       → tab (padded (rowCell row dests waiters xs (s .stops) stops) m) n ≡ tab (matrix s limit r) n
   ready-row i limit row {dests} l hr r n e =
-      row-is s (h .held .few) mask (h .held .stops-are) (h .entry) m stops (h .listed) ids xs (h .held .stops-held) r limit (rw e (h .weighed i l)) row dests
+      row-is s (h .held .few) (masks .pending) (pending-are s (h .held .masks-are)) (h .entry) m stops (h .listed) ids xs (h .held .stops-held) r limit (rw e (h .weighed i l)) row dests
       (rw e hr) waiters (h .waiting) n
 
 -- what the row of a car needs, in a buffer of some cells
-pub record CarNeeds (b : List ℕ) (c : Counts) (ids : List ℕ) (xs : List Float) (acar adest : List ℕ) (mask demand : ℕ) (waiters : List Waiters) (stops : List ℕ) (m cells : ℕ) : Type 0 where
+pub record CarNeeds (b : List ℕ) (c : Counts) (ids : List ℕ) (xs : List Float) (acar adest : List ℕ) (masks : StopMasks) (waiters : List Waiters) (stops : List ℕ) (m cells : ℕ) : Type 0 where
   pub small : Small c
   pub ids-size : length ids ≡ 64
   pub xs-size : length xs ≡ 64
@@ -199,7 +200,7 @@ pub record CarNeeds (b : List ℕ) (c : Counts) (ids : List ℕ) (xs : List Floa
   pub adest-size : length adest ≡ 512
   pub stops-size : length stops ≡ 64
   pub fits : m ≤ cells
-  pub ready : Ready (sheetOf b c) ids xs acar adest mask demand waiters stops m
+  pub ready : Ready (sheetOf b c) ids xs acar adest masks waiters stops m
 
 -- the known destinations of a car's riders, in a buffer of 512 that held zeros
 unfoldable pub destsFor : Sheet → List ℕ → List Float → List ℕ → List ℕ → Car → List Float
@@ -207,21 +208,21 @@ destsFor s ids xs acar adest car =
     destsIn ids (s .stops) acar adest (car .id) xs (s .aboards) ++ drop (ridersIn ids (s .stops) acar adest (car .id) (s .aboards) .count) (replicate 512 zero)
 
 -- n cells hold the row of a car by value, and so many of its pairs are ranked
-pub record FilledCar (s : Sheet) (ids : List ℕ) (xs : List Float) (acar adest : List ℕ) (mask demand : ℕ) (waiters : List Waiters) (stops : List ℕ) (m limit : ℕ) (car : Car) (n ranked : ℕ) (exit : List ℕ) : Type 0 where
-  pub row : exit ≡ tab (padded (rowCell (rowFor s ids xs acar adest mask demand limit car) (destsFor s ids xs acar adest car) waiters xs (s .stops) stops) m) n
+pub record FilledCar (s : Sheet) (ids : List ℕ) (xs : List Float) (acar adest : List ℕ) (masks : StopMasks) (waiters : List Waiters) (stops : List ℕ) (m limit : ℕ) (car : Car) (n ranked : ℕ) (exit : List ℕ) : Type 0 where
+  pub row : exit ≡ tab (padded (rowCell (rowFor s ids xs acar adest masks limit car) (destsFor s ids xs acar adest car) waiters xs (s .stops) stops) m) n
   pub number : ranked ≡ count (keptOf s car limit) (s .stops)
 
 -- the row of car i of a list that holds the sheet's cars
-pub filled-at : (s : Sheet) (ids : List ℕ) (xs : List Float) (acar adest : List ℕ) (mask demand : ℕ) (waiters : List Waiters) (stops : List ℕ) (m : ℕ)
-    → Ready s ids xs acar adest mask demand waiters stops m → (limit i n ranked : ℕ) (cars : List Car) (exit : List ℕ) → HoldsCars s cars → i < s .cars
-    → FilledCar s ids xs acar adest mask demand waiters stops m limit (getD cars i noCar) n ranked exit
+pub filled-at : (s : Sheet) (ids : List ℕ) (xs : List Float) (acar adest : List ℕ) (masks : StopMasks) (waiters : List Waiters) (stops : List ℕ) (m : ℕ)
+    → Ready s ids xs acar adest masks waiters stops m → (limit i n ranked : ℕ) (cars : List Car) (exit : List ℕ) → HoldsCars s cars → i < s .cars
+    → FilledCar s ids xs acar adest masks waiters stops m limit (getD cars i noCar) n ranked exit
     → FilledRow s limit i n exit × (ranked ≡ keptNumber s limit i)
 unfolding destsFor keptNumber rowFor
-filled-at s ids xs acar adest mask demand waiters stops m h limit i n ranked cars exit hc l f =
+filled-at s ids xs acar adest masks waiters stops m h limit i n ranked cars exit hc l f =
     let e = hc .each i l in
     let car = getD cars i noCar in
-    let row = row-of s ids xs acar adest mask demand (h .held) limit car (rowFor s ids xs acar adest mask demand limit car) (replicate 512 zero) refl refl in (
-      record { row = λ r q. f .row ∙ ready-row s ids xs acar adest mask demand waiters stops m h i limit (rowFor s ids xs acar adest mask demand limit car) l (row .held i e) r n q },
+    let row = row-of s ids xs acar adest masks (h .held) limit car (rowFor s ids xs acar adest masks limit car) (replicate 512 zero) refl refl in (
+      record { row = λ r q. f .row ∙ ready-row s ids xs acar adest masks waiters stops m h i limit (rowFor s ids xs acar adest masks limit car) l (row .held i e) r n q },
       f .number ∙ count-cong (keptOf s car limit) (kept s i limit) (s .stops) (λ j _. ap (λ (k : Car). keptOf s k limit j) e),
     )
 

@@ -9,13 +9,12 @@ use Rattle.components.specs.declared.Car.{Car}
 use Rattle.components.specs.declared.Strategy.{Strategy}
 use Rattle.components.specs.Sheet.{Sheet}
 use Rattle.manifest.specs.World.{stopId, stopAt}
-use Rattle.manifest.specs.Manifest.{demandStop}
 use Rattle.manifest.specs.Stops.{HoldsStops}
 use Rattle.sweep.specs.declared.Sweep.{Sweep}
 use Rattle.sweep.specs.Sweeps.{sweepCode}
-use Rattle.assignment.specs.Pending.{pending}
 use Rattle.assignment.specs.Cells.{sweepAfter}
-use Rattle.pending.specs.Masks.{stopMask}
+use Rattle.pending.specs.declared.StopMasks.{StopMasks}
+use Rattle.pending.specs.Masks.{masksOf, demand-is, pending-are}
 use Rattle.ranking.specs.Ranking.{sweepBy}
 use Rattle.ranking.specs.RankingLaws.{sweep-is}
 use Rattle.rows.specs.HeldLaws.{holds-demand, some-pending}
@@ -24,14 +23,13 @@ use Rattle.rows.specs.HeldLaws.{holds-demand, some-pending}
 abbrev pub codeAfter : Sheet → ℕ → ℕ
 codeAfter s i = sweepCode (sweepAfter s i)
 
--- the stops' positions, and the masks of the pending stops and of those with demand
-pub record Positioned (s : Sheet) (xs : List Float) (mask demand : ℕ) : Type 0 where
+-- the stops' positions and their masks
+pub record Positioned (s : Sheet) (xs : List Float) (masks : StopMasks) : Type 0 where
   pub few : s .stops ≤ 64
   pub at : (j : ℕ) → j < s .stops → getD xs j nan ≡ stopAt s j
-  pub pending-is : mask ≡ stopMask s (pending s)
-  pub demand-is : demand ≡ stopMask s (demandStop s)
+  pub masks-are : masks ≡ masksOf s
 
-module _ (s : Sheet) (xs : List Float) (mask demand : ℕ) (h : Positioned s xs mask demand) where
+module _ (s : Sheet) (xs : List Float) (masks : StopMasks) (h : Positioned s xs masks) where
   -- a sweep looks at no id: the sheet's own stand for them
   abbrev ids : List ℕ
   ids = tab (stopId s) (s .stops)
@@ -41,8 +39,9 @@ module _ (s : Sheet) (xs : List Float) (mask demand : ℕ) (h : Positioned s xs 
 
   -- what the stages before the code give is the code of car i's sweep
   pub code-is : (i : ℕ) {strategy : Strategy} {car : Car} {sweep : Sweep} {code : ℕ} → strategy ≡ s .policy .strategy → car ≡ s .car i
-      → sweep ≡ sweepBy strategy car mask demand xs (s .stops) → code ≡ sweepCode sweep → code ≡ codeAfter s i
+      → sweep ≡ sweepBy strategy car (masks .pending) (masks .demand) xs (s .stops) → code ≡ sweepCode sweep → code ≡ codeAfter s i
   code-is i {strategy} {car} {sweep} {code} et ec es ek =
       ek
       ∙ ap sweepCode
-      (es ∙ rw (et, ec) (sweep-is s ids xs mask demand held (holds-demand s demand (h .few) (h .demand-is)) (some-pending s mask (h .few) (h .pending-is)) i))
+      (es ∙ rw (et, ec) (sweep-is s ids xs (masks .pending) (masks .demand) held (holds-demand s (masks .demand) (h .few) (demand-is s (h .masks-are)))
+      (some-pending s (masks .pending) (h .few) (pending-are s (h .masks-are))) i))

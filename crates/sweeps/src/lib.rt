@@ -10,19 +10,19 @@ ghost use Rattle.layout.specs.Records.{sheetOf};
 ghost use Rattle.sweeps.specs.Swept.{Positioned, codeAfter};
 use components::Car;
 use layout::Counts;
+use pending::StopMasks;
 
 // 2 × sweep + mode of each car record, first in out.
 pub fn fill_sweeps<'a>(
     s: &'a [u8],
     c: Counts,
     cars: [Car; 32],
-    pending: u64,
-    demand: u64,
+    masks: StopMasks,
     xs: &'a [f64],
     out: &mut [u8],
 )
     requires { ⌜ Small c × (length (now xs) ≡ 64) × (32 ≤ length (now out)) × HoldsCars (sheetOf (now s) c) cars ⌝ }
-    requires { ⌜ Positioned (sheetOf (now s) c) (now xs) pending demand ⌝ }
+    requires { ⌜ Positioned (sheetOf (now s) c) (now xs) masks ⌝ }
     ensures { λ _. ⌜ (length (now (out .exit)) ≡ length (now (out .entry)))
         × (now (out .exit) ≡ tab (codeAfter (sheetOf (now (s .entry)) c)) (sheetOf (now (s .entry)) c .cars) ++ drop
         (sheetOf (now (s .entry)) c .cars) (now (out .entry))) ⌝ }
@@ -33,7 +33,14 @@ pub fn fill_sweeps<'a>(
     let mut i: usize = 0;
     while i < n {
         let car = cars[i];
-        let sweep = ranking::sweep_after(strategy, car, pending, demand, xs, c.stops as usize);
+        let sweep = ranking::sweep_after(
+            strategy,
+            car,
+            masks.pending,
+            masks.demand,
+            xs,
+            c.stops as usize,
+        );
         out[i] = sweep.code();
         i += 1;
     }

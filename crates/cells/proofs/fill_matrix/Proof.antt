@@ -2,6 +2,7 @@
 use Rattle.accepted.specs.Accepted.{accepted}
 use Rattle.cells.specs.Survey.{Survey, holds-aboard, ready}
 use Rattle.layout.specs.Records.{sheetOf}
+use Rattle.pending.specs.Masks.{calls-are}
 use Rattle.rows.specs.MatrixLaws.{CarNeeds}
 use borrow.Author.Needs.{needs}
 use lib.ListN.{length}
@@ -21,7 +22,7 @@ unfolding sheetOf
 waiting-requires c κs =
     let a = c .before .before .before .before .before .before .before .before .before .before .before .args in
     let p = c .before .before .before .before .before .before .before .before .before .before .before .pre in
-    (accepted (a .s .now) (a .c) (p .0 .0) .small, p .0 .1, p .0 .2, p .1 .masks .stops-held, p .1 .masks .calls-are)
+    (accepted (a .s .now) (a .c) (p .0 .0) .small, p .0 .1, p .0 .2, p .1 .seen .stops-held, calls-are (sheetOf (a .s .now) (a .c)) (p .1 .seen .masks-are))
 
 fill-rows-requires : tie.Need-fill-rows-requires
 unfolding sheetOf
@@ -39,7 +40,7 @@ fill-rows-requires c κs =
         adest-size = aboard .1 .0;
         stops-size = p .0 .3;
         fits = p .0 .5;
-        ready = ready b (a .c) (p .0 .0) (a .ids .now) (a .xs .now) (a .calls) (a .demand) (a .pending) (a .stops .now) (a .m) (a .cars) (a .idle .now) (a .n) (p .1) _ _ held _ (c .before .before .before .waiting .ensures);
+        ready = ready b (a .c) (p .0 .0) (a .ids .now) (a .xs .now) (a .masks) (a .stops .now) (a .m) (a .cars) (a .idle .now) (a .n) (p .1) _ _ held _ (c .before .before .before .waiting .ensures);
       },
       (p .1 .cars-held, p .1 .rows, p .0 .4, p .0 .6, p .0 .7),
     )

@@ -2,6 +2,7 @@
 use Rattle.accepted.specs.Accepted.{accepted}
 use Rattle.cells.specs.Survey.{holds-aboard}
 use Rattle.layout.specs.Records.{sheetOf}
+use Rattle.pending.specs.Masks.{calls-are}
 use Rattle.rows.specs.MatrixLaws.{row-of}
 use Rattle.replay_ranks.specs.RankLaws.{held, ranked}
 use borrow.Author.Needs.{needs}
@@ -17,10 +18,11 @@ fill-aboard-requires c κs =
     (accepted (a .s .now) (a .c) (p .0 .0) .small, refl, refl)
 
 waiting-requires : tie.Need-waiting-requires
+unfolding sheetOf
 waiting-requires c κs =
     let a = c .before .before .before .before .before .before .before .before .args in
     let p = c .before .before .before .before .before .before .before .before .pre in
-    (accepted (a .s .now) (a .c) (p .0 .0) .small, p .0 .3, p .0 .4, p .1 .0, p .1 .1)
+    (accepted (a .s .now) (a .c) (p .0 .0) .small, p .0 .3, p .0 .4, p .1 .stops-held, calls-are (sheetOf (a .s .now) (a .c)) (p .1 .masks-are))
 
 car-at-requires : tie.Need-car-at-requires
 car-at-requires c κs =
@@ -37,7 +39,7 @@ row-for-requires c κs =
     let aboard = c .before .before .before .before .before .before .before .fill-aboard .ensures in
     let seated = holds-aboard (sheetOf b (a .c)) _ _ _ _ (aboard .0 .1) (aboard .1 .1) in (
       (accepted b (a .c) (p .0 .0) .small, p .0 .3, p .0 .4, aboard .0 .0, aboard .1 .0, refl),
-      held b (a .c) (p .0 .0) (a .ids .now) (a .xs .now) (p .1 .0) _ _ seated (a .stops) (a .demand) (p .1 .3) (p .1 .2),
+      held b (a .c) (p .0 .0) (a .ids .now) (a .xs .now) (p .1 .stops-held) _ _ seated (a .masks) (p .1 .masks-are),
     )
 
 mul-v : tie.Need-mul-v
@@ -68,11 +70,11 @@ returns c =
     let aboard = c .before .before .before .before .before .before .before .before .before .before .before .before .before .fill-aboard .ensures in
     let b = a .s .now in
     let seated = holds-aboard (sheetOf b (a .c)) _ _ _ _ (aboard .0 .1) (aboard .1 .1) in
-    let known = held b (a .c) (p .0 .0) (a .ids .now) (a .xs .now) (p .1 .0) _ _ seated (a .stops) (a .demand) (p .1 .3) (p .1 .2) in
-    let of = row-of (sheetOf b (a .c)) (a .ids .now) (a .xs .now) _ _ (a .stops) (a .demand) known 65535 _ (row .result) _ (row .ensures .0) (row .ensures .1 .2) in
+    let known = held b (a .c) (p .0 .0) (a .ids .now) (a .xs .now) (p .1 .stops-held) _ _ seated (a .masks) (p .1 .masks-are) in
+    let of = row-of (sheetOf b (a .c)) (a .ids .now) (a .xs .now) _ _ (a .masks) known 65535 _ (row .result) _ (row .ensures .0) (row .ensures .1 .2) in
     let waiters = c .before .before .before .before .before .before .before .before .before .before .waiting in
     c .rank .ensures
-    ∙ ranked (a .s .now) (a .c) (p .0 .0) (a .ids .now) (a .xs .now) (p .1 .0) (a .i) (a .j) 65535 (p .0 .1) (p .0 .2) (row .result) (of .held (a .i) (c .before .before .before .before .before .before .before .before .before .car-at .ensures))
+    ∙ ranked (a .s .now) (a .c) (p .0 .0) (a .ids .now) (a .xs .now) (p .1 .stops-held) (a .i) (a .j) 65535 (p .0 .1) (p .0 .2) (row .result) (of .held (a .i) (c .before .before .before .before .before .before .before .before .before .car-at .ensures))
     (waiters .result) (waiters .ensures)
 
 pub rank-by-spec : {M : Type 1} → statement M

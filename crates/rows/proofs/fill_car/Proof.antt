@@ -18,13 +18,13 @@ unfolding sheetOf
 car-row-requires c κs =
     let a = c .before .before .before .before .before .before .before .before .before .before .before .before .before .args in
     let p = c .before .before .before .before .before .before .before .before .before .before .before .before .before .pre in
-    let few = ready-few (sheetOf (a .s .now) (a .c)) (a .ids .now) (a .xs .now) (a .acar .now) (a .adest .now) (a .pending) (a .demand) (a .waiters) (a .stops .now) (a .m) (p .ready) in (
+    let few = ready-few (sheetOf (a .s .now) (a .c)) (a .ids .now) (a .xs .now) (a .acar .now) (a .adest .now) (a .masks) (a .waiters) (a .stops .now) (a .m) (p .ready) in (
       c .before .before .before .before .row-for .ensures .1 .1,
       p .small .stops,
       omega (arith, p .small .stops, p .xs-size),
       omega (arith, few, p .stops-size),
       p .fits,
-      ready-below (sheetOf (a .s .now) (a .c)) (a .ids .now) (a .xs .now) (a .acar .now) (a .adest .now) (a .pending) (a .demand) (a .waiters) (a .stops .now) (a .m) (p .ready),
+      ready-below (sheetOf (a .s .now) (a .c)) (a .ids .now) (a .xs .now) (a .acar .now) (a .adest .now) (a .masks) (a .waiters) (a .stops .now) (a .m) (p .ready),
     )
 
 same-length : tie.Need-same-length

@@ -13,11 +13,11 @@ use Rattle.rows.proofs.fill_rows.Statement.{statement}
 use Rattle.rows.proofs.fill_rows.Tie as tie
 
 abbrev Inv-loop : tie.InvT-loop
-Inv-loop s c limit ids xs acar adest pending demand waiters stops m cars idle n columns matrix₀ ranked₀ at₀ r₀ matrix ranked at r =
+Inv-loop s c limit ids xs acar adest masks waiters stops m cars idle n columns matrix₀ ranked₀ at₀ r₀ matrix ranked at r =
     (r ≤ n) × Filling (sheetOf s c) limit columns r at matrix₀ ranked matrix
 
 abbrev μ-loop : tie.MeasureT-loop
-μ-loop s c limit ids xs acar adest pending demand waiters stops m cars idle n columns matrix₀ ranked₀ at₀ r₀ matrix ranked at r = n - r
+μ-loop s c limit ids xs acar adest masks waiters stops m cars idle n columns matrix₀ ranked₀ at₀ r₀ matrix ranked at r = n - r
 
 loop-holds : tie.Need-loop-holds Inv-loop μ-loop
 loop-holds c = let a = c .before .before .before .before .before .before .before .before .args in (omega arith, filling-start (sheetOf (a .s .now) (a .c)) (a .limit) (a .columns) (a .matrix .now))
@@ -75,7 +75,7 @@ add-ranked c =
     let rows = p .1 .1 in
     let t : l .r < a .n = omega (arith, c .before .before .before .before .before .loop-test .taken) in
     let i = getD (a .idle .now) (l .r) 0 in
-    let f = filled-at (sheetOf (a .s .now) (a .c)) (a .ids .now) (a .xs .now) (a .acar .now) (a .adest .now) (a .pending) (a .demand) (a .waiters) (a .stops .now) (a .m) (p .0 .ready) (a .limit) i _ _ (a .cars) _ (p .1 .0) (omega (arith, rows .car-of (l .r) t, rows .below (l .r) t)) (c .before .before .fill-car-in .ensures) in
+    let f = filled-at (sheetOf (a .s .now) (a .c)) (a .ids .now) (a .xs .now) (a .acar .now) (a .adest .now) (a .masks) (a .waiters) (a .stops .now) (a .m) (p .0 .ready) (a .limit) i _ _ (a .cars) _ (p .1 .0) (omega (arith, rows .car-of (l .r) t, rows .below (l .r) t)) (c .before .before .fill-car-in .ensures) in
     omega (arith, f .1, kept-few (sheetOf (a .s .now) (a .c)) (a .limit) i (p .0 .small .stops), l .inv .1 .few, rows .few)
 
 loop-again : tie.Need-loop-again Inv-loop μ-loop
@@ -88,7 +88,7 @@ loop-again c =
     let t : l .r < a .n = omega (arith, c .before .before .before .before .before .loop-test .taken) in
     let i = getD (a .idle .now) (l .r) 0 in
     let room : l .at + a .columns ≤ length (a .matrix .now) = omega (arith, l .inv .1 .near, p .1 .3, p .1 .4, rows .few) in
-    let f = filled-at (sheetOf (a .s .now) (a .c)) (a .ids .now) (a .xs .now) (a .acar .now) (a .adest .now) (a .pending) (a .demand) (a .waiters) (a .stops .now) (a .m) (p .0 .ready) (a .limit) i _ _ (a .cars) _ (p .1 .0) (omega (arith, rows .car-of (l .r) t, rows .below (l .r) t)) (c .before .before .fill-car-in .ensures) in (
+    let f = filled-at (sheetOf (a .s .now) (a .c)) (a .ids .now) (a .xs .now) (a .acar .now) (a .adest .now) (a .masks) (a .waiters) (a .stops .now) (a .m) (p .0 .ready) (a .limit) i _ _ (a .cars) _ (p .1 .0) (omega (arith, rows .car-of (l .r) t, rows .below (l .r) t)) (c .before .before .fill-car-in .ensures) in (
       omega arith,
       filling-next (sheetOf (a .s .now) (a .c)) (a .limit) (a .columns) (l .r) (l .at) i (l .ranked) _ (l .at + a .columns - l .at) _ (a .matrix .now) (l .matrix) _ (p .1 .3) (p .0 .small .stops) room (l .inv .1) (sym (rows .car-of (l .r) t)) (omega arith) (part-length (l .at) (a .columns) (l .matrix) (omega (arith, room, l .inv .1 .held .size))) (f .0) (f .1),
     )

@@ -2,6 +2,7 @@
 use Rattle.layout.specs.Records.{sheetOf}
 use Rattle.rows.specs.HeldLaws.{Held, seats-length}
 use Rattle.rows.specs.MatrixLaws.{row-for-is}
+use Rattle.pending.specs.Masks.{pending-are}
 use Rattle.riders.specs.Riders.{ridersIn}
 use mathlib.Core.Path.{_≡_}
 use borrow.Author.Needs.{needs}
@@ -33,8 +34,9 @@ sweep-after-requires c κs =
 kept-by-requires : tie.Need-kept-by-requires
 unfolding sheetOf
 kept-by-requires c κs =
+    let a = c .before .before .before .before .before .before .before .before .before .before .before .before .before .before .before .args in
     let p = c .before .before .before .before .before .before .before .before .before .before .before .before .before .before .before .pre in
-    ((p .0 .0, p .0 .2, record { at = p .1 .stops-held .at }, p .1 .rising), p .1 .stops-are)
+    ((p .0 .0, p .0 .2, record { at = p .1 .stops-held .at }, p .1 .rising), pending-are (sheetOf (a .s .now) (a .c)) (p .1 .masks-are))
 
 returns : tie.Need-returns
 unfolding sheetOf
@@ -47,7 +49,7 @@ returns c =
     let sweep = c .before .sweep-after in
     let seated : riders .result ≡ ridersIn (a .ids .now) (a .c .stops) (a .acar .now) (a .adest .now) (a .car .id) (a .c .aboards) = riders .ensures .answered in
     let len = seats-length (a .ids .now) (a .xs .now) (a .c .stops) (a .acar .now) (a .adest .now) (a .c .aboards) (a .car .id) (riders .result) (riders .ensures) (omega (arith, p .0 .0 .aboards, p .0 .5)) in (
-      row-for-is (sheetOf (a .s .now) (a .c)) (a .ids .now) (a .xs .now) (a .acar .now) (a .adest .now) (a .stops) (a .demand) (a .limit)
+      row-for-is (sheetOf (a .s .now) (a .c)) (a .ids .now) (a .xs .now) (a .acar .now) (a .adest .now) (a .masks) (a .limit)
           (policy .result) (a .car) (sweep .result) (goal .result) (riders .result) (c .kept-by .result)
           (policy .ensures) seated (goal .ensures) (sweep .ensures) (c .kept-by .ensures),
       (len .0, len .1, riders .ensures .held),

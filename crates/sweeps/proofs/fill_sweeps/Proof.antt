@@ -15,10 +15,10 @@ use Rattle.sweeps.proofs.fill_sweeps.Statement.{statement}
 use Rattle.sweeps.proofs.fill_sweeps.Tie as tie
 
 abbrev Inv-loop : tie.InvT-loop
-Inv-loop s c pending demand xs out₀ cars strategy n i₀ out i = (i ≤ n) × (length out ≡ length out₀) × (out ≡ tab (codeAfter (sheetOf s c)) i ++ drop i out₀)
+Inv-loop s c masks xs out₀ cars strategy n i₀ out i = (i ≤ n) × (length out ≡ length out₀) × (out ≡ tab (codeAfter (sheetOf s c)) i ++ drop i out₀)
 
 abbrev μ-loop : tie.MeasureT-loop
-μ-loop s c pending demand xs out₀ cars strategy n i₀ out i = n - i
+μ-loop s c masks xs out₀ cars strategy n i₀ out i = n - i
 
 loop-holds : tie.Need-loop-holds Inv-loop μ-loop
 unfolding tab
@@ -47,7 +47,7 @@ loop-again c =
       omega (arith, t),
       simp length-set (l .inv .1),
       tab-next (codeAfter s) (a .out .now) (l .out) (l .i) (c .code .result) (omega (arith, p .0 .0 .cars, p .0 .2, t)) (l .inv .2)
-          (code-is s (a .xs .now) (a .pending) (a .demand) (p .1) (l .i) (ap (λ (x : Policy). x .strategy) (c .before .before .before .before .before .before .before .policy-at .ensures)) (p .0 .3 .each (l .i) t) (c .before .sweep-after .ensures) (c .code .ensures)),
+          (code-is s (a .xs .now) (a .masks) (p .1) (l .i) (ap (λ (x : Policy). x .strategy) (c .before .before .before .before .before .before .before .policy-at .ensures)) (p .0 .3 .each (l .i) t) (c .before .sweep-after .ensures) (c .code .ensures)),
     )
 
 same-length : tie.Need-same-length Inv-loop μ-loop
