@@ -15,12 +15,13 @@ use Rattle.layout.specs.declared.Reading.the-variants as reading
 use Rattle.layout.specs.Records.{sheetOf}
 use Rattle.layout.specs.Verdict.{verdict}
 use Rattle.manifest.specs.World.{stopId}
-use Rattle.assignment.specs.Pending.{pendingStops, columnStop}
+use Rattle.assignment.specs.Pending.{pending, pendingStops, columnStop}
 use Rattle.assignment.specs.CellLaws.{pending-le}
-use Rattle.rows.specs.RowLaws.{Listed}
+use Rattle.mask.specs.declared.Ones.{Ones}
+use Rattle.mask.specs.Ones.{onesOf}
 use Rattle.rows.specs.MatrixLaws.{listed-count, listed-stop, column-below}
 use Rattle.pending.specs.declared.StopMasks.{StopMasks}
-use Rattle.pending.specs.Masks.{pending-are}
+use Rattle.pending.specs.Masks.{stopMask, pending-are}
 use Rattle.cells.specs.Survey.{SeenStops}
 use Rattle.bench.specs.declared.PendingIds.{PendingIds}
 use Rattle.bench.specs.declared.PendingIds.the-variants.{Found, Refused}
@@ -91,22 +92,34 @@ pub at-least : (places : ℕ) → fewPlaces places ≡ false → 64 ≤ places
 unfolding fewPlaces
 at-least places e = ltb-false places 64 e
 
--- the stops of the pending mask are the columns'
-module _ (s : Sheet) (few : s .stops ≤ 64) (ids : List ℕ) (xs : List Float) (masks : StopMasks) (h : SeenStops s ids xs masks) (blank : List ℕ) (m : ℕ)
-    (listed : List ℕ) (l : Listed (masks .pending) blank m listed) where
-  pub found : m ≡ pendingStops s
-  found = listed-count s few (masks .pending) (pending-are s (h .masks-are)) blank m listed l
+-- the id of listed stop k
+unfoldable pub named : Ones → List ℕ → ℕ → ℕ
+named listed ids k = getD ids (getD (listed .at) k 0) 0
 
-  pub most : m ≤ 64
+-- the stops of the pending mask are the columns'
+module _ (s : Sheet) (few : s .stops ≤ 64) (ids : List ℕ) (xs : List Float) (masks : StopMasks) (h : SeenStops s ids xs masks) (listed : Ones)
+    (l : listed ≡ onesOf (masks .pending)) where
+  mask-is : masks .pending ≡ stopMask s (pending s)
+  mask-is = pending-are s (h .masks-are)
+
+  pub found : listed .count ≡ pendingStops s
+  found = listed-count s few (masks .pending) mask-is listed l
+
+  pub most : listed .count ≤ 64
   most = omega (arith, found, pending-le s)
 
-  pub below : (k : ℕ) → k < m → getD listed k 0 < 64
-  below k lk = rw (listed-stop s few (masks .pending) (pending-are s (h .masks-are)) blank m listed l k lk) (omega (arith, column-below s few (masks .pending) (pending-are s (h .masks-are)) blank m listed l k lk))
+  pub below : (k : ℕ) → k < listed .count → getD (listed .at) k 0 < 64
+  below k lk =
+      rw (listed-stop s few (masks .pending) mask-is listed l k lk)
+      (omega (arith, column-below s few (masks .pending) mask-is listed l k lk))
 
-  pub ids-are : (entry : List ℕ) {exit : List ℕ} → exit ≡ tab (λ k. getD ids (getD listed k 0) 0) m ++ drop m entry → exit ≡ idsOf s entry
-  unfolding idsOf
+  pub ids-are : (entry : List ℕ) {exit : List ℕ} → exit ≡ tab (named listed ids) (listed .count) ++ drop (listed .count) entry
+      → exit ≡ idsOf s entry
+  unfolding idsOf named
   ids-are entry {exit} e =
-      e ∙ ap (λ (t : List ℕ). t ++ drop m entry)
-      (tab-cong (λ k. getD ids (getD listed k 0) 0) (λ k. stopId s (columnStop s k)) m
-      (λ k lk. rw (listed-stop s few (masks .pending) (pending-are s (h .masks-are)) blank m listed l k lk) (h .stops-held .id-of (columnStop s k) (column-below s few (masks .pending) (pending-are s (h .masks-are)) blank m listed l k lk))))
+      e ∙ ap (λ (t : List ℕ). t ++ drop (listed .count) entry)
+      (tab-cong (named listed ids) (λ k. stopId s (columnStop s k)) (listed .count)
+      (λ k lk.
+      rw (listed-stop s few (masks .pending) mask-is listed l k lk)
+      (h .stops-held .id-of (columnStop s k) (column-below s few (masks .pending) mask-is listed l k lk))))
       ∙ ap (λ (n : ℕ). tab (λ k. stopId s (columnStop s k)) n ++ drop n entry) found

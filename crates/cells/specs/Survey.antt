@@ -35,7 +35,8 @@ use Rattle.dispatch.specs.WaitersLaws.{Weighed}
 use Rattle.assignment.specs.Pending.{idle, idleCars, rowCar}
 use Rattle.pending.specs.declared.StopMasks.{StopMasks}
 use Rattle.pending.specs.Masks.{masksOf}
-use Rattle.rows.specs.RowLaws.{Listed}
+use Rattle.mask.specs.declared.Ones.{Ones}
+use Rattle.mask.specs.Ones.{onesOf}
 use Rattle.rows.specs.Gathered.{gatheredOf, gathered-held}
 use Rattle.rows.specs.MatrixLaws.{Ready, Rows, listed-number, listed-at, listed-below}
 use Rattle.accepted.specs.Ids.{rising-of}
@@ -46,12 +47,11 @@ pub record SeenStops (s : Sheet) (ids : List ℕ) (xs : List Float) (masks : Sto
   pub masks-are : masks ≡ masksOf s
 
 -- these; the cars; the pending stops and the idle cars, listed
-pub record Survey (s : Sheet) (ids : List ℕ) (xs : List Float) (masks : StopMasks) (stops : List ℕ) (m : ℕ) (cars : List Car) (idle : List ℕ) (n : ℕ) : Type 0 where
+pub record Survey (s : Sheet) (ids : List ℕ) (xs : List Float) (masks : StopMasks) (stops : Ones) (cars : List Car) (idle : Ones) : Type 0 where
   pub seen : SeenStops s ids xs masks
-  pub entry : List ℕ
-  pub listed : Listed (masks .pending) entry m stops
+  pub listed : stops ≡ onesOf (masks .pending)
   pub cars-held : HoldsCars s cars
-  pub rows : Rows s idle n
+  pub rows : Rows s idle
 
 -- ---- columns that were filled hold the sheet's records
 
@@ -101,29 +101,22 @@ idle-same s cars h =
     (λ (b : s .cars ≤ i). rw (le-ltb i (s .cars) b))
     (less? i (s .cars)))
 
-pub rows-listed : (s : Sheet) (cars : List Car) → HoldsCars s cars → s .cars ≤ 32 → (entry list : List ℕ) (n : ℕ)
-    → Listed (idleMask cars (s .cars)) entry n list → Rows s list n
+pub rows-listed : (s : Sheet) (cars : List Car) → HoldsCars s cars → s .cars ≤ 32 → (idle : Ones) → idle ≡ onesOf (idleMask cars (s .cars))
+    → Rows s idle
 unfolding idleCars rowCar
-rows-listed s cars held few entry list n h =
+rows-listed s cars held few listed h =
     let fit : s .cars ≤ 64 = omega arith in
     let e = idle-same s cars held in
-    let number = listed-number (idle s) (s .cars) fit (idleMask cars (s .cars)) e entry n list h in
+    let number = listed-number (idle s) (s .cars) fit (idleMask cars (s .cars)) e listed h in
     record {
       number = number;
       few = omega (arith, number, count-le (idle s) (s .cars));
-      car-of = listed-at (idle s) (s .cars) fit (idleMask cars (s .cars)) e entry n list h;
-      below = listed-below (idle s) (s .cars) fit (idleMask cars (s .cars)) e entry n list h;
+      car-of = listed-at (idle s) (s .cars) fit (idleMask cars (s .cars)) e listed h;
+      below = listed-below (idle s) (s .cars) fit (idleMask cars (s .cars)) e listed h;
     }
 
-pub rows-in : (s : Sheet) → s .cars ≤ 32 → (entry list : List ℕ) (n : ℕ) → Listed (idleMask (carsIn s) (s .cars)) entry n list
-    → Rows s list n
+pub rows-in : (s : Sheet) → s .cars ≤ 32 → (idle : Ones) → idle ≡ onesOf (idleMask (carsIn s) (s .cars)) → Rows s idle
 rows-in s few = rows-listed s (carsIn s) (cars-held s (carsIn s) few refl) few
-
--- a listing keeps the length of its buffer
-pub listed-length : (mask : ℕ) (entry : List ℕ) (m : ℕ) (list : List ℕ) → Listed mask entry m list → length entry ≡ 64
-    → length list ≡ length entry
-listed-length mask entry m list h e =
-    front-length (filtered (has mask) 64) entry list m (length-filtered (has mask) 64 ∙ sym (h .counted)) (omega (arith, h .counted, count-le (has mask) 64)) (h .held)
 
 -- ---- ready to fill rows
 
@@ -136,10 +129,10 @@ weighed-of s h i l =
     }
 
 pub ready : (bytes : List ℕ) (c : Counts) → verdict bytes ≡ Accepted c
-    → (ids : List ℕ) (xs : List Float) (masks : StopMasks) (stops : List ℕ) (m : ℕ) (cars : List Car) (idle : List ℕ) (n : ℕ)
-    → Survey (sheetOf bytes c) ids xs masks stops m cars idle n → (acar adest : List ℕ) → HoldsAboard (sheetOf bytes c) acar adest (sheetOf bytes c .aboards)
-    → (waiters : List Waiters) → waiters ≡ gatheredOf (sheetOf bytes c) → Ready (sheetOf bytes c) ids xs acar adest masks waiters stops m
-ready bytes c e ids xs masks stops m cars idle n h acar adest ha waiters hw =
+    → (ids : List ℕ) (xs : List Float) (masks : StopMasks) (stops : Ones) (cars : List Car) (idle : Ones)
+    → Survey (sheetOf bytes c) ids xs masks stops cars idle → (acar adest : List ℕ) → HoldsAboard (sheetOf bytes c) acar adest (sheetOf bytes c .aboards)
+    → (waiters : List Waiters) → waiters ≡ gatheredOf (sheetOf bytes c) → Ready (sheetOf bytes c) ids xs acar adest masks waiters stops
+ready bytes c e ids xs masks stops cars idle h acar adest ha waiters hw =
     let sound = accepted bytes c e .sheet in
     record {
       held = record {
@@ -151,6 +144,5 @@ ready bytes c e ids xs masks stops m cars idle n h acar adest ha waiters hw =
       };
       waiting = gathered-held (sheetOf bytes c) waiters hw;
       weighed = weighed-of (sheetOf bytes c) sound;
-      entry = h .entry;
       listed = h .listed;
     }

@@ -11,9 +11,9 @@ ghost use Rattle.layout.specs.Verdict.{verdict};
 ghost use Rattle.manifest.specs.World.{stopId, stopAt};
 ghost use Rattle.manifest.specs.Stops.{HoldsStops};
 ghost use Rattle.manifest.specs.Manifest.{riderlessCall};
+ghost use Rattle.mask.specs.Ones.{onesOf};
 ghost use Rattle.pending.specs.Masks.{stopMask, masksOf};
 ghost use Rattle.cars.specs.Cars.{carsIn};
-ghost use Rattle.rows.specs.RowLaws.{Listed};
 ghost use Rattle.rows.specs.MatrixLaws.{FilledRows};
 ghost use Rattle.rows.specs.Gathered.{gatheredOf};
 ghost use Rattle.cells.specs.Survey.{Survey, idleMask};
@@ -23,6 +23,7 @@ use layout::aboard;
 use layout::stop;
 use layout::waiting;
 use manifest::Waiters;
+use mask::Ones;
 use pending::StopMasks;
 
 // The ids and the positions of the stops.
@@ -146,25 +147,23 @@ fn idle_cars(cars: [Car; 32], n: usize) -> u64
     m
 }
 
-// The records of the idle ones of the first n cars in order, and how many they are.
-pub fn list_idle(cars: [Car; 32], n: usize, idle: &mut [usize]) -> usize
-    requires { ⌜ (n ≤ 32) × (length cars ≡ 32) × (length (now idle) ≡ 64) ⌝ }
-    ensures { λ r. ⌜ Listed (idleMask cars n) (now (idle .entry)) r (now (idle .exit))
-        × (length (now (idle .exit)) ≡ length (now (idle .entry))) ⌝ }
+// The records of the idle ones of the first n cars, listed.
+pub fn list_idle(cars: [Car; 32], n: usize) -> Ones
+    requires { ⌜ (n ≤ 32) × (length cars ≡ 32) ⌝ }
+    ensures { λ r. ⌜ r ≡ onesOf (idleMask cars n) ⌝ }
 {
-    rows::list_ones(idle_cars(cars, n), idle)
+    mask::list_ones(idle_cars(cars, n))
 }
 
-// The records of a sheet's idle cars in order, and how many they are.
-pub fn list_cars(s: &[u8], c: Counts, idle: &mut [usize]) -> usize
-    requires { ⌜ Small c × (length (now idle) ≡ 64) ⌝ }
-    ensures { λ r. ⌜ Listed (idleMask (carsIn (sheetOf (now (s .entry)) c)) (c .cars)) (now (idle .entry)) r (now (idle .exit))
-        × (length (now (idle .exit)) ≡ length (now (idle .entry))) ⌝ }
+// The records of a sheet's idle cars, listed.
+pub fn list_cars(s: &[u8], c: Counts) -> Ones
+    requires { ⌜ Small c ⌝ }
+    ensures { λ r. ⌜ r ≡ onesOf (idleMask (carsIn (sheetOf (now (s .entry)) c)) (c .cars)) ⌝ }
 {
-    list_idle(cars::cars_of(s, c), c.cars as usize, idle)
+    list_idle(cars::cars_of(s, c), c.cars as usize)
 }
 
-// The cells of the n idle cars, a row each, and how many pairs are ranked.
+// The cells of the idle cars, a row each, and how many pairs are ranked.
 pub fn fill_matrix<'a>(
     s: &'a [u8],
     c: Counts,
@@ -172,18 +171,16 @@ pub fn fill_matrix<'a>(
     ids: &'a [u32],
     xs: &'a [f64],
     masks: StopMasks,
-    stops: &'a [usize],
-    m: usize,
+    stops: Ones,
     cars: [Car; 32],
-    idle: &'a [usize],
-    n: usize,
+    idle: Ones,
     columns: usize,
     matrix: &mut [u64],
 ) -> u64
-    requires { ⌜ (verdict (now s) ≡ Accepted c) × (length (now ids) ≡ 64) × (length (now xs) ≡ 64) × (length (now stops) ≡ 64)
-        × (length (now idle) ≡ 64) × (m ≤ columns) × (columns ≤ 64) × (2048 ≤ length (now matrix)) ⌝ }
-    requires { ⌜ Survey (sheetOf (now s) c) (now ids) (now xs) masks (now stops) m cars (now idle) n ⌝ }
-    ensures { λ r. ⌜ FilledRows (sheetOf (now (s .entry)) c) limit n columns (now (matrix .entry)) r (now (matrix .exit)) ⌝ }
+    requires { ⌜ (verdict (now s) ≡ Accepted c) × (length (now ids) ≡ 64) × (length (now xs) ≡ 64) × (stops .count ≤ columns)
+        × (columns ≤ 64) × (2048 ≤ length (now matrix)) ⌝ }
+    requires { ⌜ Survey (sheetOf (now s) c) (now ids) (now xs) masks stops cars idle ⌝ }
+    ensures { λ r. ⌜ FilledRows (sheetOf (now (s .entry)) c) limit (idle .count) columns (now (matrix .entry)) r (now (matrix .exit)) ⌝ }
 {
     let mut acar = [0u32; 512];
     let mut adest = [0u32; 512];
@@ -200,10 +197,8 @@ pub fn fill_matrix<'a>(
         masks,
         waiters,
         stops,
-        m,
         cars,
         idle,
-        n,
         columns,
         matrix,
     )

@@ -10,6 +10,7 @@ use Rattle.laws.specs.Bools.{less?}
 use Rattle.laws.specs.Folds.{nth-is}
 use Rattle.laws.specs.Tables.{tab, tab-cong, tabs, length-tabs, getD-tabs, tabs-every}
 use Rattle.scale.specs.Scale.{sentinel}
+use Rattle.mask.specs.declared.Ones.{Ones}
 use Rattle.components.specs.Sheet.{Sheet}
 use Rattle.manifest.specs.World.{stopId}
 use Rattle.assignment_problem.specs.Choice.{cellAt}
@@ -40,15 +41,16 @@ module _ (s : Sheet) (limit : ℕ) (cells : List ℕ) (e : cells ≡ tabs (matri
   unfolding column
   column-within r l = chosen-choice (matrix s limit) (idleCars s) (columns s) (rows-fit s) .within r l
 
-  module _ (m : ℕ) (stops ids : List ℕ) (counted : m ≡ pendingStops s) (listed : (k : ℕ) → k < m → getD stops k 0 ≡ columnStop s k) where
-    stop-below : (k : ℕ) → k < m → columnStop s k < s .stops
+  module _ (stops : Ones) (ids : List ℕ) (counted : stops .count ≡ pendingStops s)
+      (listed : (k : ℕ) → k < stops .count → getD (stops .at) k 0 ≡ columnStop s k) where
+    stop-below : (k : ℕ) → k < stops .count → columnStop s k < s .stops
     unfolding columnStop pendingStops
     stop-below k l = nth-is (pending s) (s .stops) k (omega arith) .below
 
     -- such cells are what the matcher takes
-    pub filled : (room : ℕ) → SmallSheet s → length stops ≡ 64 → length ids ≡ 64 → 32 ≤ room
-        → Filled cells (idleCars s) (columns s) m stops ids room
-    filled room small size names l =
+    pub filled : (room : ℕ) → SmallSheet s → length ids ≡ 64 → 32 ≤ room
+        → Filled cells (idleCars s) (columns s) stops ids room
+    filled room small names l =
         let cars = small .cars in
         let most = small .stops in
         record {
@@ -60,7 +62,6 @@ module _ (s : Sheet) (limit : ℕ) (cells : List ℕ) (e : cells ≡ tabs (matri
               subst (λ (x : List ℕ). getD x k 0 ≤ sentinel) (sym e)
               (tabs-every (λ x. x ≤ sentinel) (matrix s limit) (columns s) (idleCars s) 0 (λ r lr c lc. matrix-le s limit r c) k
               (omega (arith, ap length e, length-tabs (matrix s limit) (columns s) (idleCars s))));
-          listed = size;
           named = names;
           most = omega (arith, pending-le s);
           below = λ k lk. omega (arith, listed k lk, stop-below k lk);
@@ -68,19 +69,19 @@ module _ (s : Sheet) (limit : ℕ) (cells : List ℕ) (e : cells ≡ tabs (matri
         }
 
     module _ (named : (j : ℕ) → j < s .stops → getD ids j 0 ≡ stopId s j) where
-      pub decision-same : (r : ℕ) → r < idleCars s → decisionBy cells (idleCars s) (columns s) m stops ids r ≡ decision s limit r
+      pub decision-same : (r : ℕ) → r < idleCars s → decisionBy cells (idleCars s) (columns s) stops ids r ≡ decision s limit r
       unfolding decisionBy told decision goes
       decision-same r l =
           let c = column s limit r in
           ⊎-elim
-          (λ (b : c < m).
+          (λ (b : c < stops .count).
           rw (same-column r, same-cell r c l (column-within r l), counted, listed c b, named (columnStop s c) (stop-below c b)))
-          (λ (b : m ≤ c). rw (same-column r, le-ltb c m b, le-ltb c (pendingStops s) (omega arith)))
-          (less? c m)
+          (λ (b : stops .count ≤ c). rw (same-column r, le-ltb c (stops .count) b, le-ltb c (pendingStops s) (omega arith)))
+          (less? c (stops .count))
 
       -- what is written is what the pass decides
-      pub decisions-same : (entry : List ℕ) → tab (decisionBy cells (idleCars s) (columns s) m stops ids) (idleCars s) ++ drop (idleCars s) entry
+      pub decisions-same : (entry : List ℕ) → tab (decisionBy cells (idleCars s) (columns s) stops ids) (idleCars s) ++ drop (idleCars s) entry
           ≡ tab (decision s limit) (idleCars s) ++ drop (idleCars s) entry
       decisions-same entry =
           ap (λ (l : List ℕ). l ++ drop (idleCars s) entry)
-          (tab-cong (decisionBy cells (idleCars s) (columns s) m stops ids) (decision s limit) (idleCars s) decision-same)
+          (tab-cong (decisionBy cells (idleCars s) (columns s) stops ids) (decision s limit) (idleCars s) decision-same)

@@ -8,6 +8,7 @@ ghost use Rattle.assignment_problem.specs.Choice.{cellAt};
 ghost use Rattle.assignment_problem.specs.Recursion.{leastTotal};
 ghost use Rattle.matcher.specs.Promise.{leastOr};
 ghost use Rattle.decisions.specs.Decisions.{Filled, told, toldAt, decisionBy};
+use mask::Ones;
 use matcher::Matching;
 
 // The cell of row r and column k.
@@ -19,17 +20,17 @@ fn cell(cells: &[u64], columns: usize, r: usize, k: usize) -> u64
 }
 
 // What a car is told: the stop of its column, or 0 where the column is spare or its cell is the sentinel.
-fn decision<'a>(place: usize, cell: u64, m: usize, stops: &'a [usize], ids: &'a [u32]) -> u32
-    requires { ⌜ (length (now stops) ≡ 64) × (length (now ids) ≡ 64) × (m ≤ 64) × ((k : ℕ) → k < m → getD (now stops) k 0 < 64) ⌝ }
-    ensures { λ r. ⌜ r ≡ told (now (stops .entry)) (now (ids .entry)) m place cell ⌝ }
+fn decision(place: usize, cell: u64, stops: Ones, ids: &[u32]) -> u32
+    requires { ⌜ (length (now ids) ≡ 64) × (stops .count ≤ 64) × ((k : ℕ) → k < stops .count → getD (stops .at) k 0 < 64) ⌝ }
+    ensures { λ r. ⌜ r ≡ told stops (now (ids .entry)) place cell ⌝ }
 {
-    if m <= place {
+    if stops.count <= place {
         return 0;
     }
     if scale::SENTINEL <= cell {
         return 0;
     }
-    let j = stops[place];
+    let j = stops.at[place];
     ids[j]
 }
 
@@ -39,22 +40,21 @@ fn write<'a>(
     n: usize,
     columns: usize,
     places: &'a [u32],
-    m: usize,
-    stops: &'a [usize],
+    stops: Ones,
     ids: &'a [u32],
     decisions: &mut [u32],
 )
-    requires { ⌜ Filled (now cells) n columns m (now stops) (now ids) (length (now decisions)) × (length (now places) ≡ 32)
+    requires { ⌜ Filled (now cells) n columns stops (now ids) (length (now decisions)) × (length (now places) ≡ 32)
         × ((r : ℕ) → r < n → getD (now places) r 0 < columns) ⌝ }
     ensures { λ _. ⌜ (length (now (decisions .exit)) ≡ length (now (decisions .entry)))
-        × (now (decisions .exit) ≡ tab (toldAt (now (cells .entry)) columns (now (places .entry)) m (now (stops .entry)) (now (ids .entry))) n ++
+        × (now (decisions .exit) ≡ tab (toldAt (now (cells .entry)) columns (now (places .entry)) stops (now (ids .entry))) n ++
         drop n (now (decisions .entry))) ⌝ }
 {
     let mut r: usize = 0;
     while r < n {
         let place = places[r] as usize;
         let cell = cell(cells, columns, r, place);
-        decisions[r] = decision(place, cell, m, stops, ids);
+        decisions[r] = decision(place, cell, stops, ids);
         r += 1;
     }
 }
@@ -74,19 +74,18 @@ pub fn decide<'a>(
     cells: &'a [u64],
     n: usize,
     columns: usize,
-    m: usize,
-    stops: &'a [usize],
+    stops: Ones,
     ids: &'a [u32],
     decisions: &mut [u32],
 ) -> u64
-    requires { ⌜ Filled (now cells) n columns m (now stops) (now ids) (length (now decisions)) ⌝ }
+    requires { ⌜ Filled (now cells) n columns stops (now ids) (length (now decisions)) ⌝ }
     ensures { λ r. ⌜ (r ≡ leastTotal (cellAt (now (cells .entry)) columns) n columns)
         × (length (now (decisions .exit)) ≡ length (now (decisions .entry)))
-        × (now (decisions .exit) ≡ tab (decisionBy (now (cells .entry)) n columns m (now (stops .entry)) (now (ids .entry))) n ++ drop n
+        × (now (decisions .exit) ≡ tab (decisionBy (now (cells .entry)) n columns stops (now (ids .entry))) n ++ drop n
         (now (decisions .entry))) ⌝ }
 {
     let mut places = [0u32; 32];
     let answer = matcher::assign(n, columns, cells, &mut places);
-    write(cells, n, columns, &places, m, stops, ids, decisions);
+    write(cells, n, columns, &places, stops, ids, decisions);
     total(answer)
 }

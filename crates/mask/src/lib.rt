@@ -6,6 +6,7 @@ ghost use lib.Dec.{eqb};
 ghost use Rattle.laws.specs.Bools.{bit};
 ghost use Rattle.laws.specs.Folds.{count};
 ghost use Rattle.mask.specs.Mask.{has, built, pastStops};
+ghost use Rattle.mask.specs.Ones.{onesOf};
 
 // Whether stop j is in the mask.
 pub fn has(mask: u64, j: usize) -> bool
@@ -64,4 +65,27 @@ pub fn past_stops(mask: u64, n: usize) -> bool
     ensures { λ r. ⌜ r ≡ pastStops mask n ⌝ }
 {
     if n < 64 { mask << n != 0 } else { false }
+}
+
+// The places of a mask's ones in order, with zeros past them, and how many they are.
+pub struct Ones {
+    pub at: [usize; 64],
+    pub count: usize,
+}
+
+// The ones of a mask, listed.
+pub fn list_ones(mask: u64) -> Ones
+    ensures { λ r. ⌜ r ≡ onesOf mask ⌝ }
+{
+    let mut at = [0usize; 64];
+    let mut count: usize = 0;
+    let mut j: usize = 0;
+    while j < 64 {
+        if has(mask, j) {
+            at[count] = j;
+            count += 1;
+        }
+        j += 1;
+    }
+    Ones { at, count }
 }

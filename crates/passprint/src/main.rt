@@ -20,6 +20,7 @@ ghost use Rattle.passprint.specs.LineLaws.{codeWord, codeEnd, codeLine, 
 use bench::Answer;
 use layout::Counts;
 use layout::Reading;
+use mask::Ones;
 use libc::STDERR_FILENO;
 use libc::STDIN_FILENO;
 use libc::STDOUT_FILENO;
@@ -117,21 +118,20 @@ fn car_id(s: &[u8], c: Counts, i: usize) -> u32
 fn decision_lines<'a>(
     s: &'a [u8],
     c: Counts,
-    cars: &'a [usize],
-    n: usize,
+    cars: Ones,
     decisions: &'a [u32],
     out: &mut [u8],
     from: usize,
 ) -> usize
-    requires { ⌜ Small c × Rows (sheetOf (now s) c) (now cars) n × (length (now cars) ≡ 64)
+    requires { ⌜ Small c × Rows (sheetOf (now s) c) cars
         × Decided (sheetOf (now s) c) (limitOf (now s)) (now decisions) × (from + 1920 ≤ length (now out)) ⌝ }
-    ensures { λ r. ⌜ Put (now (out .entry)) from (linesOf (rowDecision (sheetOf (now (s .entry)) c) (limitOf (now (s .entry)))) n)
+    ensures { λ r. ⌜ Put (now (out .entry)) from (linesOf (rowDecision (sheetOf (now (s .entry)) c) (limitOf (now (s .entry)))) (cars .count))
         (now (out .exit)) r × (r ≤ from + 1920) ⌝ }
 {
     let mut at = from;
     let mut r: usize = 0;
-    while r < n {
-        at = decision_line(out, at, car_id(s, c, cars[r]), decisions[r]);
+    while r < cars.count {
+        at = decision_line(out, at, car_id(s, c, cars.at[r]), decisions[r]);
         r += 1;
     }
     at
@@ -141,21 +141,20 @@ fn decision_lines<'a>(
 fn sweep_lines<'a>(
     s: &'a [u8],
     c: Counts,
-    cars: &'a [usize],
-    n: usize,
+    cars: Ones,
     sweeps: &'a [u8],
     out: &mut [u8],
     from: usize,
 ) -> usize
-    requires { ⌜ Small c × Rows (sheetOf (now s) c) (now cars) n × (length (now cars) ≡ 64) × Swept (sheetOf (now s) c) (now sweeps)
+    requires { ⌜ Small c × Rows (sheetOf (now s) c) cars × Swept (sheetOf (now s) c) (now sweeps)
         × (from + 1920 ≤ length (now out)) ⌝ }
-    ensures { λ r. ⌜ Put (now (out .entry)) from (linesOf (rowSweep (sheetOf (now (s .entry)) c)) n) (now (out .exit)) r
+    ensures { λ r. ⌜ Put (now (out .entry)) from (linesOf (rowSweep (sheetOf (now (s .entry)) c)) (cars .count)) (now (out .exit)) r
         × (r ≤ from + 1920) ⌝ }
 {
     let mut at = from;
     let mut r: usize = 0;
-    while r < n {
-        let i = cars[r];
+    while r < cars.count {
+        let i = cars.at[r];
         at = sweep_line(out, at, car_id(s, c, i), sweeps[i]);
         r += 1;
     }
@@ -178,11 +177,10 @@ fn sent_lines<'a>(
         × (4096 ≤ length (now out)) ⌝ }
     ensures { λ r. ⌜ Put (now (out .entry)) 0 (printed (now (s .entry))) (now (out .exit)) r × (r ≤ 4096) ⌝ }
 {
-    let mut idle = [0usize; 64];
-    let n = cells::list_cars(s, c, &mut idle);
+    let idle = cells::list_cars(s, c);
     let a = head_line(out, cars, stops, total);
-    let b = decision_lines(s, c, &idle, n, decisions, out, a);
-    sweep_lines(s, c, &idle, n, sweeps, out, b)
+    let b = decision_lines(s, c, idle, decisions, out, a);
+    sweep_lines(s, c, idle, sweeps, out, b)
 }
 
 // The lines of an accepted sheet.

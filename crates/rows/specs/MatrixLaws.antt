@@ -11,11 +11,13 @@ use lib.Ieee.{Float}
 use borrow.Author.Tests.{lt-ltb, le-ltb}
 use Rattle.laws.specs.Bools.{less?}
 use Rattle.laws.specs.Folds.{count, count-le, count-cong, count-below, nth, nth-cong, nth-is, nth-below}
-use Rattle.laws.specs.Tables.{tab, tabs, tab-cong, tabs-next, tabs-length, mul-next, getD-filtered}
+use Rattle.laws.specs.Tables.{tab, tabs, tab-cong, tabs-next, tabs-length, mul-next}
 use Rattle.laws.specs.Sums.{sum, sum-next}
 use Rattle.fp.specs.Num.{zero}
 use Rattle.mask.specs.Mask.{has, built}
 use Rattle.mask.specs.MaskLaws.{has-built}
+use Rattle.mask.specs.declared.Ones.{Ones}
+use Rattle.mask.specs.Ones.{onesOf, ones-count, ones-at}
 use Rattle.components.specs.declared.Car.{Car}
 use Rattle.components.specs.Sheet.{Sheet}
 use Rattle.components.specs.declared.Place.{Place}
@@ -41,7 +43,7 @@ use Rattle.ranking.specs.Ranking.{sweepBy}
 use Rattle.ranking.specs.RankingLaws.{HoldsRow, cell-is}
 use Rattle.rows.specs.KeptLaws.{keptNumber}
 use Rattle.rows.specs.HeldLaws.{Held, row-held}
-use Rattle.rows.specs.RowLaws.{noWaiters, rowCell, padded, Listed}
+use Rattle.rows.specs.RowLaws.{noWaiters, rowCell, padded}
 
 -- ---- the pending stops, listed from their mask, are the columns'; the idle cars, the rows'
 
@@ -67,54 +69,52 @@ module _ (p : ℕ → Bool) (n : ℕ) (few : n ≤ 64) (mask : ℕ) (e : mask �
   masked-nth c =
       ap (λ (z : ℕ). nth (has mask) z c) (sym whole) ∙ nth-below (has mask) n (64 - n) c past ∙ nth-cong (has mask) p n c inside
 
-  module _ (entry : List ℕ) (m : ℕ) (list : List ℕ) (h : Listed mask entry m list) where
-    pub listed-number : m ≡ count p n
-    listed-number = h .counted ∙ masked-count
+  module _ (ones : Ones) (h : ones ≡ onesOf mask) where
+    pub listed-number : ones .count ≡ count p n
+    listed-number = ones-count mask h ∙ masked-count
 
-    pub listed-at : (k : ℕ) → k < m → getD list k 0 ≡ nth p n k
-    listed-at k l =
-        ap (λ (z : List ℕ). getD z k 0) (h .held) ∙ getD-filtered (has mask) 64 k (drop m entry) (omega (arith, h .counted)) ∙ masked-nth k
+    pub listed-at : (k : ℕ) → k < ones .count → getD (ones .at) k 0 ≡ nth p n k
+    listed-at k l = ones-at mask h k l ∙ masked-nth k
 
-    pub listed-below : (k : ℕ) → k < m → nth p n k < n
+    pub listed-below : (k : ℕ) → k < ones .count → nth p n k < n
     listed-below k l = nth-is p n k (omega (arith, listed-number)) .below
 
-module _ (s : Sheet) (few : s .stops ≤ 64) (mask : ℕ) (e : mask ≡ stopMask s (pending s)) (entry : List ℕ) (m : ℕ) (stops : List ℕ)
-    (h : Listed mask entry m stops) where
-  pub listed-count : m ≡ pendingStops s
+module _ (s : Sheet) (few : s .stops ≤ 64) (mask : ℕ) (e : mask ≡ stopMask s (pending s)) (stops : Ones) (h : stops ≡ onesOf mask) where
+  pub listed-count : stops .count ≡ pendingStops s
   unfolding pendingStops
-  listed-count = listed-number (pending s) (s .stops) few mask e entry m stops h
+  listed-count = listed-number (pending s) (s .stops) few mask e stops h
 
-  pub listed-stop : (k : ℕ) → k < m → getD stops k 0 ≡ columnStop s k
+  pub listed-stop : (k : ℕ) → k < stops .count → getD (stops .at) k 0 ≡ columnStop s k
   unfolding columnStop
-  listed-stop = listed-at (pending s) (s .stops) few mask e entry m stops h
+  listed-stop = listed-at (pending s) (s .stops) few mask e stops h
 
-  pub column-below : (k : ℕ) → k < m → columnStop s k < s .stops
+  pub column-below : (k : ℕ) → k < stops .count → columnStop s k < s .stops
   unfolding columnStop
-  column-below = listed-below (pending s) (s .stops) few mask e entry m stops h
+  column-below = listed-below (pending s) (s .stops) few mask e stops h
 
   -- ---- the cells
 
   pub cells-are : (ids : List ℕ) (xs : List Float) → HoldsStops s ids xs (s .stops) → (r limit : ℕ) → Weighed s (rowCar s r)
       → (row : Row) (dests : List Float) → HoldsRow s (rowCar s r) limit row dests → (waiters : List Waiters)
       → ((j : ℕ) → j < s .stops → HoldsWaiters s j (getD waiters j noWaiters)) → (k : ℕ)
-      → padded (rowCell row dests waiters xs (s .stops) stops) m k ≡ matrix s limit r k
+      → padded (rowCell row dests waiters xs (s .stops) stops) (stops .count) k ≡ matrix s limit r k
   unfolding padded rowCell matrix
   cells-are ids xs hs r limit weighed row dests hr waiters hw k =
       let same = listed-count in
       ⊎-elim
-      (λ (l : k < m).
+      (λ (l : k < stops .count).
       let b = column-below k l in
-      rw (lt-ltb k m l, lt-ltb k (pendingStops s) (omega arith), listed-stop k l)
+      rw (lt-ltb k (stops .count) l, lt-ltb k (pendingStops s) (omega arith), listed-stop k l)
       (cell-is s ids xs hs (rowCar s r) limit weighed row dests hr (columnStop s k) (getD waiters (columnStop s k) noWaiters) (hw (columnStop s k) b) b))
-      (λ (l : m ≤ k). rw (le-ltb k m l, le-ltb k (pendingStops s) (omega arith)))
-      (less? k m)
+      (λ (l : stops .count ≤ k). rw (le-ltb k (stops .count) l, le-ltb k (pendingStops s) (omega arith)))
+      (less? k (stops .count))
 
   pub row-is : (ids : List ℕ) (xs : List Float) → HoldsStops s ids xs (s .stops) → (r limit : ℕ) → Weighed s (rowCar s r)
       → (row : Row) (dests : List Float) → HoldsRow s (rowCar s r) limit row dests → (waiters : List Waiters)
       → ((j : ℕ) → j < s .stops → HoldsWaiters s j (getD waiters j noWaiters)) → (n : ℕ)
-      → tab (padded (rowCell row dests waiters xs (s .stops) stops) m) n ≡ tab (matrix s limit r) n
+      → tab (padded (rowCell row dests waiters xs (s .stops) stops) (stops .count)) n ≡ tab (matrix s limit r) n
   row-is ids xs hs r limit weighed row dests hr waiters hw n =
-      tab-cong (padded (rowCell row dests waiters xs (s .stops) stops) m) (matrix s limit r) n
+      tab-cong (padded (rowCell row dests waiters xs (s .stops) stops) (stops .count)) (matrix s limit r) n
       (λ k l. cells-are ids xs hs r limit weighed row dests hr waiters hw k)
 
 -- the mask of the stops that a car is ranked for has so many
@@ -167,40 +167,38 @@ pub record FilledRow (s : Sheet) (limit i n : ℕ) (exit : List ℕ) : Type 0 wh
 
 -- ---- what the pass has at hand when it fills rows
 
-pub record Ready (s : Sheet) (ids : List ℕ) (xs : List Float) (acar adest : List ℕ) (masks : StopMasks) (waiters : List Waiters) (stops : List ℕ) (m : ℕ) : Type 0 where
+pub record Ready (s : Sheet) (ids : List ℕ) (xs : List Float) (acar adest : List ℕ) (masks : StopMasks) (waiters : List Waiters) (stops : Ones) : Type 0 where
   pub held : Held s ids xs acar adest masks
   pub waiting : (j : ℕ) → j < s .stops → HoldsWaiters s j (getD waiters j noWaiters)
   pub weighed : (i : ℕ) → i < s .cars → Weighed s i
-  pub entry : List ℕ
-  pub listed : Listed (masks .pending) entry m stops
+  pub listed : stops ≡ onesOf (masks .pending)
 
-module _ (s : Sheet) (ids : List ℕ) (xs : List Float) (acar adest : List ℕ) (masks : StopMasks) (waiters : List Waiters) (stops : List ℕ) (m : ℕ)
-    (h : Ready s ids xs acar adest masks waiters stops m) where
-  pub ready-few : m ≤ 64
-  ready-few = let few = count-le (has (masks .pending)) 64 in omega (arith, h .listed .counted)
+module _ (s : Sheet) (ids : List ℕ) (xs : List Float) (acar adest : List ℕ) (masks : StopMasks) (waiters : List Waiters) (stops : Ones)
+    (h : Ready s ids xs acar adest masks waiters stops) where
+  pub ready-few : stops .count ≤ 64
+  ready-few = let few = count-le (has (masks .pending)) 64 in omega (arith, ones-count (masks .pending) (h .listed))
 
-  pub ready-below : (k : ℕ) → k < m → getD stops k 0 < s .stops
+  pub ready-below : (k : ℕ) → k < stops .count → getD (stops .at) k 0 < s .stops
   ready-below k l =
-      rw (listed-stop s (h .held .few) (masks .pending) (pending-are s (h .held .masks-are)) (h .entry) m stops (h .listed) k l)
-      (column-below s (h .held .few) (masks .pending) (pending-are s (h .held .masks-are)) (h .entry) m stops (h .listed) k l)
+      rw (listed-stop s (h .held .few) (masks .pending) (pending-are s (h .held .masks-are)) stops (h .listed) k l)
+      (column-below s (h .held .few) (masks .pending) (pending-are s (h .held .masks-are)) stops (h .listed) k l)
 
   pub ready-row : (i limit : ℕ) (row : Row) {dests : List Float} → i < s .cars → HoldsRow s i limit row dests → (r n : ℕ)
       → rowCar s r ≡ i
-      → tab (padded (rowCell row dests waiters xs (s .stops) stops) m) n ≡ tab (matrix s limit r) n
+      → tab (padded (rowCell row dests waiters xs (s .stops) stops) (stops .count)) n ≡ tab (matrix s limit r) n
   ready-row i limit row {dests} l hr r n e =
-      row-is s (h .held .few) (masks .pending) (pending-are s (h .held .masks-are)) (h .entry) m stops (h .listed) ids xs (h .held .stops-held) r limit (rw e (h .weighed i l)) row dests
+      row-is s (h .held .few) (masks .pending) (pending-are s (h .held .masks-are)) stops (h .listed) ids xs (h .held .stops-held) r limit (rw e (h .weighed i l)) row dests
       (rw e hr) waiters (h .waiting) n
 
 -- what the row of a car needs, in a buffer of some cells
-pub record CarNeeds (b : List ℕ) (c : Counts) (ids : List ℕ) (xs : List Float) (acar adest : List ℕ) (masks : StopMasks) (waiters : List Waiters) (stops : List ℕ) (m cells : ℕ) : Type 0 where
+pub record CarNeeds (b : List ℕ) (c : Counts) (ids : List ℕ) (xs : List Float) (acar adest : List ℕ) (masks : StopMasks) (waiters : List Waiters) (stops : Ones) (cells : ℕ) : Type 0 where
   pub small : Small c
   pub ids-size : length ids ≡ 64
   pub xs-size : length xs ≡ 64
   pub acar-size : length acar ≡ 512
   pub adest-size : length adest ≡ 512
-  pub stops-size : length stops ≡ 64
-  pub fits : m ≤ cells
-  pub ready : Ready (sheetOf b c) ids xs acar adest masks waiters stops m
+  pub fits : stops .count ≤ cells
+  pub ready : Ready (sheetOf b c) ids xs acar adest masks waiters stops
 
 -- the known destinations of a car's riders, in a buffer of 512 that held zeros
 unfoldable pub destsFor : Sheet → List ℕ → List Float → List ℕ → List ℕ → Car → List Float
@@ -208,21 +206,21 @@ destsFor s ids xs acar adest car =
     destsIn ids (s .stops) acar adest (car .id) xs (s .aboards) ++ drop (ridersIn ids (s .stops) acar adest (car .id) (s .aboards) .count) (replicate 512 zero)
 
 -- n cells hold the row of a car by value, and so many of its pairs are ranked
-pub record FilledCar (s : Sheet) (ids : List ℕ) (xs : List Float) (acar adest : List ℕ) (masks : StopMasks) (waiters : List Waiters) (stops : List ℕ) (m limit : ℕ) (car : Car) (n ranked : ℕ) (exit : List ℕ) : Type 0 where
-  pub row : exit ≡ tab (padded (rowCell (rowFor s ids xs acar adest masks limit car) (destsFor s ids xs acar adest car) waiters xs (s .stops) stops) m) n
+pub record FilledCar (s : Sheet) (ids : List ℕ) (xs : List Float) (acar adest : List ℕ) (masks : StopMasks) (waiters : List Waiters) (stops : Ones) (limit : ℕ) (car : Car) (n ranked : ℕ) (exit : List ℕ) : Type 0 where
+  pub row : exit ≡ tab (padded (rowCell (rowFor s ids xs acar adest masks limit car) (destsFor s ids xs acar adest car) waiters xs (s .stops) stops) (stops .count)) n
   pub number : ranked ≡ count (keptOf s car limit) (s .stops)
 
 -- the row of car i of a list that holds the sheet's cars
-pub filled-at : (s : Sheet) (ids : List ℕ) (xs : List Float) (acar adest : List ℕ) (masks : StopMasks) (waiters : List Waiters) (stops : List ℕ) (m : ℕ)
-    → Ready s ids xs acar adest masks waiters stops m → (limit i n ranked : ℕ) (cars : List Car) (exit : List ℕ) → HoldsCars s cars → i < s .cars
-    → FilledCar s ids xs acar adest masks waiters stops m limit (getD cars i noCar) n ranked exit
+pub filled-at : (s : Sheet) (ids : List ℕ) (xs : List Float) (acar adest : List ℕ) (masks : StopMasks) (waiters : List Waiters) (stops : Ones)
+    → Ready s ids xs acar adest masks waiters stops → (limit i n ranked : ℕ) (cars : List Car) (exit : List ℕ) → HoldsCars s cars → i < s .cars
+    → FilledCar s ids xs acar adest masks waiters stops limit (getD cars i noCar) n ranked exit
     → FilledRow s limit i n exit × (ranked ≡ keptNumber s limit i)
 unfolding destsFor keptNumber rowFor
-filled-at s ids xs acar adest masks waiters stops m h limit i n ranked cars exit hc l f =
+filled-at s ids xs acar adest masks waiters stops h limit i n ranked cars exit hc l f =
     let e = hc .each i l in
     let car = getD cars i noCar in
     let row = row-of s ids xs acar adest masks (h .held) limit car (rowFor s ids xs acar adest masks limit car) (replicate 512 zero) refl refl in (
-      record { row = λ r q. f .row ∙ ready-row s ids xs acar adest masks waiters stops m h i limit (rowFor s ids xs acar adest masks limit car) l (row .held i e) r n q },
+      record { row = λ r q. f .row ∙ ready-row s ids xs acar adest masks waiters stops h i limit (rowFor s ids xs acar adest masks limit car) l (row .held i e) r n q },
       f .number ∙ count-cong (keptOf s car limit) (kept s i limit) (s .stops) (λ j _. ap (λ (k : Car). keptOf s k limit j) e),
     )
 
@@ -234,11 +232,11 @@ kept-few s limit i few = omega (arith, count-le (kept s i limit) (s .stops))
 -- ---- the rows
 
 -- the idle cars are listed
-pub record Rows (s : Sheet) (cars : List ℕ) (n : ℕ) : Type 0 where
-  pub number : n ≡ idleCars s
-  pub few : n ≤ 32
-  pub car-of : (r : ℕ) → r < n → getD cars r 0 ≡ rowCar s r
-  pub below : (r : ℕ) → r < n → rowCar s r < s .cars
+pub record Rows (s : Sheet) (idle : Ones) : Type 0 where
+  pub number : idle .count ≡ idleCars s
+  pub few : idle .count ≤ 32
+  pub car-of : (r : ℕ) → r < idle .count → getD (idle .at) r 0 ≡ rowCar s r
+  pub below : (r : ℕ) → r < idle .count → rowCar s r < s .cars
 
 -- n rows stand in the buffer, and so many of their pairs are ranked
 pub record FilledRows (s : Sheet) (limit n columns : ℕ) (entry : List ℕ) (ranked : ℕ) (exit : List ℕ) : Type 0 where

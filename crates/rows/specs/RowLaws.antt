@@ -11,9 +11,8 @@ use lib.Seq.{getD-set-same, getD-set-other, ext-getD}
 use lib.Ieee.{Float, nan}
 use borrow.Author.Tests.{lt-ltb, le-ltb}
 use Rattle.laws.specs.Bools.{same?, less?}
-use Rattle.laws.specs.Folds.{count, count-le, count-yes, count-no}
-use Rattle.laws.specs.Tables.{tab, length-tab, getD-tab, getD-tab₀, filtered, filtered-take, filtered-skip}
-use Rattle.mask.specs.Mask.{has}
+use Rattle.laws.specs.Tables.{tab, length-tab, getD-tab, getD-tab₀}
+use Rattle.mask.specs.declared.Ones.{Ones}
 use Rattle.scale.specs.Scale.{sentinel}
 use Rattle.manifest.specs.declared.Waiters.{Waiters}
 use Rattle.ranking.specs.declared.Row.{Row}
@@ -24,37 +23,8 @@ abbrev pub noWaiters : Waiters
 noWaiters = record { someone = false; call = false; waitsum = nan; squares = nan; up = nan; down = nan; level = nan }
 
 -- the cell of column k, whose stop is listed
-unfoldable pub rowCell : Row → List Float → List Waiters → List Float → ℕ → List ℕ → ℕ → ℕ
-rowCell row dests waiters xs n stops k = cellBy row dests (getD waiters (getD stops k 0) noWaiters) xs n (getD stops k 0)
-
--- ---- the stops of a mask, listed
-
-pub record Listed (mask : ℕ) (entry : List ℕ) (m : ℕ) (exit : List ℕ) : Type 0 where
-  pub counted : m ≡ count (has mask) 64
-  pub held : exit ≡ filtered (has mask) 64 ++ drop m entry
-
--- a listing that has come to stop j
-pub record Listing (mask : ℕ) (entry : List ℕ) (j m : ℕ) (now : List ℕ) : Type 0 where
-  pub below : j ≤ 64
-  pub size : length now ≡ length entry
-  pub counted : m ≡ count (has mask) j
-  pub held : now ≡ filtered (has mask) j ++ drop m entry
-
-pub listing-take : (mask j m : ℕ) (entry now : List ℕ) → Listing mask entry j m now → j < 64 → length entry ≡ 64 → has mask j ≡ true
-    → Listing mask entry (j + 1) (m + 1) (set now m j)
-listing-take mask j m entry now l lj e t =
-    let few = count-le (has mask) j in
-    record {
-      below = omega arith;
-      size = simp length-set (l .size);
-      counted = count-yes (has mask) j t (l .counted);
-      held = filtered-take (has mask) j m entry now t (l .counted) (omega (arith, l .counted)) (l .held);
-    }
-
-pub listing-skip : (mask j m : ℕ) (entry now : List ℕ) → Listing mask entry j m now → j < 64 → has mask j ≡ false
-    → Listing mask entry (j + 1) m now
-listing-skip mask j m entry now l lj t =
-    record { below = omega arith; size = l .size; counted = count-no (has mask) j t (l .counted); held = filtered-skip (has mask) j m entry now t (l .held) }
+unfoldable pub rowCell : Row → List Float → List Waiters → List Float → ℕ → Ones → ℕ → ℕ
+rowCell row dests waiters xs n stops k = cellBy row dests (getD waiters (getD (stops .at) k 0) noWaiters) xs n (getD (stops .at) k 0)
 
 -- ---- spare cells
 

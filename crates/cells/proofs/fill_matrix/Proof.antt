@@ -13,22 +13,22 @@ use Rattle.cells.proofs.fill_matrix.Tie as tie
 
 fill-aboard-requires : tie.Need-fill-aboard-requires
 fill-aboard-requires c κs =
-    let a = c .before .before .before .before .before .before .before .before .args in
-    let p = c .before .before .before .before .before .before .before .before .pre in
+    let a = c .before .before .before .before .before .before .args in
+    let p = c .before .before .before .before .before .before .pre in
     (accepted (a .s .now) (a .c) (p .0 .0) .small, refl, refl)
 
 waiting-requires : tie.Need-waiting-requires
 unfolding sheetOf
 waiting-requires c κs =
-    let a = c .before .before .before .before .before .before .before .before .before .before .before .args in
-    let p = c .before .before .before .before .before .before .before .before .before .before .before .pre in
+    let a = c .before .before .before .before .before .before .before .before .before .args in
+    let p = c .before .before .before .before .before .before .before .before .before .pre in
     (accepted (a .s .now) (a .c) (p .0 .0) .small, p .0 .1, p .0 .2, p .1 .seen .stops-held, calls-are (sheetOf (a .s .now) (a .c)) (p .1 .seen .masks-are))
 
 fill-rows-requires : tie.Need-fill-rows-requires
 unfolding sheetOf
 fill-rows-requires c κs =
-    let a = c .before .before .before .before .before .before .before .before .before .before .before .before .before .before .before .args in
-    let p = c .before .before .before .before .before .before .before .before .before .before .before .before .before .before .before .pre in
+    let a = c .before .before .before .before .before .before .before .before .before .before .before .before .before .args in
+    let p = c .before .before .before .before .before .before .before .before .before .before .before .before .before .pre in
     let b = a .s .now in
     let aboard = c .before .before .before .before .before .before .fill-aboard .ensures in
     let held = holds-aboard (sheetOf b (a .c)) _ _ _ _ (aboard .0 .1) (aboard .1 .1) in (
@@ -38,11 +38,10 @@ fill-rows-requires c κs =
         xs-size = p .0 .2;
         acar-size = aboard .0 .0;
         adest-size = aboard .1 .0;
-        stops-size = p .0 .3;
-        fits = p .0 .5;
-        ready = ready b (a .c) (p .0 .0) (a .ids .now) (a .xs .now) (a .masks) (a .stops .now) (a .m) (a .cars) (a .idle .now) (a .n) (p .1) _ _ held _ (c .before .before .before .waiting .ensures);
+        fits = p .0 .3;
+        ready = ready b (a .c) (p .0 .0) (a .ids .now) (a .xs .now) (a .masks) (a .stops) (a .cars) (a .idle) (p .1) _ _ held _ (c .before .before .before .waiting .ensures);
       },
-      (p .1 .cars-held, p .1 .rows, p .0 .4, p .0 .6, p .0 .7),
+      (p .1 .cars-held, p .1 .rows, p .0 .4, p .0 .5),
     )
 
 same-length : tie.Need-same-length

@@ -8,11 +8,11 @@ use Rattle.decisions.proofs.decide.Tie as tie
 
 write-requires : tie.Need-write-requires
 write-requires c κs =
-    let a = c .before .before .before .before .before .before .before .before .before .args in
-    let p = c .before .before .before .before .before .before .before .before .before .pre in (
+    let a = c .before .before .before .before .before .before .before .before .args in
+    let p = c .before .before .before .before .before .before .before .before .pre in (
       p,
       c .before .before .before .assign .kept .1 .1 .1 .0,
-      placed-below (a .cells .now) (a .n) (a .columns) (a .m) (a .stops .now) (a .ids .now) (length (a .decisions .now)) p (replicate 32 0) (c .before .before .before .assign .last .1 .1 .1 .0) (omega (arith, p .few)) (c .before .before .before .assign .ensures .1),
+      placed-below (a .cells .now) (a .n) (a .columns) (a .stops) (a .ids .now) (length (a .decisions .now)) p (replicate 32 0) (c .before .before .before .assign .last .1 .1 .1 .0) (omega (arith, p .few)) (c .before .before .before .assign .ensures .1),
     )
 
 same-length : tie.Need-same-length
@@ -20,11 +20,11 @@ same-length c = c .before .before .before .write .ensures .0
 
 returns : tie.Need-returns
 returns c =
-    let a = c .before .before .before .before .before .before .before .before .before .before .before .before .before .args in
-    let p = c .before .before .before .before .before .before .before .before .before .before .before .before .before .pre in (
-      least-told (a .cells .now) (a .n) (a .columns) (a .m) (a .stops .now) (a .ids .now) (length (a .decisions .now)) p 32 (omega (arith, p .few)) (c .before .before .before .before .before .before .before .assign .ensures .0) (c .total .ensures),
+    let a = c .before .before .before .before .before .before .before .before .before .before .before .before .args in
+    let p = c .before .before .before .before .before .before .before .before .before .before .before .before .pre in (
+      least-told (a .cells .now) (a .n) (a .columns) (a .stops) (a .ids .now) (length (a .decisions .now)) p 32 (omega (arith, p .few)) (c .before .before .before .before .before .before .before .assign .ensures .0) (c .total .ensures),
       c .before .before .before .write .ensures .0,
-      all-told (a .cells .now) (a .n) (a .columns) (a .m) (a .stops .now) (a .ids .now) (length (a .decisions .now)) p (replicate 32 0) (c .before .before .before .before .before .before .before .assign .last .1 .1 .1 .0) (omega (arith, p .few)) (c .before .before .before .before .before .before .before .assign .ensures .1) (drop (a .n) (a .decisions .now)) (c .before .before .before .write .ensures .1),
+      all-told (a .cells .now) (a .n) (a .columns) (a .stops) (a .ids .now) (length (a .decisions .now)) p (replicate 32 0) (c .before .before .before .before .before .before .before .assign .last .1 .1 .1 .0) (omega (arith, p .few)) (c .before .before .before .before .before .before .before .assign .ensures .1) (drop (a .n) (a .decisions .now)) (c .before .before .before .write .ensures .1),
     )
 
 pub decide-spec : {M : Type 1} → statement M

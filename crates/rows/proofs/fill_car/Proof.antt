@@ -11,20 +11,20 @@ use Rattle.rows.proofs.fill_car.Tie as tie
 
 row-for-requires : tie.Need-row-for-requires
 unfolding sheetOf
-row-for-requires c κs = let p = c .before .before .before .before .before .before .before .before .pre in ((p .small, p .ids-size, p .xs-size, p .acar-size, p .adest-size, refl), p .ready .held)
+row-for-requires c κs = let p = c .before .before .before .before .before .before .before .pre in ((p .small, p .ids-size, p .xs-size, p .acar-size, p .adest-size, refl), p .ready .held)
 
 car-row-requires : tie.Need-car-row-requires
 unfolding sheetOf
 car-row-requires c κs =
-    let a = c .before .before .before .before .before .before .before .before .before .before .before .before .before .args in
-    let p = c .before .before .before .before .before .before .before .before .before .before .before .before .before .pre in
-    let few = ready-few (sheetOf (a .s .now) (a .c)) (a .ids .now) (a .xs .now) (a .acar .now) (a .adest .now) (a .masks) (a .waiters) (a .stops .now) (a .m) (p .ready) in (
+    let a = c .before .before .before .before .before .before .before .before .before .before .before .before .args in
+    let p = c .before .before .before .before .before .before .before .before .before .before .before .before .pre in
+    let few = ready-few (sheetOf (a .s .now) (a .c)) (a .ids .now) (a .xs .now) (a .acar .now) (a .adest .now) (a .masks) (a .waiters) (a .stops) (p .ready) in (
       c .before .before .before .before .row-for .ensures .1 .1,
       p .small .stops,
       omega (arith, p .small .stops, p .xs-size),
-      omega (arith, few, p .stops-size),
       p .fits,
-      ready-below (sheetOf (a .s .now) (a .c)) (a .ids .now) (a .xs .now) (a .acar .now) (a .adest .now) (a .masks) (a .waiters) (a .stops .now) (a .m) (p .ready),
+      few,
+      ready-below (sheetOf (a .s .now) (a .c)) (a .ids .now) (a .xs .now) (a .acar .now) (a .adest .now) (a .masks) (a .waiters) (a .stops) (p .ready),
     )
 
 same-length : tie.Need-same-length
@@ -33,8 +33,8 @@ same-length c = c .before .before .before .car-row .ensures .0
 returns : tie.Need-returns
 unfolding sheetOf destsFor rowFor
 returns c =
-    let a = c .before .before .before .before .before .before .before .before .before .before .before .before .before .before .before .before .before .args in
-    let p = c .before .before .before .before .before .before .before .before .before .before .before .before .before .before .before .before .before .pre in
+    let a = c .before .before .before .before .before .before .before .before .before .before .before .before .before .before .before .before .args in
+    let p = c .before .before .before .before .before .before .before .before .before .before .before .before .before .before .before .before .pre in
     let held = c .before .before .before .before .before .before .before .before .row-for in
     let filled = c .before .before .before .car-row .ensures in
     let s = sheetOf (a .s .now) (a .c) in

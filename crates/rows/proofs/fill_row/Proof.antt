@@ -11,40 +11,40 @@ use Rattle.rows.proofs.fill_row.Statement.{statement}
 use Rattle.rows.proofs.fill_row.Tie as tie
 
 abbrev Inv-loop : tie.InvT-loop
-Inv-loop row dests xs n stops m out₀ waiters k₀ out k = (k ≤ m) × (length out ≡ length out₀) × (out ≡ tab (rowCell row dests waiters xs n stops) k ++ drop k out₀)
+Inv-loop row dests xs n out₀ waiters stops k₀ out k = (k ≤ stops .count) × (length out ≡ length out₀) × (out ≡ tab (rowCell row dests waiters xs n stops) k ++ drop k out₀)
 
 abbrev μ-loop : tie.MeasureT-loop
-μ-loop row dests xs n stops m out₀ waiters k₀ out k = m - k
+μ-loop row dests xs n out₀ waiters stops k₀ out k = stops .count - k
 
 loop-holds : tie.Need-loop-holds Inv-loop μ-loop
 unfolding tab
 loop-holds c = (omega arith, refl, refl)
 
 mul-v : tie.Need-mul-v Inv-loop μ-loop
-mul-v c = let p = c .before .before .before .before .before .before .before .pre in omega (arith, p .5 (c .before .before .loop .k) (c .before .loop-test .taken))
+mul-v c = let p = c .before .before .before .before .before .before .pre in omega (arith, p .5 (c .before .before .loop .k) (c .before .loop-test .taken))
 
 array-copy-out-v : tie.Need-array-copy-out-v Inv-loop μ-loop
-array-copy-out-v c = let p = c .before .before .before .before .before .before .before .pre in omega (arith, p .5 (c .before .before .loop .k) (c .before .loop-test .taken))
+array-copy-out-v c = let p = c .before .before .before .before .before .before .pre in omega (arith, p .5 (c .before .before .loop .k) (c .before .loop-test .taken))
 
 cell-requires : tie.Need-cell-requires Inv-loop μ-loop
-cell-requires c κs = let p = c .before .before .before .before .before .before .before .before .pre in (p .0, p .1, p .2, p .5 (c .before .before .before .loop .k) (c .before .before .loop-test .taken))
+cell-requires c κs = let p = c .before .before .before .before .before .before .before .pre in (p .0, p .1, p .2, p .5 (c .before .before .before .loop .k) (c .before .before .loop-test .taken))
 
 loop-again : tie.Need-loop-again Inv-loop μ-loop
 unfolding rowCell
 loop-again c =
     let l = c .before .before .before .before .loop in
-    let a = c .before .before .before .before .before .before .before .before .before .args in (
+    let a = c .before .before .before .before .before .before .before .before .args in (
       omega arith,
       simp length-set (l .inv .1),
-      tab-next (rowCell (a .row) (a .dests .now) (a .t3) (a .xs .now) (a .n) (a .stops .now)) (a .out .now) (l .out) (l .k) (c .cell .result) (omega arith) (l .inv .2) (c .cell .ensures),
+      tab-next (rowCell (a .row) (a .dests .now) (a .t3) (a .xs .now) (a .n) (a .t6)) (a .out .now) (l .out) (l .k) (c .cell .result) (omega arith) (l .inv .2) (c .cell .ensures),
     )
 
 returns : tie.Need-returns Inv-loop μ-loop
 returns c =
     let l = c .before .loop in
-    let a = c .before .before .before .before .before .before .args in
-    let e : l .k ≡ a .m = omega arith in
-    (l .inv .1, l .inv .2 ∙ ap (λ (n : ℕ). tab (rowCell (a .row) (a .dests .now) (a .t3) (a .xs .now) (a .n) (a .stops .now)) n ++ drop n (a .out .now)) e)
+    let a = c .before .before .before .before .before .args in
+    let e : l .k ≡ a .t6 .count = omega arith in
+    (l .inv .1, l .inv .2 ∙ ap (λ (n : ℕ). tab (rowCell (a .row) (a .dests .now) (a .t3) (a .xs .now) (a .n) (a .t6)) n ++ drop n (a .out .now)) e)
 
 pub fill-row-spec : {M : Type 1} → statement M
 fill-row-spec =
