@@ -20,10 +20,10 @@ ghost use Rattle.passprint.specs.LineLaws.{codeWord, codeEnd, codeLine, 
 use bench::Answer;
 use layout::Counts;
 use layout::Reading;
-use mask::Ones;
 use libc::STDERR_FILENO;
 use libc::STDIN_FILENO;
 use libc::STDOUT_FILENO;
+use mask::Ones;
 
 // `cars N stops M total T`.
 fn head_line(out: &mut [u8], cars: u64, stops: u64, total: u64) -> usize
