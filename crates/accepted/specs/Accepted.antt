@@ -484,7 +484,8 @@ module _ (f : Fields) where
 found : (s : List ℕ) (base len n id : ℕ) → seen s base len n id ≡ true → Found (λ i. read (from s (base + len * i)) (first 32)) n id
 unfolding seen
 found s base len n id h =
-    let (k, l, q) = any-some (λ i. eqb (read (from s (base + len * i)) (first 32)) id) n h in (k, l, eqb-true (read (from s (base + len * k)) (first 32)) id q)
+    let (k, l, q) = any-some (λ i. eqb (read (from s (base + len * i)) (first 32)) id) n h in
+    (k, l, eqb-true (read (from s (base + len * k)) (first 32)) id q)
 
 -- ids that were fresh, each of those before it, are distinct
 distinct : (ids : ℕ → ℕ) (n : ℕ) → ((i : ℕ) → i < n → any (λ k. eqb (ids k) (ids i)) i ≡ false) → Distinct ids n

@@ -39,7 +39,8 @@ abbrev clip : Fields → Fields
 clip f o w = cond (leb (o + w) (recordLength kind.Car)) (f o w) 0
 
 clip-same : (f g : Fields) → ((o w : ℕ) → o + w ≤ recordLength kind.Car → f o w ≡ g o w) → clip f ≡ clip g
-clip-same f g h = fun-ext λ o. fun-ext λ w. by-test (leb (o + w) (recordLength kind.Car)) (f o w) (g o w) (λ e. h o w (leb-true (o + w) (recordLength kind.Car) e))
+clip-same f g h = fun-ext λ o. fun-ext λ w. by-test (leb (o + w) (recordLength kind.Car)) (f o w) (g o w)
+    (λ e. h o w (leb-true (o + w) (recordLength kind.Car) e))
   where
     by-test : (b : Bool) (x y : ℕ) → (b ≡ true → x ≡ y) → cond b x 0 ≡ cond b y 0
     by-test true x y h = h refl

@@ -39,7 +39,8 @@ module _ (s : List ℕ) (c : Counts) (f : Fields) where
       let g = neither-right (unusedStop (phaseAt f) (not (eqb (read f car·stop) 0))) _ p in
       let h = neither-right (eqb (read f car·line) 0) _ (neither-right (eqb (read f car·id) 0) _ (b .0)) in
       let k = neither-right (isMoving (phaseAt f) && eqb (read f car·stop) 0) _ h in
-      exact (flag f car·hasTarget) (eqb (read f car·target) 0) (neither-left (absentSet f car·hasTarget car·target) _ g) (neither-left (presentZero f car·hasTarget car·target) _ k)
+      exact (flag f car·hasTarget) (eqb (read f car·target) 0) (neither-left (absentSet f car·hasTarget car·target) _ g)
+      (neither-left (presentZero f car·hasTarget car·target) _ k)
 
   aboard-exact : bodyRefusal s c kind.Aboard f ≡ 0 → flag f aboard·hasDestination ≡ not (eqb (read f aboard·destination) 0)
   unfolding firstOf refusal8Aboard refusal9Aboard
@@ -55,8 +56,10 @@ module _ (s : List ℕ) (c : Counts) (f : Fields) where
       let a = pick-none (refusal8Waiting f) 8 _ (omega arith) e in
       let b = pick-none (refusal9Waiting f) 9 _ (omega arith) (a .1) in
       let g = neither-right (eqb (read f waiting·stop) 0) _ (b .0) in (
-        exact (flag f waiting·hasLine) (eqb (read f waiting·line) 0) (neither-left (absentSet f waiting·hasLine waiting·line) _ (a .0)) (neither-left (presentZero f waiting·hasLine waiting·line) _ g),
-        exact (flag f waiting·hasDestination) (eqb (read f waiting·destination) 0) (neither-right (absentSet f waiting·hasLine waiting·line) _ (a .0)) (neither-right (presentZero f waiting·hasLine waiting·line) _ g),
+        exact (flag f waiting·hasLine) (eqb (read f waiting·line) 0) (neither-left (absentSet f waiting·hasLine waiting·line) _ (a .0))
+            (neither-left (presentZero f waiting·hasLine waiting·line) _ g),
+        exact (flag f waiting·hasDestination) (eqb (read f waiting·destination) 0)
+            (neither-right (absentSet f waiting·hasLine waiting·line) _ (a .0)) (neither-right (presentZero f waiting·hasLine waiting·line) _ g),
       )
 
 -- each present bit says that the sheet's field is not 0

@@ -411,8 +411,10 @@ prepared {cells} {n} {cols} {i} {f} {u} {w} {ro} {co} di fr se mx li sz st fc cl
   W-is = λ j lj. omega (arith, none j);
   S-is = λ j lj. omega (arith, left-out (at se j) 0 (at di j) (cl .zeros j lj), be .distances j lj);
   matched = start-matched (at (set ro cols i)) (at (set co i cols)) (st .matched) li rm rx ck cx;
-  priced = start-priced (at (set ro cols i)) (at (set co i cols)) (at (set u i 0)) (st .priced) rx ck cx uk (λ s ls. at-other u i 0 s (λ e. omega arith));
-  tree = start-tree n cols i (cellAt cells cols) (at (set ro cols i)) (at (set u i 0)) (at w) (at se) (λ j. cellAt cells cols i j + at w j) (at fr) li rm
+  priced = start-priced (at (set ro cols i)) (at (set co i cols)) (at (set u i 0)) (st .priced) rx ck cx uk
+      (λ s ls. at-other u i 0 s (λ e. omega arith));
+  tree = start-tree n cols i (cellAt cells cols) (at (set ro cols i)) (at (set u i 0)) (at w) (at se) (λ j. cellAt cells cols i j + at w j)
+      (at fr) li rm
       (cl .stand) (cl .zeros) (be .froms) (λ j lj. omega (arith, uk));
   below = lf;
   free = rw (rx f lf) (fc .here lf);

@@ -176,4 +176,5 @@ no-stop s limit r c e = rw (le-ltb c (pendingStops s) (omega arith))
 -- "total (0 with no idle car)"
 pub no-car : (s : Sheet) (limit : ℕ) → idleCars s ≡ 0 → answeredTotal s limit ≡ 0
 unfolding answeredTotal total sum
-no-car s limit e = chosen-total (matrix s limit) (idleCars s) (columns s) (rows-fit s) ∙ ap (λ n. sum n (λ i. matrix s limit i (columnOf (matrix s limit) (idleCars s) (columns s) i))) e
+no-car s limit e = chosen-total (matrix s limit) (idleCars s) (columns s) (rows-fit s)
+    ∙ ap (λ n. sum n (λ i. matrix s limit i (columnOf (matrix s limit) (idleCars s) (columns s) i))) e

@@ -48,7 +48,11 @@ sheet = sheetOf bytes counts
 
 -- one name that opens every definition on the way
 unfoldable pub everything : ℕ
-unfolding ofBits add sub mul div neg lt le eq round ofInt fold any every count nth lookup tab distance whole scaleCost has sheetOf limitOf stopPosition goal inGroup someoneWaits riderlessCall riddenTo hasDemand demandStop prepared sweepRank sweepCode rankOf strictDemandAhead preparedSweep riderCanBoard canExitHere servable onAboardPath pairIsUseful scan best chosen leastTotal serves lineCapacity capacityAt weightAt lineServed covered idle idleBound pending idleCars rowCar pendingStops columnStop columns keeps precedes lineServesOf viableOf nearerOf keptOf sweepAfter scanRank rank cell matrix column answeredTotal goes decision bytes counts sheet reading
+unfolding ofBits add sub mul div neg lt le eq round ofInt fold any every count nth lookup tab distance whole scaleCost has sheetOf limitOf
+    stopPosition goal inGroup someoneWaits riderlessCall riddenTo hasDemand demandStop prepared sweepRank sweepCode rankOf strictDemandAhead
+    preparedSweep riderCanBoard canExitHere servable onAboardPath pairIsUseful scan best chosen leastTotal serves lineCapacity capacityAt weightAt
+    lineServed covered idle idleBound pending idleCars rowCar pendingStops columnStop columns keeps precedes lineServesOf viableOf nearerOf keptOf
+    sweepAfter scanRank rank cell matrix column answeredTotal goes decision bytes counts sheet reading
 everything = 0
 
 -- it is accepted

@@ -94,7 +94,8 @@ crowd-accepted : verdict (crowdBytes (any-line sixty ++ any-line forty)) ≡ Acc
 unfolding everything number widths bytes written body of sheet policy scan stop line opening any-line crowdBytes crowdCounts
 crowd-accepted = refl
 
-covered-to-the-last : (covered (crowd (any-line sixty ++ any-line forty)) 0 ≡ true) × (covered (crowd (any-line sixty ++ any-line forty-one)) 0 ≡ false)
+covered-to-the-last : (covered (crowd (any-line sixty ++ any-line forty)) 0 ≡ true)
+    × (covered (crowd (any-line sixty ++ any-line forty-one)) 0 ≡ false)
 unfolding everything number widths bytes written body of sheet policy scan stop line opening any-line crowdBytes crowdCounts crowd
 covered-to-the-last = (refl, refl)
 

@@ -121,6 +121,7 @@ best-beats c m i fnil = inr (refl, lnil)
 best-beats c m i (fcons {taken = taken} {j = j} {js = js} lj free rest) =
     scan-beats
     (λ x. cond (isIn x taken) none (front (c i x) x (best c m (length js) (suc i) (x ∷ taken))))
-    (λ x. guard-head (isIn x taken) x (front (c i x) x (best c m (length js) (suc i) (x ∷ taken))) (front-head (c i x) x (best c m (length js) (suc i) (x ∷ taken))))
+    (λ x. guard-head (isIn x taken) x (front (c i x) x (best c m (length js) (suc i) (x ∷ taken)))
+    (front-head (c i x) x (best c m (length js) (suc i) (x ∷ taken))))
     m j (c i j + cost c (suc i) js) js lj
     (rw free (front-beats (c i j) j (best c m (length js) (suc i) (j ∷ taken)) (cost c (suc i) js) js (best-beats c m (suc i) rest)))

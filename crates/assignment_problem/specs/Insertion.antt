@@ -211,7 +211,18 @@ module _ {n m t : ℕ} {c : ℕ → ℕ → ℕ} {ro u w se sl fr : ℕ → ℕ}
   not-one x p e = let a : se x ≡ se j1 = ap se e in omega arith
 
   pub mark : Tree n m (suc t) c ro u w se′ sl′ fr′
-  mark = record { root = sx m (omega arith) (λ e. omega arith) ∙ tr .root; owned = ow; turn = tu; from = fo; from-seen = fs; link = li; seen-zero = sz; earlier = ea; slack-le = le }
+  mark = record {
+    root = sx m (omega arith) (λ e. omega arith) ∙ tr .root;
+    owned = ow;
+    turn = tu;
+    from = fo;
+    from-seen = fs;
+    link = li;
+    seen-zero =
+        sz;
+    earlier = ea;
+    slack-le = le;
+  }
     where
       ow : (j : ℕ) → j ≤ m → 0 < se′ j → ro j < n
       ow j lj p = ⊎-elim
@@ -283,7 +294,8 @@ pub start-matched : {n m k : ℕ} {ro co : ℕ → ℕ} (ro′ co′ : ℕ → �
 start-matched {n} {m} {k} {ro} {co} ro′ co′ h kn rm rx ck cx = record { back = b; back-row = br; forth = f; forth-col = fc }
   where
     b : (r : ℕ) → r < suc k → co′ r < suc m
-    b r lr = ⊎-elim (λ e. let a : co′ r ≡ co′ k = ap co′ e in omega arith) (λ ne. omega (arith, cx r (omega arith), h .back r (omega arith))) (same? r k)
+    b r lr = ⊎-elim (λ e. let a : co′ r ≡ co′ k = ap co′ e in omega arith) (λ ne. omega (arith, cx r (omega arith), h .back r (omega arith)))
+        (same? r k)
 
     br : (r : ℕ) → r < suc k → ro′ (co′ r) ≡ r
     br r lr = ⊎-elim

@@ -53,7 +53,13 @@ module _ (n m : ℕ) (c : ℕ → ℕ → ℕ) (B : ℕ) (nm : n ≤ m) (cells :
       let t = nearest se sl f lf of b (omega arith) in
       ⊎-elim
       (λ out. ⊎-elim
-      (λ lt. (b, omega arith, out, λ x l o. ⊎-elim (λ e. let a : sl x ≡ sl b = ap sl e in omega arith) (λ ne. let a = t .3 x (omega arith) o in omega arith) (same? x b)))
+      (λ lt. (
+        b,
+        omega arith,
+        out,
+        λ x l o. ⊎-elim (λ e. let a : sl x ≡ sl b = ap sl e in omega arith)
+            (λ ne. let a = t .3 x (omega arith) o in omega arith) (same? x b),
+      ))
       (λ ge. (t .0, t .1, t .2, λ x l o. ⊎-elim (λ e. let a : sl x ≡ sl b = ap sl e in omega arith) (λ ne. t .3 x (omega arith) o) (same? x b)))
       (less? (sl b) (sl (t .0))))
       (λ in-b. (t .0, t .1, t .2, λ x l o. ⊎-elim (λ e. absurd (in-b (sym (ap se e) ∙ o))) (λ ne. t .3 x (omega arith) o) (same? x b)))

@@ -77,7 +77,8 @@ pub same-pending : {r r′ : PendingIds} {l l′ : List ℕ} → r ≡ r′ → 
 same-pending a b = cc
 
 -- what is answered and left, by its outcome
-pub is-pending : (bytes entry : List ℕ) {y : PendingDone} {v : Reading} → pendingOutcome bytes (length entry) ≡ v → y ≡ pendingDoneOf v bytes entry → y ≡ pendingOf bytes entry
+pub is-pending : (bytes entry : List ℕ) {y : PendingDone} {v : Reading} → pendingOutcome bytes (length entry) ≡ v → y ≡ pendingDoneOf v bytes entry
+    → y ≡ pendingOf bytes entry
 is-pending bytes entry {y} {v} e is = is ∙ ap (λ (o : Reading). pendingDoneOf o bytes entry) (sym e)
 
 pub few : (bytes : List ℕ) (places : ℕ) → fewPlaces places ≡ true → pendingOutcome bytes places ≡ reading.Refused 1 0

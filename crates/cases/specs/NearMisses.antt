@@ -1,5 +1,5 @@
--- Near misses that P1 to P10 do not show, by computation: "Applying the limit before the line filter." "Dropping covered stops from ETD's count." Sums in
--- another order; "60 + 40 against 100 is covered", at its edge. Assumes nothing.
+-- Near misses that P1 to P10 do not show, by computation: "Applying the limit before the line filter." "Dropping covered stops from ETD's count."
+-- Sums in another order; "60 + 40 against 100 is covered", at its edge. Assumes nothing.
 use mathlib.Core.Path.{_≡_, refl}
 use mathlib.Core.Bool.{true, false}
 use mathlib.Core.List.{List, [], _∷_}
@@ -88,7 +88,8 @@ sheet = sheetWith []
 
 pub record NearMisses : Type 0 where
   -- stop 1 is covered and so not pending; stop 2 is, and with the limit 1 it is kept, though stop 3 is nearer: that is on another line
-  pub limit-after-line : (covered sheet 0 ≡ true) × (pending sheet 0 ≡ false) × (pending sheet 2 ≡ true) × (kept sheet 0 1 1 ≡ true) × (kept sheet 0 1 2 ≡ false)
+  pub limit-after-line : (covered sheet 0 ≡ true) × (pending sheet 0 ≡ false) × (pending sheet 2 ≡ true) × (kept sheet 0 1 1 ≡ true)
+      × (kept sheet 0 1 2 ≡ false)
   -- 5 of travel, less 1.5, and 3 for the doors at each of stops 1 and 3, which lie between
   pub covered-stops-count : cell sheet 1 0 1 ≡ 9_500_000
   -- sums are taken in record order: from the last rider, 2^53 + 1 + 1 is 2^53
@@ -97,5 +98,12 @@ pub record NearMisses : Type 0 where
   pub covered-to-the-last : (covered (sheetWith (0 ∷ 0 ∷ [])) 0 ≡ true) × (covered (sheetWith (0 ∷ 0 ∷ 0 ∷ [])) 0 ≡ false)
 
 pub near-misses : NearMisses
-unfolding everything serves lineCapacity capacityAt weightAt lineServed covered idle idleBound pending keeps precedes lineServesOf viableOf nearerOf keptOf rank cell policy carOf sheetWith sheet
-near-misses = record { limit-after-line = (refl, refl, refl, refl, refl); covered-stops-count = refl; sum-in-record-order = refl; covered-to-the-last = (refl, refl) }
+unfolding everything serves lineCapacity capacityAt weightAt lineServed covered idle idleBound pending keeps precedes lineServesOf viableOf nearerOf
+    keptOf rank cell policy carOf sheetWith sheet
+near-misses = record {
+  limit-after-line = (refl, refl, refl, refl, refl);
+  covered-stops-count = refl;
+  sum-in-record-order =
+      refl;
+  covered-to-the-last = (refl, refl);
+}

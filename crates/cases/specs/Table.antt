@@ -103,7 +103,10 @@ sheet p q c =
 
 -- one name that opens every definition on the way
 unfoldable pub everything : ℕ
-unfolding ofBits add sub mul div neg lt le eq round ofInt fold any every count nth lookup distance whole scaleCost has stopPosition goal inGroup someoneWaits riderlessCall riddenTo hasDemand demandStop sweepRank riderCanBoard canExitHere servable onAboardPath pairIsUseful fairnessBonus withBonus sumAt waitTicksSum waitTicksSquaredSum intervenes doorCost extraDelay isAhead directionBonus weighted finiteRank travelTime interveningStops riderDelay computeCost etdRank withPenalty withCoincidentCall rsrCostOf rsrRank scan best chosen leastTotal policy car sheet
+unfolding ofBits add sub mul div neg lt le eq round ofInt fold any every count nth lookup distance whole scaleCost has stopPosition goal inGroup
+    someoneWaits riderlessCall riddenTo hasDemand demandStop sweepRank riderCanBoard canExitHere servable onAboardPath pairIsUseful fairnessBonus
+    withBonus sumAt waitTicksSum waitTicksSquaredSum intervenes doorCost extraDelay isAhead directionBonus weighted finiteRank travelTime
+    interveningStops riderDelay computeCost etdRank withPenalty withCoincidentCall rsrCostOf rsrRank scan best chosen leastTotal policy car sheet
 everything = 0
 
 -- a car at 0 that sweeps up, and a stop at 1e-9
@@ -152,7 +155,8 @@ pub record Table : Type 0 where
   -- "P9 RSR, eta 1, travel 5, call bonus 8, other weights 0: 0."
   pub P9 : rankCell (rsrRank (sheet (policy strategy.Rsr traffic.Idle 1 0 8 0) (natural 20) (car phase.Idle 0x8000_0000_0000_0000)) 0 0) ≡ 0
   -- "P10 RSR, eta 1, travel 5, moving away from the stop, wrong direction 15, up peak, multiplier 2, other weights 0: 35,000,000."
-  pub P10 : rankCell (rsrRank (sheet (policy strategy.Rsr traffic.UpPeak 1 15 0 2) (neg (natural 10)) (car (phase.MovingToStop 2) 0)) 0 0) ≡ 35_000_000
+  pub P10 : rankCell (rsrRank (sheet (policy strategy.Rsr traffic.UpPeak 1 15 0 2) (neg (natural 10)) (car (phase.MovingToStop 2) 0)) 0 0) ≡
+      35_000_000
 
 pub table : Table
 unfolding everything

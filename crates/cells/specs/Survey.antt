@@ -130,7 +130,8 @@ weighed-of s h i l =
 
 pub ready : (bytes : List ℕ) (c : Counts) → verdict bytes ≡ Accepted c
     → (ids : List ℕ) (xs : List Float) (masks : StopMasks) (stops : Ones) (cars : List Car) (idle : Ones)
-    → Survey (sheetOf bytes c) ids xs masks stops cars idle → (acar adest : List ℕ) → HoldsAboard (sheetOf bytes c) acar adest (sheetOf bytes c .aboards)
+    → Survey (sheetOf bytes c) ids xs masks stops cars idle → (acar adest : List ℕ)
+    → HoldsAboard (sheetOf bytes c) acar adest (sheetOf bytes c .aboards)
     → (waiters : List Waiters) → waiters ≡ gatheredOf (sheetOf bytes c) → Ready (sheetOf bytes c) ids xs acar adest masks waiters stops
 ready bytes c e ids xs masks stops cars idle h acar adest ha waiters hw =
     let sound = accepted bytes c e .sheet in

@@ -77,7 +77,8 @@ module _ (s : Sheet) (targets lines : List ℕ) (rooms : List Float) (ids stops 
       (ap (λ (x : ℕ). eqb x (stopId s j)) (k .stop w lw))
       (ap₂ (λ (a b : Bool). a || b)
       (ap (λ (x : ℕ). eqb x 0) (k .required-line w lw))
-      (any-cong (onServedLine targets lines (stopId s j) (getD required w 0)) (λ i. serves s j i && eqb (s .car i .line) (s .waiting w .line)) (s .cars)
+      (any-cong (onServedLine targets lines (stopId s j) (getD required w 0)) (λ i. serves s j i && eqb (s .car i .line) (s .waiting w .line))
+      (s .cars)
       (λ i li. rw (serves-same i li, h .line i li, k .required-line w lw)))))
 
   pub covered-same : coveredBy targets lines rooms (s .cars) ids (s .lines) stops required weights (s .waits) (stopId s j) ≡ covered s j
@@ -85,12 +86,15 @@ module _ (s : Sheet) (targets lines : List ℕ) (rooms : List Float) (ids stops 
   covered-same = rw (any-same, lines-same, weight-same, capacity-same)
 
 -- the mask of what is asked for and covered
-pub mask-same : (s : Sheet) (targets lines : List ℕ) (rooms : List Float) (ids stops required : List ℕ) (weights : List Float) (asked : ℕ) (names : List ℕ)
+pub mask-same : (s : Sheet) (targets lines : List ℕ) (rooms : List Float) (ids stops required : List ℕ) (weights : List Float) (asked : ℕ)
+    (names : List ℕ)
     → HoldsServing s targets lines rooms ids → HoldsWaits s stops required weights → HoldsIds s asked names
-    → built (coveredIn targets lines rooms (s .cars) ids (s .lines) stops required weights (s .waits) asked names) 64 ≡ built (λ j. has asked j && covered s j) 64
+    → built (coveredIn targets lines rooms (s .cars) ids (s .lines) stops required weights (s .waits) asked names) 64 ≡ built
+    (λ j. has asked j && covered s j) 64
 unfolding coveredIn
 mask-same s targets lines rooms ids stops required weights asked names h k names-held =
-    built-cong (coveredIn targets lines rooms (s .cars) ids (s .lines) stops required weights (s .waits) asked names) (λ j. has asked j && covered s j) 64
+    built-cong (coveredIn targets lines rooms (s .cars) ids (s .lines) stops required weights (s .waits) asked names)
+    (λ j. has asked j && covered s j) 64
     (λ j l. ⊎-elim
     (λ (t : has asked j ≡ true).
     rw (t, names-held .held j l t) (covered-same s targets lines rooms ids stops required weights h k j (names-held .above-zero j l t)))

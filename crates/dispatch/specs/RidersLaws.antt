@@ -126,14 +126,16 @@ module _ (s : Sheet) (ids : List ℕ) (xs : List Float) (n : ℕ) (hs : HoldsSto
 
 -- ---- pair_is_useful
 
-module _ (s : Sheet) (i j : ℕ) (weighed : Weighed s i) (r : Riders) (dests : List Float) (hr : HoldsRiders s i r dests) (v : Waiters) (hv : HoldsWaiters s j v)
+module _ (s : Sheet) (i j : ℕ) (weighed : Weighed s i) (r : Riders) (dests : List Float) (hr : HoldsRiders s i r dests) (v : Waiters)
+    (hv : HoldsWaiters s j v)
   where
     on-path-is : onPathIn (s .car i .position) (stopAt s j) dests (r .count)
         ≡ any (λ a. rides s i a && onPathTo (s .car i .position) (stopAt s j) (boundFor s i a)) (s .aboards)
     unfolding onPathIn
     on-path-is =
         ap₂ (λ (l : List Float) (m : ℕ). any (λ k. onPathTo (s .car i .position) (stopAt s j) (At (getD l k nan))) m) (hr .held) (hr .counted)
-        ∙ any-collected (ridesTo s i) (λ a. positionOf (boundFor s i a)) (λ (d : Float). onPathTo (s .car i .position) (stopAt s j) (At d)) (s .aboards) (hr .rest) nan
+        ∙ any-collected (ridesTo s i) (λ a. positionOf (boundFor s i a)) (λ (d : Float). onPathTo (s .car i .position) (stopAt s j) (At d))
+        (s .aboards) (hr .rest) nan
         ∙ any-cong (λ a. ridesTo s i a && onPathTo (s .car i .position) (stopAt s j) (At (positionOf (boundFor s i a))))
         (λ a. rides s i a && onPathTo (s .car i .position) (stopAt s j) (boundFor s i a)) (s .aboards) (λ a l. by (rides s i a) (boundFor s i a))
       where

@@ -1,4 +1,5 @@
--- Whether a car's trip to a stop does any work: pair_is_useful of mod.rs, "as there, in its order; the aboard-path test for RSR only". Assumes nothing.
+-- Whether a car's trip to a stop does any work: pair_is_useful of mod.rs, "as there, in its order; the aboard-path test for RSR only". Assumes
+-- nothing.
 use Prim.Native.Nat.{ℕ}
 use mathlib.Core.Bool.{Bool, true, false, not, _&&_, _||_, cond}
 use lib.Dec.{eqb}
@@ -55,7 +56,8 @@ module _ (s : Sheet) (i j : ℕ) where
   unfoldable pub servable : Bool
   servable =
       cond (someoneWaits s j)
-      (any (λ w. waitsAt s j w && riderCanBoard (s .car i) (stopAt s j) (s .waiting w .weight) (stopPosition s (s .waiting w .destination))) (s .waits))
+      (any (λ w. waitsAt s j w && riderCanBoard (s .car i) (stopAt s j) (s .waiting w .weight) (stopPosition s (s .waiting w .destination)))
+      (s .waits))
       (riderlessCall s j)
 
   -- no rider aboard has a route, or the stop is on the path of one

@@ -89,7 +89,8 @@ module _ (s : Sheet) (j : ℕ) where
     waitsum-is : waiters call .waitsum ≡ waitTicksSum s j
     unfolding waiters step withRider waitTicksSum sumAt
     waitsum-is =
-        fold-map (λ (v : Waiters). v .waitsum) step (λ (a : Float) (w : ℕ). cond (waitsAt s j w) (plus a (natural (s .waiting w .wait))) a) (nobody call) (s .waits)
+        fold-map (λ (v : Waiters). v .waitsum) step (λ (a : Float) (w : ℕ). cond (waitsAt s j w) (plus a (natural (s .waiting w .wait))) a)
+        (nobody call) (s .waits)
         (λ v w l. by v w (waitsAt s j w))
       where
         by : (v : Waiters) (w : ℕ) (c : Bool) → cond c (withRider v (stopAt s j) (placeOf w) (weightOf w) (s .waiting w .wait)) v .waitsum
@@ -101,7 +102,8 @@ module _ (s : Sheet) (j : ℕ) where
     unfolding waiters step withRider waitTicksSquaredSum sumAt
     squares-is =
         fold-map (λ (v : Waiters). v .squares) step
-        (λ (a : Float) (w : ℕ). cond (waitsAt s j w) (plus a (times (natural (s .waiting w .wait)) (natural (s .waiting w .wait)))) a) (nobody call) (s .waits)
+        (λ (a : Float) (w : ℕ). cond (waitsAt s j w) (plus a (times (natural (s .waiting w .wait)) (natural (s .waiting w .wait)))) a) (nobody call)
+        (s .waits)
         (λ v w l. by v w (waitsAt s j w))
       where
         by : (v : Waiters) (w : ℕ) (c : Bool) → cond c (withRider v (stopAt s j) (placeOf w) (weightOf w) (s .waiting w .wait)) v .squares
@@ -162,7 +164,16 @@ module _ (s : Sheet) (ids : List ℕ) (xs : List Float) (n : ℕ) (hs : HoldsSto
       → meet ids xs n (getD ids j 0) (getD xs j nan) v (getD wstop w 0) (getD wdest w 0) (getD wweight w nan) (getD wwait w 0) ≡ step s j v w
   unfolding meet step
   same-step j l v w lw =
-      rw (hs .id-of j l, hs .at j l, hw .stop-of w lw, hw .bound-for w lw, hw .weight-of w lw, hw .ticks-of w lw, position-is s ids xs n hs (s .waiting w .destination))
+      rw (
+        hs .id-of j l,
+        hs .at j l,
+        hw .stop-of w lw,
+        hw .bound-for w lw,
+        hw .weight-of w lw,
+        hw .ticks-of w lw,
+        position-is s ids xs n hs
+            (s .waiting w .destination),
+      )
 
   pub waiters-held : (j : ℕ) (call : Bool) → j < n → call ≡ riderlessCall s j
       → HoldsWaiters s j (waitersIn ids xs n j call wstop wdest wweight wwait nw)
@@ -184,7 +195,8 @@ pub record Weighed (s : Sheet) (i : ℕ) : Type 0 where
 
 -- one rider: u goes up, d goes down, never both; a waits here, f fits
 one-rider : (a f u d up down : Bool) → (u ≡ true → d ≡ false)
-    → (((a && not (u || d)) && f) || ((up && ((a && u) && f)) || (down && ((a && d) && f)))) ≡ (a && (f && (not (u && not up) && not (d && not down))))
+    → (((a && not (u || d)) && f) || ((up && ((a && u) && f)) || (down && ((a && d) && f)))) ≡
+    (a && (f && (not (u && not up) && not (d && not down))))
 one-rider false f u d up down h = simp and-false
 one-rider true false u d up down h = simp and-false
 one-rider true true true true up down h = never (sym (h refl))

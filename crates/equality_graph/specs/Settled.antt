@@ -219,24 +219,26 @@ pub expand-step : {cells : List ℕ} {n cols i h len len₁ len₂ y : ℕ} {u w
     → h < len → x ≡ at qu h → r ≡ at ro x → y < cols → ExpandingAll cells n cols i h len y u w ro se fr qu se₁ fr₁ qu₁ len₁
     → VisitedAll cells n cols i len₁ x r y u w ro se₁ fr₁ qu₁ se₂ fr₂ qu₂ len₂
     → ExpandingAll cells n cols i h len (y + 1) u w ro se fr qu se₂ fr₂ qu₂ len₂
-expand-step {cells} {n} {cols} {i} {h} {len} {len₁} {len₂} {y} {u} {w} {ro} {se} {fr} {qu} {se₁} {fr₁} {qu₁} {se₂} {fr₂} {qu₂} x r lh ex er ly ea va = record {
-  expanding = λ top s.
-      let e = ea .expanding top s in
-      let l1 : h < len₁ = omega (arith, e .grows) in
-      let v = va .visited h top (e .search) (source-of x r y (e .search) l1 (ex ∙ sym (e .head h lh)) er ly) in
-      let rx : r ≡ at ro (at qu h) = er ∙ ap (at ro) ex in
-      record {
-        search = v .search;
-        shut = λ z lz o l ma. ⊎-elim
-            (λ (q : z ≡ y). v .shut (sym (ap (at se₂) q) ∙ o) (rw q at l) (rw (rx, ← q) ma))
-            (λ ne. e .shut z (omega arith) (⊎-elim (λ none. none) (λ some. absurd (let a = v .more z (omega arith) in omega arith)) (same? (at se₁ z) 0)) l ma)
-            (same? z y);
-        more = λ z p. v .more z (e .more z p);
-        head = λ p lp. v .head p (omega (arith, e .grows)) ∙ e .head p lp;
-        grows = omega (arith, e .grows, v .grows);
-      };
-  space = omega (arith, ea .space, va .space);
-}
+expand-step {cells} {n} {cols} {i} {h} {len} {len₁} {len₂} {y} {u} {w} {ro} {se} {fr} {qu} {se₁} {fr₁} {qu₁} {se₂} {fr₂} {qu₂} x r lh ex er ly ea
+    va = record {
+      expanding = λ top s.
+          let e = ea .expanding top s in
+          let l1 : h < len₁ = omega (arith, e .grows) in
+          let v = va .visited h top (e .search) (source-of x r y (e .search) l1 (ex ∙ sym (e .head h lh)) er ly) in
+          let rx : r ≡ at ro (at qu h) = er ∙ ap (at ro) ex in
+          record {
+            search = v .search;
+            shut = λ z lz o l ma. ⊎-elim
+                (λ (q : z ≡ y). v .shut (sym (ap (at se₂) q) ∙ o) (rw q at l) (rw (rx, ← q) ma))
+                (λ ne. e .shut z (omega arith)
+                (⊎-elim (λ none. none) (λ some. absurd (let a = v .more z (omega arith) in omega arith)) (same? (at se₁ z) 0)) l ma)
+                (same? z y);
+            more = λ z p. v .more z (e .more z p);
+            head = λ p lp. v .head p (omega (arith, e .grows)) ∙ e .head p lp;
+            grows = omega (arith, e .grows, v .grows);
+          };
+      space = omega (arith, ea .space, va .space);
+    }
 
 pub expand-done : {cells : List ℕ} {n cols i h len len₁ y : ℕ} {u w ro se fr qu se₁ fr₁ qu₁ : List ℕ} → h < len → cols ≤ y
     → ExpandingAll cells n cols i h len y u w ro se fr qu se₁ fr₁ qu₁ len₁ → ExpandedAll cells n cols i h len u w ro se fr qu se₁ fr₁ qu₁ len₁
@@ -253,7 +255,8 @@ expand-done {cells} {n} {cols} {i} {h} {len} {len₁} {y} {u} {w} {ro} {se} {fr}
 }
 
 -- column j was looked at from the stand
-module _ {cells : List ℕ} {n cols i j len len₁ : ℕ} {u w ro se fr qu se₁ fr₁ qu₁ : List ℕ} (rd : SearchReady cells n cols i u w ro se fr qu) (lj : j < cols)
+module _ {cells : List ℕ} {n cols i j len len₁ : ℕ} {u w ro se fr qu se₁ fr₁ qu₁ : List ℕ} (rd : SearchReady cells n cols i u w ro se fr qu)
+    (lj : j < cols)
     (s : Search cells n cols i len len j u w ro se fr qu) (va : VisitedAll cells n cols i len cols i j u w ro se fr qu se₁ fr₁ qu₁ len₁) where
   tried-first : Visited cells n cols i len len (j + 1) i j u w ro se qu se₁ fr₁ qu₁ len₁
   tried-first = va .visited len (j + 1) (search-top s) (source-stand j rd (search-top s) lj)
@@ -341,7 +344,8 @@ abbrev pub Passed : (cells : List ℕ) (n cols i j : ℕ) (u w ro se : List ℕ)
 Passed cells n cols i j u w ro se = (x : ℕ) → x < j → i ≤ at ro x → MayIn cells n cols u w i x → 0 < at se x
 
 module _ {cells : List ℕ} {n cols i len j : ℕ} {u w ro co se fr qu : List ℕ} (st : Settled cells n cols i u w ro co) (li : i < n)
-    (s : Search cells n cols i len len j u w ro se fr qu) (away : at se (at co i) ≡ 0) (pd : Passed cells n cols i j u w ro se) (top : j ≤ at co i) where
+    (s : Search cells n cols i len len j u w ro se fr qu) (away : at se (at co i) ≡ 0) (pd : Passed cells n cols i j u w ro se)
+    (top : j ≤ at co i) where
   -- no least choice that agrees on the rows before i has a column below j for it
   bound : (q : ℕ → ℕ) → IsChoice n cols q → total n (cellAt cells cols) q ≡ total n (cellAt cells cols) (at co)
       → ((r : ℕ) → r < i → q r ≡ at co r) → j ≤ q i
@@ -363,7 +367,8 @@ module _ {cells : List ℕ} {n cols i len j : ℕ} {u w ro co se fr qu : List �
   }
 
   -- column j leads to row i's own: the rows on the path move on, and row i gets j
-  module _ (rm : at ro cols ≡ i) (ro65 : length ro ≡ 65) (co32 : length co ≡ 32) (c64 : cols ≤ 64) (r32 : n ≤ 32) {looked len′ : ℕ} {se′ fr′ qu′ : List ℕ}
+  module _ (rm : at ro cols ≡ i) (ro65 : length ro ≡ 65) (co32 : length co ≡ 32) (c64 : cols ≤ 64)
+      (r32 : n ≤ 32) {looked len′ : ℕ} {se′ fr′ qu′ : List ℕ}
       (s′ : Search cells n cols i looked len′ (j + 1) u w ro se′ fr′ qu′) (found : 0 < at se′ (at co i)) where
     k : ℕ
     k = at co i
@@ -371,7 +376,8 @@ module _ {cells : List ℕ} {n cols i len j : ℕ} {u w ro co se fr qu : List �
     path : Path n cols i (cellAt cells cols) (at ro) (at u) (at w) (at se′) (at fr′)
     path = front-path (s′ .front) (st .matched) (st .priced) li rm
 
-    walk : Walk n cols n i (at co i) (cellAt cells cols) (at ro) (at co) (at u) (at w) (at se′) (at fr′) (at (set ro (at co i) n)) (at (set co i cols))
+    walk : Walk n cols n i (at co i) (cellAt cells cols) (at ro) (at co) (at u) (at w) (at se′) (at fr′) (at (set ro (at co i) n))
+        (at (set co i cols))
     walk =
         let lk : at co i < cols = st .matched .back i li in
         front-walk (s′ .front) (st .matched) (st .priced) li rm (at (set ro (at co i) n)) (at (set co i cols)) found
@@ -490,7 +496,8 @@ module _ {cells : List ℕ} {n cols i k len j : ℕ} {u w ro co qu fr se : List 
     settled = lo .settled;
     own = lo .own;
     below = omega arith;
-    search = subst (λ (h : ℕ). Search cells n cols i h len′ (j + 1) u w ro se′ fr′ qu′) (omega (arith, re .all away, re .search .front .order)) (re .search);
+    search = subst (λ (h : ℕ). Search cells n cols i h len′ (j + 1) u w ro se′ fr′ qu′) (omega (arith, re .all away, re .search .front .order))
+        (re .search);
     away = away;
     passed = λ x lx l ma. ⊎-elim
         (λ (e : x ≡ j). rw e (re .tried (rw e at l) (rw e at ma)))
@@ -505,18 +512,21 @@ module _ {cells : List ℕ} {n cols i k len j : ℕ} {u w ro co qu fr se : List 
       (let o = lo .own in let b = lo .below in omega arith)
 
   -- k was seen from j
-  module _ {len′ : ℕ} {se′ fr′ qu′ : List ℕ} (lt : j < k) (re : SearchEnded cells n cols i j k u w ro se se′ fr′ qu′ len′) (found : 0 < at se′ k) where
+  module _ {len′ : ℕ} {se′ fr′ qu′ : List ℕ} (lt : j < k) (re : SearchEnded cells n cols i j k u w ro se se′ fr′ qu′ len′)
+      (found : 0 < at se′ k) where
     found-own : 0 < at se′ (at co i)
     found-own = rw (lo .own) found
 
     pub lower-going : Going n cols se′ fr′ (set ro k n) (set co i cols) k
     lower-going = subst (λ (x : ℕ). Going n cols se′ fr′ (set ro x n) (set co i cols) x) (lo .own)
-        (settle-going (lo .settled) li (lo .search) away-own (lo .passed) (let o = lo .own in omega arith) (lo .ready .stand) (lo .ready .ro65) (lo .co32)
+        (settle-going (lo .settled) li (lo .search) away-own (lo .passed) (let o = lo .own in omega arith) (lo .ready .stand) (lo .ready .ro65)
+        (lo .co32)
         (lo .ready .matrix .cols64) (lo .ready .matrix .rows32) (re .search) found-own)
 
     pub lower-moved : (ro′ co′ : List ℕ) → Gone n cols se′ fr′ (set ro k n) (set co i cols) k ro′ co′ cols
         → Settled cells n cols (i + 1) u w ro′ co′
     lower-moved ro′ co′ gone =
-        settle-move (lo .settled) li (lo .search) away-own (lo .passed) (let o = lo .own in omega arith) (lo .ready .stand) (lo .ready .ro65) (lo .co32)
+        settle-move (lo .settled) li (lo .search) away-own (lo .passed) (let o = lo .own in omega arith) (lo .ready .stand) (lo .ready .ro65)
+        (lo .co32)
         (lo .ready .matrix .cols64) (lo .ready .matrix .rows32) (re .search) found-own ro′ co′
         (subst (λ (x : ℕ). Gone n cols se′ fr′ (set ro x n) (set co i cols) x ro′ co′ cols) (sym (lo .own)) gone)

@@ -113,7 +113,8 @@ module _ {n m i : ℕ} {c : ℕ → ℕ → ℕ} {ro co u w se : ℕ → ℕ}
 
   case-raise : ((x : ℕ) → x < m → n ≤ ro x → 0 < se x) → total n c co < total n c q
   case-raise all-in =
-      raise hp (priced-tight h g) (g .under) i li out-set out-one (λ r lr. out-fixed (co r) (let e = h .back-row r (omega arith) in omega arith)) q hq agree
+      raise hp (priced-tight h g) (g .under) i li out-set out-one (λ r lr. out-fixed (co r) (let e = h .back-row r (omega arith) in omega arith)) q
+      hq agree
       (λ j lj no-k. out-seen j (⊎-elim (λ l. absurd (no-k (ro j) l (h .forth-col j lj l))) (λ ge. all-in j lj ge) (less? (ro j) n)))
       (λ r y ir lr ly no-s zr zy. shut-in r y ir lr ly
       (⊎-elim (λ z. z) (λ ne. absurd (let a = out-seen (co r) (omega arith) in omega arith)) (same? (se (co r)) 0))

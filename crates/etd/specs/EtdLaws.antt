@@ -36,7 +36,8 @@ module _ (s : Sheet) (ids : List ℕ) (xs : List Float) (n demand : ℕ) (hs : H
     delay-is : delayIn (s .car i .position) (stopAt s j) (s .car i .speed) dests (r .count) ≡ riderDelay s i j
     unfolding delayIn riderDelay
     delay-is =
-        ap₂ (λ (l : List Float) (m : ℕ). fold (λ a k. plus a (extraDelay (s .car i .position) (stopAt s j) (getD l k nan) (s .car i .speed))) zero m) (hr .held) (hr .counted)
+        ap₂ (λ (l : List Float) (m : ℕ). fold (λ a k. plus a (extraDelay (s .car i .position) (stopAt s j) (getD l k nan) (s .car i .speed))) zero
+        m) (hr .held) (hr .counted)
         ∙ fold-collected (ridesTo s i) (λ b. positionOf (boundFor s i b))
         (λ (a d : Float). plus a (extraDelay (s .car i .position) (stopAt s j) d (s .car i .speed))) zero (s .aboards) (hr .rest) nan
         ∙ fold-cong

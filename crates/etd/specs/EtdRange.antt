@@ -153,7 +153,8 @@ module _ (s : Sheet) (a : Admitted s) (i j : ℕ) (li : i < s .cars) (lj : j < s
   cost-finite : finite (fairCost s i j) ≡ true
   cost-finite =
       size-finite (2 ^ 650) (fairCost s i j)
-      (withBonus-size 565 649 (withBonus (computeCost s i j) (s .policy .w3) (waitTicksSquaredSum s j)) (s .policy .w4) (waitTicksSum s j) (lit≤ tt) (lit≤ tt)
+      (withBonus-size 565 649 (withBonus (computeCost s i j) (s .policy .w3) (waitTicksSquaredSum s j)) (s .policy .w4) (waitTicksSum s j) (lit≤ tt)
+      (lit≤ tt)
       (withBonus-size 618 648 (computeCost s i j) (s .policy .w3) (waitTicksSquaredSum s j) (lit≤ tt) (lit≤ tt)
       (grow 577 648 (computeCost s i j) (lit≤ tt) cost-size) (mass-power (s .policy .w3) (a .w3)) (squares-size s a j))
       (mass-power (s .policy .w4) (a .w4)) (waitsum-size s a j))

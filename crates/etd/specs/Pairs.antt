@@ -67,7 +67,8 @@ unfoldable pub fairCostBy : Policy → Car → Place → ℕ → List Float → 
 fairCostBy y c goal count dests w demand xs n p =
     withBonus (withBonus (costBy y c goal count dests demand xs n p) (y .w3) (w .squares)) (y .w4) (w .waitsum)
 
-pub fair-by : (y : Policy) (c : Car) (goal : Place) (count : ℕ) (dests : List Float) (w : Waiters) (demand : ℕ) (xs : List Float) (n : ℕ) (p : Float) {cost squared r : Float}
+pub fair-by : (y : Policy) (c : Car) (goal : Place) (count : ℕ) (dests : List Float) (w : Waiters) (demand : ℕ) (xs : List Float) (n : ℕ)
+    (p : Float) {cost squared r : Float}
     → cost ≡ costBy y c goal count dests demand xs n p → squared ≡ withBonus cost (y .w3) (w .squares) → r ≡ withBonus squared (y .w4) (w .waitsum)
     → r ≡ fairCostBy y c goal count dests w demand xs n p
 unfolding fairCostBy

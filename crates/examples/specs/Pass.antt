@@ -24,5 +24,6 @@ pub record Passes (s : Sheet) (limit n m : ℕ) (cells : List ℕ) (total : ℕ)
   pub swept : tab (λ i. sweepCode (sweepAfter s i)) (s .cars) ≡ sweeps
 
 unfoldable pub pass : ℕ
-unfolding everything tabs fairnessBonus withBonus sumAt waitTicksSum waitTicksSquaredSum intervenes doorCost extraDelay isAhead directionBonus weighted finiteRank travelTime interveningStops riderDelay computeCost etdRank withPenalty withCoincidentCall rsrCostOf rsrRank
+unfolding everything tabs fairnessBonus withBonus sumAt waitTicksSum waitTicksSquaredSum intervenes doorCost extraDelay isAhead directionBonus
+    weighted finiteRank travelTime interveningStops riderDelay computeCost etdRank withPenalty withCoincidentCall rsrCostOf rsrRank
 pass = 0

@@ -54,10 +54,12 @@ unfolding opened
 accepted = refl
 
 -- the aboard-path test alone refuses car 8 stops 1 and 3
-pub refused : (pairIsUseful sheet 1 0 false ≡ true) × (pairIsUseful sheet 1 0 true ≡ false) × (pairIsUseful sheet 1 2 false ≡ true) × (pairIsUseful sheet 1 2 true ≡ false)
+pub refused : (pairIsUseful sheet 1 0 false ≡ true) × (pairIsUseful sheet 1 0 true ≡ false) × (pairIsUseful sheet 1 2 false ≡ true)
+    × (pairIsUseful sheet 1 2 true ≡ false)
 unfolding opened
 refused = (refl, refl, refl, refl)
 
-pub passed : Passes sheet (limitOf bytes) 2 3 (35_000_000 ∷ sentinel ∷ 3_000_000 ∷ sentinel ∷ 2_500_000 ∷ sentinel ∷ []) 5_500_000 (3 ∷ 2 ∷ []) (0 ∷ 0 ∷ [])
+pub passed : Passes sheet (limitOf bytes) 2 3 (35_000_000 ∷ sentinel ∷ 3_000_000 ∷ sentinel ∷ 2_500_000 ∷ sentinel ∷ []) 5_500_000 (3 ∷ 2 ∷ [])
+    (0 ∷ 0 ∷ [])
 unfolding opened
 passed = record { cars = refl; stops = refl; filled = refl; totalled = refl; decided = refl; swept = refl }

@@ -91,7 +91,8 @@ distance-comm (fin s m e) (fin t n d) =
     let a = m * up e * down d in
     let b = n * up d * down e in
     abs-sum s a (not t) b (down e * down d)
-    ∙ ap₂ (λ (k c : ℕ). round binary64 false k c) (ap (λ (l : Bool). size l a b) (like-comm s t) ∙ size-comm (Bool·beq t (not s)) a b) (mul-comm (down e) (down d))
+    ∙ ap₂ (λ (k c : ℕ). round binary64 false k c) (ap (λ (l : Bool). size l a b) (like-comm s t) ∙ size-comm (Bool·beq t (not s)) a b)
+    (mul-comm (down e) (down d))
     ∙ sym (abs-sum t b (not s) a (down d * down e))
 
 -- ---- at least zero

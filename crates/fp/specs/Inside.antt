@@ -1,5 +1,5 @@
--- What the ranges give: each of their doubles is finite, masses and thresholds are at least zero, tick rates and speeds but zero are above it. Assumes
--- nothing.
+-- What the ranges give: each of their doubles is finite, masses and thresholds are at least zero, tick rates and speeds but zero are above it.
+-- Assumes nothing.
 use Prim.Native.Nat.{ℕ, _+_, _*_, _≤_}
 use native.Mathlib.Omega.{arith}
 use mathlib.Core.Path.{_≡_, refl}

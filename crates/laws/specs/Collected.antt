@@ -55,7 +55,8 @@ module _ {A : Type 0} (p : ℕ → Bool) (f : ℕ → A) where
   fold-collected {B} g b (suc n) r d = by (p n) (λ s. fold-collected g b n s d)
     where
       by : (c : Bool)
-          → ((s : List A) → fold (λ (x : B) (k : ℕ). g x (getD (collected p f n ++ s) k d)) b (count p n) ≡ fold (λ (x : B) (k : ℕ). cond (p k) (g x (f k)) x) b n)
+          → ((s : List A) → fold (λ (x : B) (k : ℕ). g x (getD (collected p f n ++ s) k d)) b (count p n) ≡ fold
+          (λ (x : B) (k : ℕ). cond (p k) (g x (f k)) x) b n)
           → fold (λ (x : B) (k : ℕ). g x (getD (cond c (collected p f n ++ (f n ∷ [])) (collected p f n) ++ r) k d)) b (count p n + bit c)
           ≡ cond c (g (fold (λ (x : B) (k : ℕ). cond (p k) (g x (f k)) x) b n) (f n)) (fold (λ (x : B) (k : ℕ). cond (p k) (g x (f k)) x) b n)
       by true h =

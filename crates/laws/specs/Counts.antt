@@ -51,7 +51,8 @@ count-one p (suc n) h =
     (λ (e : p n ≡ true).
     omega (
       arith,
-      count-none p n (λ k l. ⊎-elim (λ (t : p k ≡ true). absurd (let q = h k n (omega arith) (omega arith) t e in omega arith)) (λ (t : p k ≡ false). t) (which (p k))),
+      count-none p n (λ k l. ⊎-elim (λ (t : p k ≡ true). absurd (let q = h k n (omega arith) (omega arith) t e in omega arith))
+          (λ (t : p k ≡ false). t) (which (p k))),
       ap bit e,
     ))
     (λ (e : p n ≡ false). omega (arith, count-one p n (λ a b la lb. h a b (omega arith) (omega arith)), ap bit e))

@@ -36,19 +36,82 @@ none = record { policies = 0; stops = 0; lines = 0; cars = 0; aboards = 0; waits
 -- one record more
 abbrev pub next : Counts → Kind → Counts
 next c Policy =
-    record { policies = c .policies + 1; stops = c .stops; lines = c .lines; cars = c .cars; aboards = c .aboards; waits = c .waits; demands = c .demands }
+    record {
+      policies = c .policies + 1;
+      stops = c .stops;
+      lines = c .lines;
+      cars = c .cars;
+      aboards = c .aboards;
+      waits = c .waits;
+      demands =
+          c .demands;
+    }
 next c Stop =
-    record { policies = c .policies; stops = c .stops + 1; lines = c .lines; cars = c .cars; aboards = c .aboards; waits = c .waits; demands = c .demands }
+    record {
+      policies = c .policies;
+      stops = c .stops + 1;
+      lines = c .lines;
+      cars = c .cars;
+      aboards = c .aboards;
+      waits = c .waits;
+      demands =
+          c .demands;
+    }
 next c Line =
-    record { policies = c .policies; stops = c .stops; lines = c .lines + 1; cars = c .cars; aboards = c .aboards; waits = c .waits; demands = c .demands }
+    record {
+      policies = c .policies;
+      stops = c .stops;
+      lines = c .lines + 1;
+      cars = c .cars;
+      aboards = c .aboards;
+      waits = c .waits;
+      demands =
+          c .demands;
+    }
 next c Car =
-    record { policies = c .policies; stops = c .stops; lines = c .lines; cars = c .cars + 1; aboards = c .aboards; waits = c .waits; demands = c .demands }
+    record {
+      policies = c .policies;
+      stops = c .stops;
+      lines = c .lines;
+      cars = c .cars + 1;
+      aboards = c .aboards;
+      waits = c .waits;
+      demands =
+          c .demands;
+    }
 next c Aboard =
-    record { policies = c .policies; stops = c .stops; lines = c .lines; cars = c .cars; aboards = c .aboards + 1; waits = c .waits; demands = c .demands }
+    record {
+      policies = c .policies;
+      stops = c .stops;
+      lines = c .lines;
+      cars = c .cars;
+      aboards = c .aboards + 1;
+      waits = c .waits;
+      demands =
+          c .demands;
+    }
 next c Waiting =
-    record { policies = c .policies; stops = c .stops; lines = c .lines; cars = c .cars; aboards = c .aboards; waits = c .waits + 1; demands = c .demands }
+    record {
+      policies = c .policies;
+      stops = c .stops;
+      lines = c .lines;
+      cars = c .cars;
+      aboards = c .aboards;
+      waits = c .waits + 1;
+      demands =
+          c .demands;
+    }
 next c Demand =
-    record { policies = c .policies; stops = c .stops; lines = c .lines; cars = c .cars; aboards = c .aboards; waits = c .waits; demands = c .demands + 1 }
+    record {
+      policies = c .policies;
+      stops = c .stops;
+      lines = c .lines;
+      cars = c .cars;
+      aboards = c .aboards;
+      waits = c .waits;
+      demands =
+          c .demands + 1;
+    }
 next c Unknown = c
 
 -- "Head: edition 8 bits (1), record count 16 bits."

@@ -280,7 +280,8 @@ refusal8Waiting f = absentSet f waiting·hasLine waiting·line || absentSet f wa
 
 -- "9, id 0 in any id field that is present and used"
 unfoldable pub refusal9Waiting : Fields → Bool
-refusal9Waiting f = eqb (read f waiting·stop) 0 || (presentZero f waiting·hasLine waiting·line || presentZero f waiting·hasDestination waiting·destination)
+refusal9Waiting f = eqb (read f waiting·stop) 0 ||
+    (presentZero f waiting·hasLine waiting·line || presentZero f waiting·hasDestination waiting·destination)
 
 -- "10, no record for .. the stop of kinds 6 and 7"
 unfoldable pub refusal10Waiting : List ℕ → Counts → Fields → Bool

@@ -45,13 +45,83 @@ clean s c e =
 -- ---- one record more
 
 pub next-small : (c : Counts) (k : Kind) → Small c → refusal7 c k ≡ false → c .demands < 65535 → Small (next c k)
-next-small c Policy h e d = let l = leb-false 1 (c .policies) e in record { policies = omega arith; stops = h .stops; lines = h .lines; cars = h .cars; aboards = h .aboards; waits = h .waits; demands = h .demands }
-next-small c Stop h e d = let l = leb-false 64 (c .stops) e in record { policies = h .policies; stops = omega arith; lines = h .lines; cars = h .cars; aboards = h .aboards; waits = h .waits; demands = h .demands }
-next-small c Line h e d = let l = leb-false 8 (c .lines) e in record { policies = h .policies; stops = h .stops; lines = omega arith; cars = h .cars; aboards = h .aboards; waits = h .waits; demands = h .demands }
-next-small c Car h e d = let l = leb-false 32 (c .cars) e in record { policies = h .policies; stops = h .stops; lines = h .lines; cars = omega arith; aboards = h .aboards; waits = h .waits; demands = h .demands }
-next-small c Aboard h e d = let l = leb-false 512 (c .aboards) e in record { policies = h .policies; stops = h .stops; lines = h .lines; cars = h .cars; aboards = omega arith; waits = h .waits; demands = h .demands }
-next-small c Waiting h e d = let l = leb-false 512 (c .waits) e in record { policies = h .policies; stops = h .stops; lines = h .lines; cars = h .cars; aboards = h .aboards; waits = omega arith; demands = h .demands }
-next-small c Demand h e d = record { policies = h .policies; stops = h .stops; lines = h .lines; cars = h .cars; aboards = h .aboards; waits = h .waits; demands = omega arith }
+next-small c Policy h e d = let l = leb-false 1 (c .policies) e in
+    record {
+      policies = omega arith;
+      stops = h .stops;
+      lines = h .lines;
+      cars = h .cars;
+      aboards = h .aboards;
+      waits = h .waits;
+      demands =
+          h .demands;
+    }
+next-small c Stop h e d = let l = leb-false 64 (c .stops) e in
+    record {
+      policies = h .policies;
+      stops = omega arith;
+      lines = h .lines;
+      cars = h .cars;
+      aboards = h .aboards;
+      waits = h .waits;
+      demands =
+          h .demands;
+    }
+next-small c Line h e d = let l = leb-false 8 (c .lines) e in
+    record {
+      policies = h .policies;
+      stops = h .stops;
+      lines = omega arith;
+      cars = h .cars;
+      aboards = h .aboards;
+      waits = h .waits;
+      demands =
+          h .demands;
+    }
+next-small c Car h e d = let l = leb-false 32 (c .cars) e in
+    record {
+      policies = h .policies;
+      stops = h .stops;
+      lines = h .lines;
+      cars = omega arith;
+      aboards = h .aboards;
+      waits = h .waits;
+      demands =
+          h .demands;
+    }
+next-small c Aboard h e d = let l = leb-false 512 (c .aboards) e in
+    record {
+      policies = h .policies;
+      stops = h .stops;
+      lines = h .lines;
+      cars = h .cars;
+      aboards = omega arith;
+      waits = h .waits;
+      demands =
+          h .demands;
+    }
+next-small c Waiting h e d = let l = leb-false 512 (c .waits) e in
+    record {
+      policies = h .policies;
+      stops = h .stops;
+      lines = h .lines;
+      cars = h .cars;
+      aboards = h .aboards;
+      waits = omega arith;
+      demands =
+          h .demands;
+    }
+next-small c Demand h e d =
+    record {
+      policies = h .policies;
+      stops = h .stops;
+      lines = h .lines;
+      cars = h .cars;
+      aboards = h .aboards;
+      waits = h .waits;
+      demands =
+          omega arith;
+    }
 next-small c Unknown h e d = h
 
 -- the next record adds at most one demand

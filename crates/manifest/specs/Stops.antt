@@ -42,13 +42,15 @@ module _ (ids : List ℕ) (n id : ℕ) where
 
   pub search-found : (k : ℕ) → Searched ids n id k → 0 < k → getD ids (k - 1) 0 ≡ id → k - 1 ≡ stopIndex ids n id
   search-found k h l e =
-      sym (h .so-far ∙ one-down k l ∙ ap (λ (b : Bool). cond b (k - 1) (lookup (λ j. eqb (getD ids j 0) id) (λ j. j) n (k - 1))) (eq-eqb (getD ids (k - 1) 0) id e))
+      sym (h .so-far ∙ one-down k l ∙ ap (λ (b : Bool). cond b (k - 1) (lookup (λ j. eqb (getD ids j 0) id) (λ j. j) n (k - 1)))
+      (eq-eqb (getD ids (k - 1) 0) id e))
 
   pub search-on : (k : ℕ) → Searched ids n id k → 0 < k → getD ids (k - 1) 0 ≢ id → Searched ids n id (k - 1)
   search-on k h l e =
       record {
         within = let m = h .within in omega arith;
-        so-far = h .so-far ∙ one-down k l ∙ ap (λ (b : Bool). cond b (k - 1) (lookup (λ j. eqb (getD ids j 0) id) (λ j. j) n (k - 1))) (ne-eqb (getD ids (k - 1) 0) id e);
+        so-far = h .so-far ∙ one-down k l ∙ ap (λ (b : Bool). cond b (k - 1) (lookup (λ j. eqb (getD ids j 0) id) (λ j. j) n (k - 1)))
+            (ne-eqb (getD ids (k - 1) 0) id e);
       }
 
   pub search-none : (k : ℕ) → Searched ids n id k → k ≤ 0 → n ≡ stopIndex ids n id

@@ -24,7 +24,8 @@ tooLarge cells k = ltb mostCell (getD cells k 0)
 -- for its columns than cars, it answers "none" and writes nothing." (A cell is a u64, so none is below 0.)
 unfoldable pub refused : ℕ → ℕ → List ℕ → ℕ → Bool
 refused cars columns cells places =
-    ltb 32 cars || (ltb 64 columns || (ltb columns cars || (not (eqb (length cells) (cars * columns)) || (ltb places cars || any (tooLarge cells) (length cells)))))
+    ltb 32 cars || (ltb 64 columns ||
+    (ltb columns cars || (not (eqb (length cells) (cars * columns)) || (ltb places cars || any (tooLarge cells) (length cells)))))
 
 -- the answer: the least total, or none
 unfoldable pub matching : ℕ → ℕ → List ℕ → ℕ → Matching

@@ -1,5 +1,5 @@
--- The pairs ranked are within document 01's bound: "at most n × limit (n × m with none)". A limit keeps the smaller of itself and the viable stops of a
--- car, since distance and then id put the stops of an accepted sheet in one order. Assumes nothing.
+-- The pairs ranked are within document 01's bound: "at most n × limit (n × m with none)". A limit keeps the smaller of itself and the viable stops of
+-- a car, since distance and then id put the stops of an accepted sheet in one order. Assumes nothing.
 use Prim.Native.Nat.{ℕ, _≤_, _<_, min}
 use mathlib.Core.Path.{_≡_, sym, _∙_}
 use mathlib.Core.Bool.{Bool, true, false, not, _&&_}
@@ -54,7 +54,8 @@ unfolding precedes
 tells x a y b e =
     ⊎-elim
     (λ (h : lt x y ≡ true). inl h)
-    (λ (h : (not (lt y x) && ltb a b) ≡ true). inr (not-true (lt y x) (both-left (not (lt y x)) (ltb a b) h), ltb-true a b (both-right (not (lt y x)) (ltb a b) h)))
+    (λ (h : (not (lt y x) && ltb a b) ≡ true). inr
+    (not-true (lt y x) (both-left (not (lt y x)) (ltb a b) h), ltb-true a b (both-right (not (lt y x)) (ltb a b) h)))
     (either (lt x y) (not (lt y x) && ltb a b) e)
 
 pub precedes-self : (x : Float) (a : ℕ) → precedes x a x a ≡ false

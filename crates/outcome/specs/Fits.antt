@@ -63,7 +63,8 @@ total-most bytes c limit e =
     let s = sheetOf bytes c in
     let n = fits bytes c e .decisions in
     let is = chosen-total (matrix s limit) (idleCars s) (columns s) (rows-fit s) in
-    let most = sum-le (idleCars s) 281474976710656 {f = λ r. matrix s limit r (columnOf (matrix s limit) (idleCars s) (columns s) r)} (λ r l. matrix-le s limit r _) in
+    let most = sum-le (idleCars s) 281474976710656 {f = λ r. matrix s limit r (columnOf (matrix s limit) (idleCars s) (columns s) r)}
+    (λ r l. matrix-le s limit r _) in
     omega arith
 
 -- a buffer that is long enough keeps its length
@@ -75,7 +76,8 @@ decisions-length s limit entry h l = tab-length (decision s limit) (idleCars s) 
 pub cells-length : (s : Sheet) (limit : ℕ) (entry : List ℕ) → Fits s → 2048 ≤ length entry
     → length (cellsOf s limit entry) ≡ length entry
 unfolding cellsOf
-cells-length s limit entry h l = tabs-length (matrix s limit) (columns s) (idleCars s) (idleCars s * columns s) entry _ refl (omega (arith, h .cells)) refl
+cells-length s limit entry h l = tabs-length (matrix s limit) (columns s) (idleCars s) (idleCars s * columns s) entry _ refl
+    (omega (arith, h .cells)) refl
 
 pub sweeps-length : (s : Sheet) (entry : List ℕ) → Fits s → 32 ≤ length entry → length (sweepsOf s entry) ≡ length entry
 unfolding sweepsOf

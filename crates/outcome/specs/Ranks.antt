@@ -1,4 +1,5 @@
--- Every rank of an accepted sheet is finite and nonnegative, under ETD, RSR and SCAN, and whatever the limit: a rank does not depend on it. Assumes nothing.
+-- Every rank of an accepted sheet is finite and nonnegative, under ETD, RSR and SCAN, and whatever the limit: a rank does not depend on it. Assumes
+-- nothing.
 use Prim.Native.Nat.{ℕ, _<_}
 use native.Mathlib.Omega.{arith}
 use mathlib.Core.Path.{_≡_, ap, _∙_}

@@ -1,5 +1,6 @@
--- The lines that passprint prints of a byte string. Document 01: "It prints one line of n, m and total, then a line for each idle car's decision, then one
--- for each idle car's sweep and mode, both in record order"; "An idle decision ends `idle`; a refusal prints `refused N at OFFSET`." Assumes nothing.
+-- The lines that passprint prints of a byte string. Document 01: "It prints one line of n, m and total, then a line for each idle car's decision,
+-- then one for each idle car's sweep and mode, both in record order"; "An idle decision ends `idle`; a refusal prints `refused N at OFFSET`." Assumes
+-- nothing.
 use Prim.Native.Nat.{ℕ}
 use mathlib.Core.Bool.{cond}
 use mathlib.Core.List.{List, [], _∷_, _++_}

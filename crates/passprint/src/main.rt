@@ -236,7 +236,8 @@ fn is_read(n: usize) -> bool {
 fn usage() {
     io::write_all(
         STDOUT_FILENO,
-        b"usage: passprint < SHEET\n\nPrints the pass over one sheet: its idle cars, pending stops and least total, then each\nidle car's stop, then each idle car's sweep and mode; or why the sheet is refused.\n",
+        b"usage: passprint < SHEET\n\nPrints the pass over one sheet: its idle cars, pending stops and least total, then each\nidle car's stop, then
+            each idle car's sweep and mode; or why the sheet is refused.\n",
     );
 }
 

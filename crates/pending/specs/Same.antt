@@ -106,7 +106,8 @@ module _ (s : Sheet) where
 
   pub demand-mask : (group waited ridden calls : ℕ) → group ≡ built (lineStop s true 0 (s .lines)) 64
       → waited ≡ stopMask s (someoneWaits s) → ridden ≡ stopMask s (riddenTo s) → calls ≡ stopMask s (riderlessCall s)
-      → built (λ j. has group j && has (built (λ k. has waited k || has (built (λ i. has ridden i || has calls i) 64) k) 64) j) 64 ≡ stopMask s (demandStop s)
+      → built (λ j. has group j && has (built (λ k. has waited k || has (built (λ i. has ridden i || has calls i) 64) k) 64) j) 64 ≡ stopMask s
+      (demandStop s)
   unfolding demandStop hasDemand
   demand-mask group waited ridden calls eg ew er ec =
       built-cong (λ j. has group j && has (built (λ k. has waited k || has (built (λ i. has ridden i || has calls i) 64) k) 64) j)

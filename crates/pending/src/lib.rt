@@ -180,7 +180,8 @@ pub struct StopMasks {
 
 // The masks of the stops, whose ids are at hand.
 pub fn stop_masks<'a>(s: &'a [u8], c: Counts, names: &'a [u32]) -> StopMasks
-    requires { ⌜ Small c × (c .demands ≤ 64) × (length (now names) ≡ 64) × HoldsNames (sheetOf (now s) c) (now names) × Boarded (sheetOf (now s) c) ⌝ }
+    requires { ⌜ Small c × (c .demands ≤ 64) × (length (now names) ≡ 64) × HoldsNames (sheetOf (now s) c) (now names)
+        × Boarded (sheetOf (now s) c) ⌝ }
     ensures { λ r. ⌜ r ≡ masksOf (sheetOf (now (s .entry)) c) ⌝ }
 {
     let calls = call_stops(s, c, names);

@@ -23,7 +23,8 @@ use Rattle.ranking.specs.declared.Row.{Row}
 
 unfoldable pub scanBy : Row → List Float → Waiters → List Float → ℕ → Rank
 scanBy row dests v xs j =
-    rankOf (row .sweep) (usefulBy (row .car) (row .goal) (row .riders) dests v (has (row .riders .exits) j) (getD xs j nan) false) (row .car .position) (getD xs j nan)
+    rankOf (row .sweep) (usefulBy (row .car) (row .goal) (row .riders) dests v (has (row .riders .exits) j) (getD xs j nan) false)
+    (row .car .position) (getD xs j nan)
 
 unfoldable pub rankBy : Row → List Float → Waiters → List Float → ℕ → ℕ → Rank
 rankBy row dests v xs n j =

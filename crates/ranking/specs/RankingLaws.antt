@@ -75,7 +75,8 @@ module _ (s : Sheet) (ids : List ℕ) (xs : List Float) (hs : HoldsStops s ids x
       (scanBy row dests v xs j) Never)
       (ap (λ (p : Policy). p .strategy) (h .policy))
       ∙ by-parts (s .policy .strategy) Never (etdRank s i j) (rsrRank s i j) (scanRank s (sweepAfter s i) i j)
-      (rw (h .policy, h .car, h .goal-is) (etd-is s ids xs (s .stops) (row .demand) hs (h .demand) i j (row .riders) dests (h .riders) weighed v hv l))
+      (rw (h .policy, h .car, h .goal-is)
+      (etd-is s ids xs (s .stops) (row .demand) hs (h .demand) i j (row .riders) dests (h .riders) weighed v hv l))
       (rw (h .policy, h .car, h .goal-is) (rsr-is s ids xs (s .stops) hs i j (row .riders) dests (h .riders) v hv weighed l))
       scan-is
 

@@ -50,7 +50,8 @@ module _ (first second : List ℕ) where
 past : (l : List ℕ) (k : ℕ) → length l ≤ k → getD l k 0 ≡ 0
 past l k h =
     let e : k ≡ length l + (k - length l) = omega arith in
-    ap (λ (j : ℕ). getD l j 0) e ∙ ap (λ (m : List ℕ). getD m (length l + (k - length l)) 0) (sym (append-nil l)) ∙ getD-append-add l [] (k - length l) 0
+    ap (λ (j : ℕ). getD l j 0) e ∙ ap (λ (m : List ℕ). getD m (length l + (k - length l)) 0) (sym (append-nil l))
+    ∙ getD-append-add l [] (k - length l) 0
 
 agree-but-limit : (first second : List ℕ) → agree first second ≡ true → AgreeButLimit first second
 unfolding agree
@@ -58,7 +59,8 @@ agree-but-limit first second h k no-6 no-7 =
     let e : length first ≡ length second = eqb-true (length first) (length second) (both-left _ _ h) in
     ⊎-elim
     (λ (l : k < length first).
-    let t : agreeAt first second k ≡ true = every-at (agreeAt first second) (length first) k (both-right (eqb (length first) (length second)) _ h) l in
+    let t : agreeAt first second k ≡ true = every-at (agreeAt first second) (length first) k
+    (both-right (eqb (length first) (length second)) _ h) l in
     eqb-true (getD first k 0) (getD second k 0) (rw (ne-eqb k 6 no-6, ne-eqb k 7 no-7) at t))
     (λ (l : length first ≤ k). past first k l ∙ sym (past second k (omega arith)))
     (less? k (length first))

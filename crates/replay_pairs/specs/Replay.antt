@@ -58,7 +58,8 @@ turnOf s at t = stepBy (caseOf s at) s at t
 
 -- byte at is reached with these totals
 abbrev pub Met : List ℕ → ℕ → Totals → Type 0
-Met s at t = Reached (λ (p : Step). p .next) (λ p. p .totals) (turnOf s) (record { next = 0; totals = record { pairs = 0; lower = 0; cells = 0; differ = 0 } }) (length s) at t
+Met s at t = Reached (λ (p : Step). p .next) (λ p. p .totals) (turnOf s)
+    (record { next = 0; totals = record { pairs = 0; lower = 0; cells = 0; differ = 0 } }) (length s) at t
 
 -- the totals after the whole list
 abbrev pub Replayed : List ℕ → Totals → Type 0
@@ -83,16 +84,23 @@ pub record Turned (s : List ℕ) (at : ℕ) (v r : Step) : Type 0 where
 -- a pair that was compared
 module _ (s : List ℕ) (at : ℕ) (p q : Stored) (b : at + 2 ≤ p .end) (i : Inside s p) (b2 : p .next + 2 ≤ q .end) (i2 : Inside s q)
     {falls pair : Bool} {lower other first second : ℕ} (is-lower : lower ≡ bit falls) (falls-is : falls ≡ lowerAt s at p q)
-    (is-other : other ≡ bit (not pair)) (pair-is : pair ≡ pairAt s at p q) (first-is : first ≡ differsAt s at p) (second-is : second ≡ differsAt s (p .next) q) where
+    (is-other : other ≡ bit (not pair)) (pair-is : pair ≡ pairAt s at p q) (first-is : first ≡ differsAt s at p)
+    (second-is : second ≡ differsAt s (p .next) q) where
   -- it is longer than what is counted of it
   pub longer : at + lower + other + first + second < q .next
   longer =
       omega (arith, is-lower, bit-lt falls, is-other, bit-lt (not pair), first-is, differs-at-le s at p i, second-is, differs-at-le s (p .next) q i2)
 
   pub compared-is : (t : Totals) → Counted at t
-      → Turned s at (comparedAt s at p q t) (record { next = q .next; totals = record { pairs = t .pairs + 1; lower = t .lower + lower; cells = t .cells + p .size + q .size; differ = t .differ + other + first + second } })
+      → Turned s at (comparedAt s at p q t)
+      (record {
+        next = q .next;
+        totals =
+            record { pairs = t .pairs + 1; lower = t .lower + lower; cells = t .cells + p .size + q .size; differ = t .differ + other + first + second };
+      })
   compared-is t h =
-      let larger : at + p .size + q .size < q .next = omega (arith, i .decisions-from, i .cells-from, i .sweeps-from, i .ends, i2 .decisions-from, i2 .cells-from, i2 .sweeps-from, i2 .ends) in
+      let larger : at + p .size + q .size < q .next =
+      omega (arith, i .decisions-from, i .cells-from, i .sweeps-from, i .ends, i2 .decisions-from, i2 .cells-from, i2 .sweeps-from, i2 .ends) in
       record {
         is = cc (is-lower, falls-is, is-other, pair-is, first-is, second-is);
         on = omega (arith, larger);

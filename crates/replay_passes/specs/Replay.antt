@@ -41,7 +41,8 @@ turnOf s at t = stepBy (caseOf s at) s at t
 
 -- byte at is reached with these totals
 abbrev pub Met : List ℕ → ℕ → Totals → Type 0
-Met s at t = Reached (λ (p : Step). p .next) (λ p. p .totals) (turnOf s) (record { next = 0; totals = record { sheets = 0; built = 0; cells = 0; differ = 0 } }) (length s) at t
+Met s at t = Reached (λ (p : Step). p .next) (λ p. p .totals) (turnOf s)
+    (record { next = 0; totals = record { sheets = 0; built = 0; cells = 0; differ = 0 } }) (length s) at t
 
 -- the totals after the whole list
 abbrev pub Replayed : List ℕ → Totals → Type 0
@@ -59,11 +60,19 @@ pub record Counted (at : ℕ) (t : Totals) : Type 0 where
 -- after a case that was compared
 pub compared-is : (s : List ℕ) (at : ℕ) (p : Stored) (t : Totals) {built differ : ℕ} → at + 2 ≤ p .end → Inside s p → Counted at t
     → built ≡ bit (eqb (getD s (p .next - 1) 0) 1) → differ ≡ differsAt s at p
-    → (record { next = p .next; totals = record { sheets = t .sheets + 1; built = t .built + built; cells = t .cells + p .size; differ = t .differ + differ } } ≡ comparedAt s at p t)
+    → (record {
+      next = p .next;
+      totals =
+          record { sheets = t .sheets + 1; built = t .built + built; cells = t .cells + p .size; differ = t .differ + differ };
+    } ≡ comparedAt s at p t)
     × Counted (p .next) (record { sheets = t .sheets + 1; built = t .built + built; cells = t .cells + p .size; differ = t .differ + differ })
 compared-is s at p t {built} {differ} b i h eb ed = (
   ap₂
-      (λ (x y : ℕ). record { next = p .next; totals = record { sheets = t .sheets + 1; built = t .built + x; cells = t .cells + p .size; differ = t .differ + y } }) eb ed,
+      (λ (x y : ℕ). record {
+        next = p .next;
+        totals =
+            record { sheets = t .sheets + 1; built = t .built + x; cells = t .cells + p .size; differ = t .differ + y };
+      }) eb ed,
   record {
     sheets = omega (arith, h .sheets, i .decisions-from, i .cells-from, i .sweeps-from, i .ends);
     built = omega (arith, h .built, eb, bit-lt (eqb (getD s (p .next - 1) 0) 1), i .decisions-from, i .cells-from, i .sweeps-from, i .ends);

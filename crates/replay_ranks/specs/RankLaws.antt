@@ -76,8 +76,10 @@ disagrees s p {a} {b} ea eb e = ap (λ (z : Bool). bit (not z)) (sym e ∙ eb �
 
 -- ---- the rank
 
-module _ (bytes : List ℕ) (c : Counts) (e : verdict bytes ≡ Accepted c) (ids : List ℕ) (xs : List Float) (hs : HoldsStops (sheetOf bytes c) ids xs (sheetOf bytes c .stops)) where
-  pub held : (acar adest : List ℕ) → HoldsAboard (sheetOf bytes c) acar adest (sheetOf bytes c .aboards) → (masks : StopMasks) → masks ≡ masksOf (sheetOf bytes c)
+module _ (bytes : List ℕ) (c : Counts) (e : verdict bytes ≡ Accepted c) (ids : List ℕ) (xs : List Float)
+    (hs : HoldsStops (sheetOf bytes c) ids xs (sheetOf bytes c .stops)) where
+  pub held : (acar adest : List ℕ) → HoldsAboard (sheetOf bytes c) acar adest (sheetOf bytes c .aboards) → (masks : StopMasks)
+      → masks ≡ masksOf (sheetOf bytes c)
       → Held (sheetOf bytes c) ids xs acar adest masks
   held acar adest ha masks em =
       record {
@@ -93,4 +95,5 @@ module _ (bytes : List ℕ) (c : Counts) (e : verdict bytes ≡ Accepted c) (ids
       → (waiters : List Waiters) → waiters ≡ gatheredOf (sheetOf bytes c)
       → rankBy row dests (getD waiters j noWaiters) xs (sheetOf bytes c .stops) j ≡ rank (sheetOf bytes c) i j
   ranked i j limit li lj row {dests} hr waiters hw =
-      rank-is (sheetOf bytes c) ids xs hs i limit (weighed-of (sheetOf bytes c) (accepted bytes c e .sheet) i li) row dests hr j (getD waiters j noWaiters) (gathered-held (sheetOf bytes c) waiters hw j lj) lj
+      rank-is (sheetOf bytes c) ids xs hs i limit (weighed-of (sheetOf bytes c) (accepted bytes c e .sheet) i li) row dests hr j
+      (getD waiters j noWaiters) (gathered-held (sheetOf bytes c) waiters hw j lj) lj

@@ -102,7 +102,8 @@ turnOf s at t =
 
 -- byte at is reached with these totals
 abbrev pub Met : List ℕ → ℕ → Totals → Type 0
-Met s at t = Reached (λ (p : Step). p .next) (λ p. p .totals) (turnOf s) (record { next = 0; totals = record { sheets = 0; ranks = 0; differ = 0 } }) (length s) at t
+Met s at t = Reached (λ (p : Step). p .next) (λ p. p .totals) (turnOf s)
+    (record { next = 0; totals = record { sheets = 0; ranks = 0; differ = 0 } }) (length s) at t
 
 -- the totals after the whole list
 abbrev pub Replayed : List ℕ → Totals → Type 0

@@ -38,7 +38,8 @@ module _ (s b : List ℕ) (case : Case) (t : Totals) where
 
   pub by-accepted : {v : Reading} (c : Counts) (d : ℕ) → v ≡ Accepted c
       → d ≡ count (λ k. differs (sheetOf b c) (pairAt s case k)) (case .pairs)
-      → record { next = case .next; totals = record { sheets = t .sheets + 1; ranks = t .ranks + case .pairs; differ = t .differ + d } } ≡ comparedBy v s b case t
+      → record { next = case .next; totals = record { sheets = t .sheets + 1; ranks = t .ranks + case .pairs; differ = t .differ + d } } ≡
+      comparedBy v s b case t
   unfolding comparedBy
   by-accepted {v} c d e h = rw (e, h)
 
@@ -81,7 +82,8 @@ turn-cut s at t {case} {r} e l lt h er =
     }
 
 pub turn-whole : (s : List ℕ) (at : ℕ) (t : Totals) {case : Case} {r : Step} → case ≡ caseAt s at → case .next ≤ length s → Counted at t
-    → r ≡ comparedBy (verdict (take (case .end - (at + 2)) (drop (at + 2) s))) s (take (case .end - (at + 2)) (drop (at + 2) s)) case t → Turned s at t r
+    → r ≡ comparedBy (verdict (take (case .end - (at + 2)) (drop (at + 2) s))) s (take (case .end - (at + 2)) (drop (at + 2) s)) case t
+    → Turned s at t r
 unfolding turnOf
 turn-whole s at t {case} {r} e l h er =
     let b = take (case .end - (at + 2)) (drop (at + 2) s) in

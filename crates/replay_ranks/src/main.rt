@@ -1,10 +1,10 @@
-// Reads stored sheets and holds the rank of each idle car for each pending stop to the stored one, bit by bit. Prints the first that differs, and how many
-// were compared.
+// Reads stored sheets and holds the rank of each idle car for each pending stop to the stored one, bit by bit. Prints the first that differs, and how
+// many were compared.
 //
-// The list was made by `oracle list ranks 1 crates/replay_ranks/stdin` (tools/oracle): the ranks are those that the published Rust gives, before scaling. A
-// case is the sheet's length in 16 bits and its bytes, n and m in 8 bits each, n indices of car records and m of stop records in 8 bits each, and row by
-// row for each pair 8 bits that are 1 where there is a rank, and its 64 bits; these are 0 where there is none, and for a zero of either sign, which the Rust
-// leaves open. The most significant byte comes first.
+// The list was made by `oracle list ranks 1 crates/replay_ranks/stdin` (tools/oracle): the ranks are those that the published Rust gives, before
+// scaling. A case is the sheet's length in 16 bits and its bytes, n and m in 8 bits each, n indices of car records and m of stop records in 8 bits
+// each, and row by row for each pair 8 bits that are 1 where there is a rank, and its 64 bits; these are 0 where there is none, and for a zero of
+// either sign, which the Rust leaves open. The most significant byte comes first.
 //
 // 176 sheets are small and tell a faulty pass from the right one or come from the profiles; 48 have 100 pairs or more each. The pairs:
 //                                                           ETD    RSR   SCAN
@@ -154,7 +154,8 @@ fn rank_of(s: &[u8], c: Counts, i: u32, j: usize) -> Rank
     rank_by(s, c, i, j, &ids, &xs, masks)
 }
 
-// What the proved functions answer of a pair. Where there is no such car or stop, 256, which no byte holds, so that it differs from all that is stored.
+// What the proved functions answer of a pair. Where there is no such car or stop, 256, which no byte holds, so that it differs from all that is
+// stored.
 fn answer_for(s: &[u8], c: Counts, i: u64, j: u64) -> Answer
     requires { ⌜ verdict (now s) ≡ Accepted c ⌝ }
     ensures { λ r. ⌜ r ≡ answerFor (sheetOf (now (s .entry)) c) i j ⌝ }

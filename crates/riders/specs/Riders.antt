@@ -61,7 +61,8 @@ pub record Seated (ids : List ℕ) (xs : List Float) (n id car dest at : ℕ) (e
   pub stored : exit ≡ cond (known ids n id car dest) (set entry at (getD xs (stopIndex ids n dest) nan)) entry
 
 -- the riders of a car, and the buffer: the known positions, then what it held past them
-pub record Seats (ids : List ℕ) (xs : List Float) (n : ℕ) (acar adest : List ℕ) (na id : ℕ) (entry : List Float) (r : Riders) (exit : List Float) : Type 0 where
+pub record Seats (ids : List ℕ) (xs : List Float) (n : ℕ) (acar adest : List ℕ) (na id : ℕ) (entry : List Float) (r : Riders)
+    (exit : List Float) : Type 0 where
   pub answered : r ≡ ridersIn ids n acar adest id na
   pub held : exit ≡ destsIn ids n acar adest id xs na ++ drop (r .count) entry
 
@@ -108,7 +109,8 @@ module _ (ids : List ℕ) (xs : List Float) (n : ℕ) (acar adest : List ℕ) (i
   unfolding destsIn
   held-length a at entry now h l =
       let m = held-le a at entry now h in
-      collected-length (knownAt ids n acar adest id) (λ c. getD xs (stopIndex ids n (getD adest c 0)) nan) a at entry now (h .counted) (omega arith) (h .held)
+      collected-length (knownAt ids n acar adest id) (λ c. getD xs (stopIndex ids n (getD adest c 0)) nan) a at entry now (h .counted) (omega arith)
+      (h .held)
 
   by : (b : Bool) (a at r : ℕ) (entry now exit : List Float) → knownAt ids n acar adest id a ≡ b → Seating a at entry now
       → at < length entry

@@ -49,12 +49,22 @@ gatheredOf s = gathered (waitersOf s) (s .stops)
 
 waiters-are : (s : Sheet) (j : ℕ) (v : Waiters) → HoldsWaiters s j v → v ≡ waitersOf s j
 waiters-are s j v h =
-    let e : record { someone = v .someone; call = v .call; waitsum = v .waitsum; squares = v .squares; up = v .up; down = v .down; level = v .level } ≡ waitersOf s j =
+    let e : record {
+      someone = v .someone;
+      call = v .call;
+      waitsum = v .waitsum;
+      squares = v .squares;
+      up = v .up;
+      down = v .down;
+      level =
+          v .level;
+    } ≡ waitersOf s j =
     rw (h .someone, h .call, h .waitsum, h .squares, h .up, h .down, h .level) refl in
     e
 
 -- what is gathered from lists that hold a sheet's records is the sheet's
-pub gathered-is : (s : Sheet) (ids : List ℕ) (xs : List Float) (calls : ℕ) (wstop wdest : List ℕ) (wweight : List Float) (wwait : List ℕ) {all : List Waiters}
+pub gathered-is : (s : Sheet) (ids : List ℕ) (xs : List Float) (calls : ℕ) (wstop wdest : List ℕ) (wweight : List Float)
+    (wwait : List ℕ) {all : List Waiters}
     → HoldsStops s ids xs (s .stops) → s .stops ≤ 64 → HoldsWaiting s wstop wdest wweight wwait (s .waits) → calls ≡ stopMask s (riderlessCall s)
     → all ≡ gatheredIn ids xs (s .stops) calls wstop wdest wweight wwait (s .waits) → all ≡ gatheredOf s
 unfolding gatheredIn gatheredOf

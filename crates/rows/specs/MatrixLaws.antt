@@ -105,7 +105,8 @@ module _ (s : Sheet) (few : s .stops ≤ 64) (mask : ℕ) (e : mask ≡ stopMask
       (λ (l : k < stops .count).
       let b = column-below k l in
       rw (lt-ltb k (stops .count) l, lt-ltb k (pendingStops s) (omega arith), listed-stop k l)
-      (cell-is s ids xs hs (rowCar s r) limit weighed row dests hr (columnStop s k) (getD waiters (columnStop s k) noWaiters) (hw (columnStop s k) b) b))
+      (cell-is s ids xs hs (rowCar s r) limit weighed row dests hr (columnStop s k) (getD waiters (columnStop s k) noWaiters)
+      (hw (columnStop s k) b) b))
       (λ (l : stops .count ≤ k). rw (le-ltb k (stops .count) l, le-ltb k (pendingStops s) (omega arith)))
       (less? k (stops .count))
 
@@ -135,11 +136,14 @@ rowFor s ids xs acar adest masks limit car =
       kept = stopMask s (keptOf s car limit);
     }
 
-pub row-for-is : (s : Sheet) (ids : List ℕ) (xs : List Float) (acar adest : List ℕ) (masks : StopMasks) (limit : ℕ) (policy : Policy) (car : Car) (sweep : Sweep) (goal : Place) (riders : Riders) (kept : ℕ)
+pub row-for-is : (s : Sheet) (ids : List ℕ) (xs : List Float) (acar adest : List ℕ) (masks : StopMasks) (limit : ℕ) (policy : Policy) (car : Car)
+    (sweep : Sweep) (goal : Place) (riders : Riders) (kept : ℕ)
     → policy ≡ s .policy → riders ≡ ridersIn ids (s .stops) acar adest (car .id) (s .aboards)
-    → goal ≡ goalOf (positionIn ids xs (s .stops)) (car .phase) → sweep ≡ sweepBy (policy .strategy) car (masks .pending) (masks .demand) xs (s .stops)
+    → goal ≡ goalOf (positionIn ids xs (s .stops)) (car .phase) → sweep ≡ sweepBy (policy .strategy) car (masks .pending) (masks .demand) xs
+    (s .stops)
     → kept ≡ stopMask s (keptOf s car limit)
-    → record { policy = policy; car = car; sweep = sweep; goal = goal; riders = riders; demand = masks .demand; kept = kept } ≡ rowFor s ids xs acar adest masks limit car
+    → record { policy = policy; car = car; sweep = sweep; goal = goal; riders = riders; demand = masks .demand; kept = kept } ≡ rowFor s ids xs acar
+    adest masks limit car
 unfolding rowFor
 row-for-is s ids xs acar adest masks limit policy car sweep goal riders kept ep er eg es ek = rw (es, ep, er, eg, ek) refl
 
@@ -156,8 +160,10 @@ row-of s ids xs acar adest masks h limit car row entry er ed =
     record {
       held = λ i e.
           rw er
-          (row-held s ids xs acar adest masks h i limit (s .policy) car (sweepBy (s .policy .strategy) car (masks .pending) (masks .demand) xs (s .stops))
-          (goalOf (positionIn ids xs (s .stops)) (car .phase)) (ridersIn ids (s .stops) acar adest (car .id) (s .aboards)) (stopMask s (keptOf s car limit))
+          (row-held s ids xs acar adest masks h i limit (s .policy) car
+          (sweepBy (s .policy .strategy) car (masks .pending) (masks .demand) xs (s .stops))
+          (goalOf (positionIn ids xs (s .stops)) (car .phase)) (ridersIn ids (s .stops) acar adest (car .id) (s .aboards))
+          (stopMask s (keptOf s car limit))
           refl e (record { answered = refl; held = rw riders at ed }) refl refl refl);
     }
 
@@ -167,7 +173,8 @@ pub record FilledRow (s : Sheet) (limit i n : ℕ) (exit : List ℕ) : Type 0 wh
 
 -- ---- what the pass has at hand when it fills rows
 
-pub record Ready (s : Sheet) (ids : List ℕ) (xs : List Float) (acar adest : List ℕ) (masks : StopMasks) (waiters : List Waiters) (stops : Ones) : Type 0 where
+pub record Ready (s : Sheet) (ids : List ℕ) (xs : List Float) (acar adest : List ℕ) (masks : StopMasks) (waiters : List Waiters)
+    (stops : Ones) : Type 0 where
   pub held : Held s ids xs acar adest masks
   pub waiting : (j : ℕ) → j < s .stops → HoldsWaiters s j (getD waiters j noWaiters)
   pub weighed : (i : ℕ) → i < s .cars → Weighed s i
@@ -187,11 +194,13 @@ module _ (s : Sheet) (ids : List ℕ) (xs : List Float) (acar adest : List ℕ) 
       → rowCar s r ≡ i
       → tab (padded (rowCell row dests waiters xs (s .stops) stops) (stops .count)) n ≡ tab (matrix s limit r) n
   ready-row i limit row {dests} l hr r n e =
-      row-is s (h .held .few) (masks .pending) (pending-are s (h .held .masks-are)) stops (h .listed) ids xs (h .held .stops-held) r limit (rw e (h .weighed i l)) row dests
+      row-is s (h .held .few) (masks .pending) (pending-are s (h .held .masks-are)) stops (h .listed) ids xs (h .held .stops-held) r limit
+      (rw e (h .weighed i l)) row dests
       (rw e hr) waiters (h .waiting) n
 
 -- what the row of a car needs, in a buffer of some cells
-pub record CarNeeds (b : List ℕ) (c : Counts) (ids : List ℕ) (xs : List Float) (acar adest : List ℕ) (masks : StopMasks) (waiters : List Waiters) (stops : Ones) (cells : ℕ) : Type 0 where
+pub record CarNeeds (b : List ℕ) (c : Counts) (ids : List ℕ) (xs : List Float) (acar adest : List ℕ) (masks : StopMasks) (waiters : List Waiters)
+    (stops : Ones) (cells : ℕ) : Type 0 where
   pub small : Small c
   pub ids-size : length ids ≡ 64
   pub xs-size : length xs ≡ 64
@@ -203,11 +212,14 @@ pub record CarNeeds (b : List ℕ) (c : Counts) (ids : List ℕ) (xs : List Floa
 -- the known destinations of a car's riders, in a buffer of 512 that held zeros
 unfoldable pub destsFor : Sheet → List ℕ → List Float → List ℕ → List ℕ → Car → List Float
 destsFor s ids xs acar adest car =
-    destsIn ids (s .stops) acar adest (car .id) xs (s .aboards) ++ drop (ridersIn ids (s .stops) acar adest (car .id) (s .aboards) .count) (replicate 512 zero)
+    destsIn ids (s .stops) acar adest (car .id) xs (s .aboards) ++ drop (ridersIn ids (s .stops) acar adest (car .id) (s .aboards) .count)
+    (replicate 512 zero)
 
 -- n cells hold the row of a car by value, and so many of its pairs are ranked
-pub record FilledCar (s : Sheet) (ids : List ℕ) (xs : List Float) (acar adest : List ℕ) (masks : StopMasks) (waiters : List Waiters) (stops : Ones) (limit : ℕ) (car : Car) (n ranked : ℕ) (exit : List ℕ) : Type 0 where
-  pub row : exit ≡ tab (padded (rowCell (rowFor s ids xs acar adest masks limit car) (destsFor s ids xs acar adest car) waiters xs (s .stops) stops) (stops .count)) n
+pub record FilledCar (s : Sheet) (ids : List ℕ) (xs : List Float) (acar adest : List ℕ) (masks : StopMasks) (waiters : List Waiters) (stops : Ones)
+    (limit : ℕ) (car : Car) (n ranked : ℕ) (exit : List ℕ) : Type 0 where
+  pub row : exit ≡ tab (padded (rowCell (rowFor s ids xs acar adest masks limit car) (destsFor s ids xs acar adest car) waiters xs (s .stops) stops)
+      (stops .count)) n
   pub number : ranked ≡ count (keptOf s car limit) (s .stops)
 
 -- the row of car i of a list that holds the sheet's cars
@@ -220,7 +232,10 @@ filled-at s ids xs acar adest masks waiters stops h limit i n ranked cars exit h
     let e = hc .each i l in
     let car = getD cars i noCar in
     let row = row-of s ids xs acar adest masks (h .held) limit car (rowFor s ids xs acar adest masks limit car) (replicate 512 zero) refl refl in (
-      record { row = λ r q. f .row ∙ ready-row s ids xs acar adest masks waiters stops h i limit (rowFor s ids xs acar adest masks limit car) l (row .held i e) r n q },
+      record {
+        row = λ r q. f .row ∙ ready-row s ids xs acar adest masks waiters stops h i limit (rowFor s ids xs acar adest masks limit car) l
+            (row .held i e) r n q;
+      },
       f .number ∙ count-cong (keptOf s car limit) (kept s i limit) (s .stops) (λ j _. ap (λ (k : Car). keptOf s k limit j) e),
     )
 
@@ -268,7 +283,8 @@ part-length at columns now l = simp (length-take, length-drop) (omega arith)
 
 pub filling-next : (s : Sheet) (limit columns r at i ranked few′ k n : ℕ) (entry now row : List ℕ) → columns ≤ 64 → s .stops ≤ 64
     → at + columns ≤ length entry
-    → Filling s limit columns r at entry ranked now → rowCar s r ≡ i → k ≡ columns → n ≡ columns → FilledRow s limit i n row → few′ ≡ keptNumber s limit i
+    → Filling s limit columns r at entry ranked now → rowCar s r ≡ i → k ≡ columns → n ≡ columns → FilledRow s limit i n row
+    → few′ ≡ keptNumber s limit i
     → Filling s limit columns (r + 1) (at + columns) entry (ranked + few′) (take at now ++ (row ++ drop k (drop at now)))
 unfolding keptNumber
 filling-next s limit columns r at i ranked few′ k n entry now row lc few room h e ek en f number =
@@ -283,6 +299,7 @@ filling-next s limit columns r at i ranked few′ k n entry now row lc few room 
       held = record {
         size = tabs-length (matrix s limit) columns (r + 1) (at + columns) entry _ q room rows;
         rows = rows ∙ ap (λ (z : ℕ). tabs (matrix s limit) columns (r + 1) ++ drop z entry) q;
-        counted = ap₂ (λ (a b : ℕ). a + b) (h .held .counted) (number ∙ ap (keptNumber s limit) (sym e)) ∙ sym (sum-next r (λ x. keptNumber s limit (rowCar s x)));
+        counted = ap₂ (λ (a b : ℕ). a + b) (h .held .counted) (number ∙ ap (keptNumber s limit) (sym e))
+            ∙ sym (sum-next r (λ x. keptNumber s limit (rowCar s x)));
       };
     }

@@ -40,8 +40,8 @@ withPenalty cost weight scaling wrong = cond (lt zero weight && wrong) (plus cos
 unfoldable pub withCoincidentCall : Float → Float → Bool → Float
 withCoincidentCall cost weight call = cond (lt zero weight && call) (minus cost weight) cost
 
--- compute_cost: eta, wrong direction, coincident call, age; of a car that moves to goal, for a stop at p where so many ticks were waited, and for which
--- the car has a call, or not
+-- compute_cost: eta, wrong direction, coincident call, age; of a car that moves to goal, for a stop at p where so many ticks were waited, and for
+-- which the car has a call, or not
 unfoldable pub rsrCostOf : Policy → Car → Place → Float → Bool → Float → Float
 rsrCostOf y c goal waited call p =
     maxZero

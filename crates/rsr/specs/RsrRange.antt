@@ -49,7 +49,8 @@ unfolding withPenalty
 penalty-size cost weight scaling wrong p q r = by (lt Num.zero weight && wrong)
   where
     by : (b : Bool) → AtMost (2 ^ 62) (cond b (plus cost (times weight scaling)) cost)
-    by true = plus-size 61 cost (times weight scaling) (lit≤ tt) p (grow 60 61 (times weight scaling) (lit≤ tt) (times-size 30 30 weight scaling (lit≤ tt) q r))
+    by true = plus-size 61 cost (times weight scaling) (lit≤ tt) p
+        (grow 60 61 (times weight scaling) (lit≤ tt) (times-size 30 30 weight scaling (lit≤ tt) q r))
     by false = grow 61 62 cost (lit≤ tt) p
 
 call-size : (cost weight : Float) (call : Bool) → AtMost (2 ^ 62) cost → AtMost (2 ^ 30) weight
@@ -64,7 +65,8 @@ call-size cost weight call p q = by (lt Num.zero weight && call)
 module _ (s : Sheet) (a : Admitted s) (i j : ℕ) (li : i < s .cars) (lj : j < s .stops) (moves : lt Num.zero (s .car i .speed) ≡ true) where
   eta-size : AtMost (2 ^ 61) (times (s .policy .w0) (over (distance (s .car i .position) (stopAt s j)) (s .car i .speed)))
   eta-size =
-      times-size 30 31 (s .policy .w0) (over (distance (s .car i .position) (stopAt s j)) (s .car i .speed)) (lit≤ tt) (mass-power (s .policy .w0) (a .w0))
+      times-size 30 31 (s .policy .w0) (over (distance (s .car i .position) (stopAt s j)) (s .car i .speed)) (lit≤ tt)
+      (mass-power (s .policy .w0) (a .w0))
       (over-size 21 10 (distance (s .car i .position) (stopAt s j)) (s .car i .speed) (lit≤ tt)
       (distance-size 20 (s .car i .position) (stopAt s j) (lit≤ tt)
       (position-power (s .car i .position) (a .car-at i li)) (position-power (stopAt s j) (a .stop-at j lj)))

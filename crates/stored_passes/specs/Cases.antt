@@ -173,7 +173,17 @@ module _ (s : List ℕ) (end n w : ℕ) where
     parts-cut h short = rw (lt-ltb front (length s - end) long, sym e, le-ltb 32 records h, lt-ltb (length s - end) (front + 2 + records) short)
 
     pub parts-whole : records ≤ 32 → front + 2 + records ≤ length s - end
-        → Whole (record { end = end; cars = n; size = n * w; decisions = end + 10; cells = end + 10 + 4 * n; sweeps = end + front + 1; records = records; next = end + front + 2 + records })
+        → Whole (record {
+          end = end;
+          cars = n;
+          size = n * w;
+          decisions = end + 10;
+          cells = end + 10 + 4 * n;
+          sweeps = end + front + 1;
+          records =
+              records;
+          next = end + front + 2 + records;
+        })
         ≡ partsOf s end n w
     unfolding partsOf
     parts-whole h whole = rw (lt-ltb front (length s - end) long, sym e, le-ltb 32 records h, le-ltb (length s - end) (front + 2 + records) whole)
@@ -188,7 +198,8 @@ module _ (s : List ℕ) (at : ℕ) where
     unfolding caseOf
     case-short h = rw (le-ltb (length s - at) 2 long, sym e, lt-ltb (length s - at) (bytes + 12) h)
 
-    module _ (whole : bytes + 12 ≤ length s - at) {n m w : ℕ} (en : n ≡ number s (at + 2 + bytes) 1) (em : m ≡ number s (at + 2 + bytes + 1) 1) (ew : w ≡ max n m) where
+    module _ (whole : bytes + 12 ≤ length s - at) {n m w : ℕ} (en : n ≡ number s (at + 2 + bytes) 1) (em : m ≡ number s (at + 2 + bytes + 1) 1)
+        (ew : w ≡ max n m) where
       pub case-cars : 32 < n → Cut ≡ caseOf s at
       unfolding caseOf
       case-cars h = rw (le-ltb (length s - at) 2 long, sym e, le-ltb (length s - at) (bytes + 12) whole, sym en, lt-ltb 32 n h)

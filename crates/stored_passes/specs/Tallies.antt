@@ -49,7 +49,8 @@ unfolding talliedOf fold
 tallied-none s at width kind ours t = refl
 
 pub tallied-next : (s : List ℕ) (at width kind : ℕ) (ours : List ℕ) (t : Tally) (k : ℕ) {x y : ℕ} {d e : Tally} → x ≡ getD ours k 0
-    → y ≡ number s (at + width * k) width → d ≡ talliedOf s at width kind ours t k → e ≡ metOf d kind k x y → e ≡ talliedOf s at width kind ours t (k + 1)
+    → y ≡ number s (at + width * k) width → d ≡ talliedOf s at width kind ours t k → e ≡ metOf d kind k x y
+    → e ≡ talliedOf s at width kind ours t (k + 1)
 unfolding talliedOf
 tallied-next s at width kind ours t k {x} {y} {d} {e} ex ey ed ee =
     ee ∙ rw (ex, ey, ed) (sym (fold-next (λ d k. metOf d kind k (getD ours k 0) (number s (at + width * k) width)) t k))

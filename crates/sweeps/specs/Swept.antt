@@ -43,5 +43,6 @@ module _ (s : Sheet) (xs : List Float) (masks : StopMasks) (h : Positioned s xs 
   code-is i {strategy} {car} {sweep} {code} et ec es ek =
       ek
       ∙ ap sweepCode
-      (es ∙ rw (et, ec) (sweep-is s ids xs (masks .pending) (masks .demand) held (holds-demand s (masks .demand) (h .few) (demand-is s (h .masks-are)))
+      (es ∙ rw (et, ec) (sweep-is s ids xs (masks .pending) (masks .demand) held
+      (holds-demand s (masks .demand) (h .few) (demand-is s (h .masks-are)))
       (some-pending s (masks .pending) (h .few) (pending-are s (h .masks-are))) i))

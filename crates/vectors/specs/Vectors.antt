@@ -85,7 +85,8 @@ turnOf s at t = stepBy (vectorAt s at) s at t
 
 -- byte at is reached with these totals
 abbrev pub Met : List ℕ → ℕ → Totals → Type 0
-Met s at t = Reached (λ (p : Step). p .next) (λ p. p .totals) (turnOf s) (record { next = 0; totals = record { scales = 0; «scales_differ» = 0; fields = 0; «fields_differ» = 0 } }) (length s) at t
+Met s at t = Reached (λ (p : Step). p .next) (λ p. p .totals) (turnOf s)
+    (record { next = 0; totals = record { scales = 0; «scales_differ» = 0; fields = 0; «fields_differ» = 0 } }) (length s) at t
 
 -- the totals after the whole list
 abbrev pub Replayed : List ℕ → Totals → Type 0
@@ -115,7 +116,11 @@ module _ (s : List ℕ) (at : ℕ) (long : 19 ≤ length s - at) {w n : ℕ} (ew
 
   pub field-cut : w ≤ 64 → length s - at - 19 < n → IsVector s at Unknown (fieldVector s at)
   unfolding fieldVector
-  field-cut h short = (rw (le-ltb (length s) (at + 19) (omega arith), sym ew, le-ltb 64 w h, sym en, lt-ltb (length s) (at + 19 + n) (omega arith)), tt)
+  field-cut h short = (
+    rw
+        (le-ltb (length s) (at + 19) (omega arith), sym ew, le-ltb 64 w h, sym en, lt-ltb (length s) (at + 19 + n) (omega arith)),
+    tt,
+  )
 
   pub field-whole : w ≤ 64 → n ≤ length s - at - 19 → IsVector s at (Field w n) (fieldVector s at)
   unfolding fieldVector
@@ -190,14 +195,22 @@ turned-by s at t Unknown {r} l h e w er =
 
 pub step-scale : (s : List ℕ) (at : ℕ) (t : Totals) {c : Case} {same : Bool} {apart : ℕ} → c ≡ scaleCase s at → same ≡ agree c
     → apart ≡ bit (not same)
-    → record { next = at + 17; totals = record { scales = t .scales + 1; «scales_differ» = t .«scales_differ» + apart; fields = t .fields; «fields_differ» = t .«fields_differ» } }
+    → record {
+      next = at + 17;
+      totals =
+          record { scales = t .scales + 1; «scales_differ» = t .«scales_differ» + apart; fields = t .fields; «fields_differ» = t .«fields_differ» };
+    }
     ≡ stepBy Scale s at t
 unfolding stepBy
 step-scale s at t ec es ea = rw (ea, es, ec)
 
 pub step-field : (s : List ℕ) (at w n : ℕ) (t : Totals) {c : Case} {same : Bool} {apart : ℕ} → c ≡ fieldCase s at w n → same ≡ agree c
     → apart ≡ bit (not same)
-    → record { next = at + 19 + n; totals = record { scales = t .scales; «scales_differ» = t .«scales_differ»; fields = t .fields + 1; «fields_differ» = t .«fields_differ» + apart } }
+    → record {
+      next = at + 19 + n;
+      totals =
+          record { scales = t .scales; «scales_differ» = t .«scales_differ»; fields = t .fields + 1; «fields_differ» = t .«fields_differ» + apart };
+    }
     ≡ stepBy (Field w n) s at t
 unfolding stepBy
 step-field s at w n t ec es ea = rw (ea, es, ec)
