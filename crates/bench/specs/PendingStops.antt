@@ -94,8 +94,8 @@ unfolding fewPlaces
 at-least places e = ltb-false places 64 e
 
 -- the id of listed stop k
-unfoldable pub named : Ones → List ℕ → ℕ → ℕ
-named listed ids k = getD ids (getD (listed .at) k 0) 0
+unfoldable pub listedId : Ones → List ℕ → ℕ → ℕ
+listedId listed ids k = getD ids (getD (listed .at) k 0) 0
 
 -- the stops of the pending mask are the columns'
 module _ (s : Sheet) (few : s .stops ≤ 64) (ids : List ℕ) (xs : List Float) (masks : StopMasks) (h : SeenStops s ids xs masks) (listed : Ones)
@@ -114,12 +114,12 @@ module _ (s : Sheet) (few : s .stops ≤ 64) (ids : List ℕ) (xs : List Float) 
       rw (listed-stop s few (masks .pending) mask-is listed l k lk)
       (omega (arith, column-below s few (masks .pending) mask-is listed l k lk))
 
-  pub ids-are : (entry : List ℕ) {exit : List ℕ} → exit ≡ tab (named listed ids) (listed .count) ++ drop (listed .count) entry
+  pub ids-are : (entry : List ℕ) {exit : List ℕ} → exit ≡ tab (listedId listed ids) (listed .count) ++ drop (listed .count) entry
       → exit ≡ idsOf s entry
-  unfolding idsOf named
+  unfolding idsOf listedId
   ids-are entry {exit} e =
       e ∙ ap (λ (t : List ℕ). t ++ drop (listed .count) entry)
-      (tab-cong (named listed ids) (λ k. stopId s (columnStop s k)) (listed .count)
+      (tab-cong (listedId listed ids) (λ k. stopId s (columnStop s k)) (listed .count)
       (λ k lk.
       rw (listed-stop s few (masks .pending) mask-is listed l k lk)
       (h .stops-held .id-of (columnStop s k) (column-below s few (masks .pending) mask-is listed l k lk))))

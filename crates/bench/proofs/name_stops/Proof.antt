@@ -2,7 +2,7 @@
 use Prim.Native.Nat.{ℕ, _≤_, _-_}
 use Rattle.laws.specs.Folds.{ended}
 use Rattle.laws.specs.Tables.{tab, tab-next}
-use Rattle.bench.specs.PendingStops.{named}
+use Rattle.bench.specs.PendingStops.{listedId}
 use borrow.Author.Needs.{needs}
 use lib.ListN.{length, getD, drop, length-set}
 use mathlib.Core.List.{_++_}
@@ -13,7 +13,7 @@ use Rattle.bench.proofs.name_stops.Tie as tie
 
 abbrev Inv-loop : tie.InvT-loop
 Inv-loop ids stops₀ listed k₀ stops k =
-    (k ≤ listed .count) × (length stops ≡ length stops₀) × (stops ≡ tab (named listed ids) k ++ drop k stops₀)
+    (k ≤ listed .count) × (length stops ≡ length stops₀) × (stops ≡ tab (listedId listed ids) k ++ drop k stops₀)
 
 abbrev μ-loop : tie.MeasureT-loop
 μ-loop ids stops₀ listed k₀ stops k = listed .count - k
@@ -44,14 +44,14 @@ add-k : tie.Need-add-k Inv-loop μ-loop
 add-k c = omega (arith, c .before .before .before .before .pre .1, c .before .before .loop-test .taken)
 
 loop-again : tie.Need-loop-again Inv-loop μ-loop
-unfolding named
+unfolding listedId
 loop-again c =
     let l = c .before .before .before .loop in
     let a = c .before .before .before .before .args in
     let p = c .before .before .before .before .pre in (
       omega (arith, c .before .before .loop-test .taken),
       simp length-set (l .inv .1),
-      tab-next (named (a .t1) (a .ids .now)) (a .stops .now) (l .stops) (l .k) _ (omega (arith, p .1, p .3, c .before .before .loop-test .taken)) (l .inv .2) refl,
+      tab-next (listedId (a .t1) (a .ids .now)) (a .stops .now) (l .stops) (l .k) _ (omega (arith, p .1, p .3, c .before .before .loop-test .taken)) (l .inv .2) refl,
     )
 
 same-length : tie.Need-same-length Inv-loop μ-loop
@@ -61,7 +61,7 @@ returns : tie.Need-returns Inv-loop μ-loop
 returns c =
     let l = c .before .loop in
     let a = c .before .before .args in
-    (l .inv .1, ended (λ (x : ℕ). tab (named (a .t1) (a .ids .now)) x ++ drop x (a .stops .now)) (l .inv .0) (c .loop-test .left) (l .inv .2))
+    (l .inv .1, ended (λ (x : ℕ). tab (listedId (a .t1) (a .ids .now)) x ++ drop x (a .stops .now)) (l .inv .0) (c .loop-test .left) (l .inv .2))
 
 pub name-stops-spec : {M : Type 1} → statement M
 name-stops-spec =
