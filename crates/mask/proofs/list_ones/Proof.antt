@@ -23,7 +23,7 @@ loop-holds : tie.Need-loop-holds Inv-loop μ-loop
 loop-holds c = listing-start (c .args .mask)
 
 has-requires : tie.Need-has-requires Inv-loop μ-loop
-has-requires c κs = c .loop-test .taken
+has-requires c κs = omega (arith, c .loop-test .taken)
 
 mul-at : tie.Need-mul-at Inv-loop μ-loop
 mul-at c = omega (arith, few (c .before .before), c .before .before .before .loop .inv .below)
