@@ -403,28 +403,29 @@ pub prepared : {cells : List ℕ} {n cols i f : ℕ} {u w ro co : List ℕ} (di 
     → Matrix cells n cols → i < n → Sizes u w ro co → State cells n cols i u w ro co → FreeColumn ro n cols f
     → Cleared cols se → Rooted cells cols i w di fr
     → Growing cells n cols i 1 f 0 (set u i 0) w (set ro cols i) (set co i cols) di fr se
-prepared {cells} {n} {cols} {i} {f} {u} {w} {ro} {co} di fr se mx li sz st fc cl be = record {
-  U = at (set u i 0);
-  W = at w;
-  S = λ j. cellAt cells cols i j + at w j;
-  U-is = λ r lr. omega (arith, none (at (set co i cols) r));
-  W-is = λ j lj. omega (arith, none j);
-  S-is = λ j lj. omega (arith, left-out (at se j) 0 (at di j) (cl .zeros j lj), be .distances j lj);
-  matched = start-matched (at (set ro cols i)) (at (set co i cols)) (st .matched) li rm rx ck cx;
-  priced = start-priced (at (set ro cols i)) (at (set co i cols)) (at (set u i 0)) (st .priced) rx ck cx uk
-      (λ s ls. at-other u i 0 s (λ e. omega arith));
-  tree = start-tree n cols i (cellAt cells cols) (at (set ro cols i)) (at (set u i 0)) (at w) (at se) (λ j. cellAt cells cols i j + at w j)
-      (at fr) li rm
-      (cl .stand) (cl .zeros) (be .froms) (λ j lj. omega (arith, uk));
-  below = lf;
-  free = rw (rx f lf) (fc .here lf);
-  inside = λ j lj p. ⊎-elim
-      (λ (e : j ≡ cols). let a : at di j ≡ at di cols = ap (at di) e in omega (arith, be .home))
-      (λ ne. absurd (omega (arith, cl .zeros j (omega arith))))
-      (same? j cols);
-  outside = λ j lj o. omega arith;
-  home = be .home;
-}
+prepared {cells} {n} {cols} {i} {f} {u} {w} {ro} {co} di fr se mx li sz st fc cl be =
+    record {
+      U = at (set u i 0);
+      W = at w;
+      S = λ j. cellAt cells cols i j + at w j;
+      U-is = λ r lr. omega (arith, none (at (set co i cols) r));
+      W-is = λ j lj. omega (arith, none j);
+      S-is = λ j lj. omega (arith, left-out (at se j) 0 (at di j) (cl .zeros j lj), be .distances j lj);
+      matched = start-matched (at (set ro cols i)) (at (set co i cols)) (st .matched) li rm rx ck cx;
+      priced = start-priced (at (set ro cols i)) (at (set co i cols)) (at (set u i 0)) (st .priced) rx ck cx uk
+          (λ s ls. at-other u i 0 s (λ e. omega arith));
+      tree = start-tree n cols i (cellAt cells cols) (at (set ro cols i)) (at (set u i 0)) (at w) (at se) (λ j. cellAt cells cols i j + at w j)
+          (at fr) li rm
+          (cl .stand) (cl .zeros) (be .froms) (λ j lj. omega (arith, uk));
+      below = lf;
+      free = rw (rx f lf) (fc .here lf);
+      inside = λ j lj p. ⊎-elim
+          (λ (e : j ≡ cols). let a : at di j ≡ at di cols = ap (at di) e in omega (arith, be .home))
+          (λ ne. absurd (omega (arith, cl .zeros j (omega arith))))
+          (same? j cols);
+      outside = λ j lj o. omega arith;
+      home = be .home;
+    }
   where
     rm : at (set ro cols i) cols ≡ i
     rm = at-same ro cols i (omega (arith, sz .ro65, mx .cols64))
@@ -467,14 +468,15 @@ state-least {cells} {n} {cols} {u} {w} {ro} {co} wide st =
 -- no row has a column
 pub state-none : (cells : List ℕ) (n cols : ℕ) (u w ro co : List ℕ) → ((j : ℕ) → j < cols → (at ro j ≡ n) × (at w j ≡ 0))
     → State cells n cols 0 u w ro co
-state-none cells n cols u w ro co h = record {
-  matched = record {
-    back = λ r lr. absurd (omega arith);
-    back-row = λ r lr. absurd (omega arith);
-    forth = λ j lj lr. absurd (let a = h j lj in omega arith);
-    forth-col = λ j lj lr. absurd (let a = h j lj in omega arith);
-  };
-  priced = record { under = λ r j lr lj. absurd (omega arith); tight = λ r lr lc. absurd (omega arith); unused = λ j lj fj. h j lj .1 };
-  u-bound = λ B low r lr. absurd (omega arith);
-  w-bound = λ B low j lj. let a = h j lj in omega arith;
-}
+state-none cells n cols u w ro co h =
+    record {
+      matched = record {
+        back = λ r lr. absurd (omega arith);
+        back-row = λ r lr. absurd (omega arith);
+        forth = λ j lj lr. absurd (let a = h j lj in omega arith);
+        forth-col = λ j lj lr. absurd (let a = h j lj in omega arith);
+      };
+      priced = record { under = λ r j lr lj. absurd (omega arith); tight = λ r lr lc. absurd (omega arith); unused = λ j lj fj. h j lj .1 };
+      u-bound = λ B low r lr. absurd (omega arith);
+      w-bound = λ B low j lj. let a = h j lj in omega arith;
+    }

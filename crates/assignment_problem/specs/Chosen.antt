@@ -117,13 +117,14 @@ fit-distinct (fcons {taken = taken} {j = j} {js = js} p q f) zero (suc b) x y e 
 fit-distinct (fcons p q f) (suc a) (suc b) x y e = fit-distinct f a b (omega arith) (omega arith) e
 
 fit-choice : (m : ℕ) (l : List ℕ) → Fit m [] l → IsChoice (length l) m (λ k. getD l k 0)
-fit-choice m l f = record {
-  within = λ k h. fit-within f k h .0;
-  distinct = λ a b la lb e.
-      ⊎-elim (λ x. absurd (fit-distinct f a b x lb e))
-      (λ x. ⊎-elim (λ y. absurd (fit-distinct f b a y la (sym e))) (λ y. omega arith) (less? b a))
-      (less? a b);
-}
+fit-choice m l f =
+    record {
+      within = λ k h. fit-within f k h .0;
+      distinct = λ a b la lb e.
+          ⊎-elim (λ x. absurd (fit-distinct f a b x lb e))
+          (λ x. ⊎-elim (λ y. absurd (fit-distinct f b a y la (sym e))) (λ y. omega arith) (less? b a))
+          (less? a b);
+    }
 
 isIn-step : (x j : ℕ) (l : List ℕ) → (x ≡ j → ⊥) → isIn x l ≡ false → isIn x (j ∷ l) ≡ false
 isIn-step x j l ne h = rw (ne-eqb x j ne) h

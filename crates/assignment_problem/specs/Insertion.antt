@@ -47,17 +47,19 @@ pub record Tree (n m t : ℕ) (c : ℕ → ℕ → ℕ) (ro u w se sl fr : ℕ �
 -- ---- a choice and its prices, at the end
 
 pub matched-choice : {n m : ℕ} {ro co : ℕ → ℕ} → Matched n m n ro co → IsChoice n m co
-matched-choice {n} {m} {ro} {co} h = record {
-  within = h .back;
-  distinct = λ a b la lb e. sym (h .back-row a la) ∙ ap ro e ∙ h .back-row b lb;
-}
+matched-choice {n} {m} {ro} {co} h =
+    record {
+      within = h .back;
+      distinct = λ a b la lb e. sym (h .back-row a la) ∙ ap ro e ∙ h .back-row b lb;
+    }
 
 pub priced-tight : {n m : ℕ} {c : ℕ → ℕ → ℕ} {ro co u w : ℕ → ℕ} → Matched n m n ro co → Priced n m n c ro co u w
     → Tight n m c co u w
-priced-tight {n} {m} {c} {ro} {co} h f = record {
-  tight = λ i l. f .tight i l (h .back i l);
-  unused = λ j l no-k. ⊎-elim (λ lt. absurd (no-k (ro j) lt (h .forth-col j l lt))) (λ ge. f .unused j l ge) (less? (ro j) n);
-}
+priced-tight {n} {m} {c} {ro} {co} h f =
+    record {
+      tight = λ i l. f .tight i l (h .back i l);
+      unused = λ j l no-k. ⊎-elim (λ lt. absurd (no-k (ro j) lt (h .forth-col j l lt))) (λ ge. f .unused j l ge) (less? (ro j) n);
+    }
 
 -- ---- a row goes from its column to a free one
 
@@ -319,35 +321,37 @@ start-matched {n} {m} {k} {ro} {co} ro′ co′ h kn rm rx ck cx = record { back
 pub start-priced : {n m k : ℕ} {c : ℕ → ℕ → ℕ} {ro co u w : ℕ → ℕ} (ro′ co′ u′ : ℕ → ℕ) → Priced n m k c ro co u w
     → ((x : ℕ) → x < m → ro′ x ≡ ro x) → co′ k ≡ m → ((s : ℕ) → s < k → co′ s ≡ co s) → u′ k ≡ 0 → ((s : ℕ) → s < k → u′ s ≡ u s)
     → Priced n m (suc k) c ro′ co′ u′ w
-start-priced {n} {m} {k} {c} {ro} {co} {u} {w} ro′ co′ u′ g rx ck cx uk ux = record {
-  under = λ r j lr lj. ⊎-elim
-      (λ e. let a : u′ r ≡ u′ k = ap u′ e in omega arith)
-      (λ ne. omega (arith, ux r (omega arith), g .under r j (omega arith) lj))
-      (same? r k);
-  tight = λ r lr lc. ⊎-elim
-      (λ e. absurd (let a : co′ r ≡ co′ k = ap co′ e in omega arith))
-      (λ ne.
-      let l : r < k = omega arith in
-      let e : co′ r ≡ co r = cx r l in
-      rw e (ux r l ∙ g .tight r l (omega arith)))
-      (same? r k);
-  unused = λ j lj fj. g .unused j lj (let a = rx j lj in omega arith);
-}
+start-priced {n} {m} {k} {c} {ro} {co} {u} {w} ro′ co′ u′ g rx ck cx uk ux =
+    record {
+      under = λ r j lr lj. ⊎-elim
+          (λ e. let a : u′ r ≡ u′ k = ap u′ e in omega arith)
+          (λ ne. omega (arith, ux r (omega arith), g .under r j (omega arith) lj))
+          (same? r k);
+      tight = λ r lr lc. ⊎-elim
+          (λ e. absurd (let a : co′ r ≡ co′ k = ap co′ e in omega arith))
+          (λ ne.
+          let l : r < k = omega arith in
+          let e : co′ r ≡ co r = cx r l in
+          rw e (ux r l ∙ g .tight r l (omega arith)))
+          (same? r k);
+      unused = λ j lj fj. g .unused j lj (let a = rx j lj in omega arith);
+    }
 
 pub start-tree : (n m k : ℕ) (c : ℕ → ℕ → ℕ) (ro u w se sl fr : ℕ → ℕ) → k < n → ro m ≡ k → se m ≡ 1
     → ((j : ℕ) → j < m → se j ≡ 0)
     → ((j : ℕ) → j < m → fr j ≡ m) → ((j : ℕ) → j < m → sl j + u k ≡ c k j + w j) → Tree n m 1 c ro u w se sl fr
-start-tree n m k c ro u w se sl fr kn rm sm sx fm sj = record {
-  root = sm;
-  owned = λ j lj p. let a : ro j ≡ ro m = ap ro (is-m j lj p) in omega arith;
-  turn = λ j lj. ⊎-elim (λ e. let a : se j ≡ se m = ap se e in omega arith) (λ ne. omega (arith, sx j (omega arith))) (same? j m);
-  from = λ j lj. omega (arith, fm j lj);
-  from-seen = λ j lj. rw (fm j lj) (omega arith);
-  link = λ j lj. rw (fm j lj, rm) (sj j lj);
-  seen-zero = λ j lj p. absurd (let a = sx j lj in omega arith);
-  earlier = λ j lj p. absurd (let a = sx j lj in omega arith);
-  slack-le = λ j x lj out lx p. rw (is-m x lx p, rm) (omega (arith, sj j lj));
-}
+start-tree n m k c ro u w se sl fr kn rm sm sx fm sj =
+    record {
+      root = sm;
+      owned = λ j lj p. let a : ro j ≡ ro m = ap ro (is-m j lj p) in omega arith;
+      turn = λ j lj. ⊎-elim (λ e. let a : se j ≡ se m = ap se e in omega arith) (λ ne. omega (arith, sx j (omega arith))) (same? j m);
+      from = λ j lj. omega (arith, fm j lj);
+      from-seen = λ j lj. rw (fm j lj) (omega arith);
+      link = λ j lj. rw (fm j lj, rm) (sj j lj);
+      seen-zero = λ j lj p. absurd (let a = sx j lj in omega arith);
+      earlier = λ j lj p. absurd (let a = sx j lj in omega arith);
+      slack-le = λ j x lj out lx p. rw (is-m x lx p, rm) (omega (arith, sj j lj));
+    }
   where
     is-m : (x : ℕ) → x ≤ m → 0 < se x → x ≡ m
     is-m x lx p = ⊎-elim (λ e. e) (λ ne. absurd (let a = sx x (omega arith) in omega arith)) (same? x m)
@@ -387,17 +391,18 @@ pub record Walk (n m k lo hole : ℕ) (c : ℕ → ℕ → ℕ) (ro0 co0 u w se 
 stay : {n m k : ℕ} {ro co : ℕ → ℕ} (h : Matched n m k ro co) (j0 j1 : ℕ) (ro′ co′ : ℕ → ℕ) → k ≤ n
     → n ≤ ro j0 → n ≤ ro j1 → n ≤ ro′ j0 → n ≤ ro′ j1
     → ((x : ℕ) → x < m → (x ≡ j0 → ⊥) → (x ≡ j1 → ⊥) → ro′ x ≡ ro x) → ((s : ℕ) → s < k → co′ s ≡ co s) → Matched n m k ro′ co′
-stay {n} {m} {k} {ro} {co} h j0 j1 ro′ co′ kn f0 f1 g0 g1 rx cx = record {
-  back = λ s ls. omega (arith, cx s ls, h .back s ls);
-  back-row = λ s ls. ap ro′ (cx s ls)
-      ∙ rx (co s) (h .back s ls) (λ e. let a : ro (co s) ≡ ro j0 = ap ro e in omega (arith, h .back-row s ls))
-      (λ e. let a : ro (co s) ≡ ro j1 = ap ro e in omega (arith, h .back-row s ls)) ∙ h .back-row s ls;
-  forth = λ x lx lr. let a = same x lx lr in omega (arith, h .forth x lx (omega arith));
-  forth-col = λ x lx lr.
-      let a : ro′ x ≡ ro x = same x lx lr in
-      let l : ro x < n = omega arith in
-      ap co′ a ∙ cx (ro x) (h .forth x lx l) ∙ h .forth-col x lx l;
-}
+stay {n} {m} {k} {ro} {co} h j0 j1 ro′ co′ kn f0 f1 g0 g1 rx cx =
+    record {
+      back = λ s ls. omega (arith, cx s ls, h .back s ls);
+      back-row = λ s ls. ap ro′ (cx s ls)
+          ∙ rx (co s) (h .back s ls) (λ e. let a : ro (co s) ≡ ro j0 = ap ro e in omega (arith, h .back-row s ls))
+          (λ e. let a : ro (co s) ≡ ro j1 = ap ro e in omega (arith, h .back-row s ls)) ∙ h .back-row s ls;
+      forth = λ x lx lr. let a = same x lx lr in omega (arith, h .forth x lx (omega arith));
+      forth-col = λ x lx lr.
+          let a : ro′ x ≡ ro x = same x lx lr in
+          let l : ro x < n = omega arith in
+          ap co′ a ∙ cx (ro x) (h .forth x lx l) ∙ h .forth-col x lx l;
+    }
   where
     same : (x : ℕ) → x < m → ro′ x < n → ro′ x ≡ ro x
     same x lx lr = rx x lx (λ e. let a : ro′ x ≡ ro′ j0 = ap ro′ e in omega arith) (λ e. let a : ro′ x ≡ ro′ j1 = ap ro′ e in omega arith)
@@ -408,27 +413,28 @@ pub walk-step : {n m k lo j0 : ℕ} {c : ℕ → ℕ → ℕ} {ro0 co0 u w se fr
     → n ≤ ro′ (fr j0) → ro′ j0 ≡ ro (fr j0) → ((x : ℕ) → x ≤ m → (x ≡ j0 → ⊥) → (x ≡ fr j0 → ⊥) → ro′ x ≡ ro x)
     → (ro (fr j0) < n → co′ (ro (fr j0)) ≡ j0) → ((s : ℕ) → s < k → (s ≡ ro (fr j0) → ⊥) → co′ s ≡ co s)
     → Walk n m k lo (fr j0) c ro0 co0 u w se fr ro′ co′
-walk-step {n} {m} {k} {lo} {j0} {c} {ro0} {co0} {u} {w} {se} {fr} {ro} {co} ro′ co′ pa wk kn l0 r1 r0 rx c0 cx = record {
-  matched = ⊎-elim
-      (λ own. move (wk .matched) j0 j1 ro′ co′ kn (omega arith) (wk .free) (omega (arith, a1)) own r1 r0
-      (λ x lx n0 n1. rx x (omega arith) n0 n1) (c0 own) cx)
-      (λ none. stay (wk .matched) j0 j1 ro′ co′ kn (wk .free) none (omega arith) r1
-      (λ x lx n0 n1. rx x (omega arith) n0 n1) (λ s ls. cx s ls (λ e. omega arith)))
-      (less? (ro (fr j0)) n);
-  at = a1;
-  seen = pa .p-seen j0 l0 (wk .seen);
-  free = r1;
-  under = wk .under;
-  tight = ti;
-  unused = us;
-  old = λ x lx lt. rx x lx (λ e. let a : se x ≡ se j0 = ap se e in omega (arith, e1)) (λ e. let a : se x ≡ se j1 = ap se e in omega arith)
-      ∙ wk .old x lx (omega (arith, e1));
-  fixed = λ s ls lk. cx s lk (λ e. omega (arith, o1, pa .p-later j0 l0 (wk .seen))) ∙ wk .fixed s ls lk;
-  landed = λ e.
-      let a : ro (fr j0) ≡ ro0 m = o1 ∙ ap ro0 e in
-      let b : co′ (ro0 m) ≡ j0 = ap co′ (sym a) ∙ c0 (omega (arith, pa .p-stand)) in
-      (omega arith, rw b (wk .seen), rw b e);
-}
+walk-step {n} {m} {k} {lo} {j0} {c} {ro0} {co0} {u} {w} {se} {fr} {ro} {co} ro′ co′ pa wk kn l0 r1 r0 rx c0 cx =
+    record {
+      matched = ⊎-elim
+          (λ own. move (wk .matched) j0 j1 ro′ co′ kn (omega arith) (wk .free) (omega (arith, a1)) own r1 r0
+          (λ x lx n0 n1. rx x (omega arith) n0 n1) (c0 own) cx)
+          (λ none. stay (wk .matched) j0 j1 ro′ co′ kn (wk .free) none (omega arith) r1
+          (λ x lx n0 n1. rx x (omega arith) n0 n1) (λ s ls. cx s ls (λ e. omega arith)))
+          (less? (ro (fr j0)) n);
+      at = a1;
+      seen = pa .p-seen j0 l0 (wk .seen);
+      free = r1;
+      under = wk .under;
+      tight = ti;
+      unused = us;
+      old = λ x lx lt. rx x lx (λ e. let a : se x ≡ se j0 = ap se e in omega (arith, e1)) (λ e. let a : se x ≡ se j1 = ap se e in omega arith)
+          ∙ wk .old x lx (omega (arith, e1));
+      fixed = λ s ls lk. cx s lk (λ e. omega (arith, o1, pa .p-later j0 l0 (wk .seen))) ∙ wk .fixed s ls lk;
+      landed = λ e.
+          let a : ro (fr j0) ≡ ro0 m = o1 ∙ ap ro0 e in
+          let b : co′ (ro0 m) ≡ j0 = ap co′ (sym a) ∙ c0 (omega (arith, pa .p-stand)) in
+          (omega arith, rw b (wk .seen), rw b e);
+    }
   where
     j1 : ℕ
     j1 = fr j0
@@ -464,15 +470,16 @@ walk-step {n} {m} {k} {lo} {j0} {c} {ro0} {co0} {u} {w} {se} {fr} {ro} {co} ro�
 -- the hole has come to the stand: every row has a column
 pub walk-matched : {n m k lo : ℕ} {c : ℕ → ℕ → ℕ} {ro0 co0 u w se fr ro co : ℕ → ℕ} → Walk n m k lo m c ro0 co0 u w se fr ro co
     → k ≤ n → Matched n m k ro co
-walk-matched {n} {m} {k} {lo} {c} {ro0} {co0} {u} {w} {se} {fr} {ro} {co} wk kn = record {
-  back = λ r lr. ⊎-elim
-      (λ e. absurd (let a : ro (co r) ≡ ro m = ap ro e in omega (arith, h .back-row r lr, wk .free)))
-      (λ ne. omega (arith, h .back r lr))
-      (same? (co r) m);
-  back-row = h .back-row;
-  forth = λ j lj lr. h .forth j (omega arith) lr;
-  forth-col = λ j lj lr. h .forth-col j (omega arith) lr;
-}
+walk-matched {n} {m} {k} {lo} {c} {ro0} {co0} {u} {w} {se} {fr} {ro} {co} wk kn =
+    record {
+      back = λ r lr. ⊎-elim
+          (λ e. absurd (let a : ro (co r) ≡ ro m = ap ro e in omega (arith, h .back-row r lr, wk .free)))
+          (λ ne. omega (arith, h .back r lr))
+          (same? (co r) m);
+      back-row = h .back-row;
+      forth = λ j lj lr. h .forth j (omega arith) lr;
+      forth-col = λ j lj lr. h .forth-col j (omega arith) lr;
+    }
   where
     h : Matched n (suc m) k ro co
     h = wk .matched

@@ -100,10 +100,11 @@ pub record NearMisses : Type 0 where
 pub near-misses : NearMisses
 unfolding everything serves lineCapacity capacityAt weightAt lineServed covered idle idleBound pending keeps precedes lineServesOf viableOf nearerOf
     keptOf rank cell policy carOf sheetWith sheet
-near-misses = record {
-  limit-after-line = (refl, refl, refl, refl, refl);
-  covered-stops-count = refl;
-  sum-in-record-order =
-      refl;
-  covered-to-the-last = (refl, refl);
-}
+near-misses =
+    record {
+      limit-after-line = (refl, refl, refl, refl, refl);
+      covered-stops-count = refl;
+      sum-in-record-order =
+          refl;
+      covered-to-the-last = (refl, refl);
+    }

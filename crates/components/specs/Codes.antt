@@ -117,10 +117,11 @@ pub record HasCode {A : Type 0} (of : ℕ → A) (code : A → ℕ) (most n : �
 pub has-code : {A : Type 0} {of : ℕ → A} {code : A → ℕ} {most n : ℕ} {x : A} → every (λ m. eqb (code (of m)) m) (suc most) ≡ true
     → x ≡ of n
     → HasCode of code most n x
-has-code {A} {of} {code} {most} {n} {x} all e = record {
-  is = e;
-  number = λ l. ap code e ∙ eqb-true (code (of n)) n (every-at (λ m. eqb (code (of m)) m) (suc most) n all (omega arith));
-}
+has-code {A} {of} {code} {most} {n} {x} all e =
+    record {
+      is = e;
+      number = λ l. ap code e ∙ eqb-true (code (of n)) n (every-at (λ m. eqb (code (of m)) m) (suc most) n all (omega arith));
+    }
 
 pub kind-codes : every (λ m. eqb (kindCode (kindOf m)) m) 8 ≡ true
 unfolding every kindOf

@@ -29,74 +29,78 @@ pub record Front (n m i h len top : ℕ) (c : ℕ → ℕ → ℕ) (ro u w se fr
 -- nothing is seen but the stand
 pub front-start : {n m i top : ℕ} {c : ℕ → ℕ → ℕ} {ro u w se fr qu : ℕ → ℕ} → se m ≡ 1 → ((x : ℕ) → x < m → se x ≡ 0)
     → Front n m i 0 0 top c ro u w se fr qu
-front-start {n} {m} {i} {top} {c} {ro} {u} {w} {se} {fr} {qu} sm none = record {
-  stand = sm;
-  order = omega arith;
-  rank = λ x lx p. absurd (no x lx p);
-  place = λ x lx p e. absurd (no x lx (omega arith));
-  member = λ p lp. absurd (omega arith);
-  member-rank = λ p lp. absurd (omega arith);
-  later = λ x lx p. absurd (no x lx p);
-  from = λ x lx p. absurd (no x lx p);
-  from-seen = λ x lx p. absurd (no x lx p);
-  earlier = λ x lx p. absurd (no x lx p);
-  may = λ x lx p. absurd (no x lx p);
-  roots = λ x lx p. absurd (no x lx p);
-  closed = λ p lp. absurd (omega arith);
-}
+front-start {n} {m} {i} {top} {c} {ro} {u} {w} {se} {fr} {qu} sm none =
+    record {
+      stand = sm;
+      order = omega arith;
+      rank = λ x lx p. absurd (no x lx p);
+      place = λ x lx p e. absurd (no x lx (omega arith));
+      member = λ p lp. absurd (omega arith);
+      member-rank = λ p lp. absurd (omega arith);
+      later = λ x lx p. absurd (no x lx p);
+      from = λ x lx p. absurd (no x lx p);
+      from-seen = λ x lx p. absurd (no x lx p);
+      earlier = λ x lx p. absurd (no x lx p);
+      may = λ x lx p. absurd (no x lx p);
+      roots = λ x lx p. absurd (no x lx p);
+      closed = λ p lp. absurd (omega arith);
+    }
   where
     no : (x : ℕ) → x < m → 0 < se x → ⊥
     no x lx p = omega (arith, none x lx)
 
 pub front-top : {n m i h len top : ℕ} {c : ℕ → ℕ → ℕ} {ro u w se fr qu : ℕ → ℕ} → Front n m i h len top c ro u w se fr qu
     → Front n m i h len (top + 1) c ro u w se fr qu
-front-top f = record {
-  stand = f .stand;
-  order = f .order;
-  rank = f .rank;
-  place = f .place;
-  member = f .member;
-  member-rank = f .member-rank;
-  later = f .later;
-  from = f .from;
-  from-seen = f .from-seen;
-  earlier = f .earlier;
-  may = f .may;
-  roots = λ x lx p e. omega (arith, f .roots x lx p e);
-  closed = f .closed;
-}
+front-top f =
+    record {
+      stand = f .stand;
+      order = f .order;
+      rank = f .rank;
+      place = f .place;
+      member = f .member;
+      member-rank = f .member-rank;
+      later = f .later;
+      from = f .from;
+      from-seen = f .from-seen;
+      earlier = f .earlier;
+      may = f .may;
+      roots = λ x lx p e. omega (arith, f .roots x lx p e);
+      closed = f .closed;
+    }
 
 -- the next column of the queue has been looked from
 pub front-next : {n m i h len top : ℕ} {c : ℕ → ℕ → ℕ} {ro u w se fr qu : ℕ → ℕ} → Front n m i h len top c ro u w se fr qu
     → h < len
     → ((y : ℕ) → y < m → se y ≡ 0 → i ≤ ro y → May n c u w (ro (qu h)) y → ⊥) → Front n m i (h + 1) len top c ro u w se fr qu
-front-next {n} {m} {i} {h} {len} {top} {c} {ro} {u} {w} {se} {fr} {qu} f lh swept = record {
-  stand = f .stand;
-  order = omega arith;
-  rank = f .rank;
-  place = f .place;
-  member = f .member;
-  member-rank = f .member-rank;
-  later = f .later;
-  from = f .from;
-  from-seen = f .from-seen;
-  earlier = f .earlier;
-  may = f .may;
-  roots = f .roots;
-  closed = λ p lp y ly o l ma. ⊎-elim
-      (λ (e : p ≡ h). let a : qu p ≡ qu h = ap qu e in swept y ly o l (rw a at ma))
-      (λ ne. f .closed p (omega arith) y ly o l ma)
-      (same? p h);
-}
+front-next {n} {m} {i} {h} {len} {top} {c} {ro} {u} {w} {se} {fr} {qu} f lh swept =
+    record {
+      stand = f .stand;
+      order = omega arith;
+      rank = f .rank;
+      place = f .place;
+      member = f .member;
+      member-rank = f .member-rank;
+      later = f .later;
+      from = f .from;
+      from-seen = f .from-seen;
+      earlier = f .earlier;
+      may = f .may;
+      roots = f .roots;
+      closed = λ p lp y ly o l ma. ⊎-elim
+          (λ (e : p ≡ h). let a : qu p ≡ qu h = ap qu e in swept y ly o l (rw a at ma))
+          (λ ne. f .closed p (omega arith) y ly o l ma)
+          (same? p h);
+    }
 
 -- every column of the queue has been looked from, and k was not seen
 pub front-shut : {n m i h len top : ℕ} {c : ℕ → ℕ → ℕ} {ro u w se fr qu : ℕ → ℕ} (k : ℕ)
     → Front n m i h len top c ro u w se fr qu → len ≤ h
     → se k ≡ 0 → Shut n m i k c ro u w se
-front-shut {n} {m} {i} {h} {len} {top} {c} {ro} {u} {w} {se} {fr} {qu} k f le away = record {
-  away = away;
-  closed = λ x y lx ly s o l ma. go x y lx ly (se x) refl s o l ma;
-}
+front-shut {n} {m} {i} {h} {len} {top} {c} {ro} {u} {w} {se} {fr} {qu} k f le away =
+    record {
+      away = away;
+      closed = λ x y lx ly s o l ma. go x y lx ly (se x) refl s o l ma;
+    }
   where
     go : (x y : ℕ) → x < m → y < m → (s : ℕ) → se x ≡ s → 0 < s → se y ≡ 0 → i ≤ ro y → May n c u w (ro x) y → ⊥
     go x y lx ly zero e p o l ma = omega arith

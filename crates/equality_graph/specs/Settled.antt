@@ -41,18 +41,19 @@ pub record SearchReady (cells : List ℕ) (n cols i : ℕ) (u w ro se fr qu : Li
 pub ready-keep : {cells : List ℕ} {n cols i : ℕ} {u w ro se fr qu : List ℕ} (se′ fr′ qu′ : List ℕ)
     → SearchReady cells n cols i u w ro se fr qu
     → length se′ ≡ length se → length fr′ ≡ length fr → length qu′ ≡ length qu → SearchReady cells n cols i u w ro se′ fr′ qu′
-ready-keep se′ fr′ qu′ r a b d = record {
-  matrix = r .matrix;
-  row = r .row;
-  u32 = r .u32;
-  w65 = r .w65;
-  ro65 = r .ro65;
-  se65 = a ∙ r .se65;
-  fr65 = b ∙ r .fr65;
-  qu65 = d ∙ r .qu65;
-  w-small = r .w-small;
-  stand = r .stand;
-}
+ready-keep se′ fr′ qu′ r a b d =
+    record {
+      matrix = r .matrix;
+      row = r .row;
+      u32 = r .u32;
+      w65 = r .w65;
+      ro65 = r .ro65;
+      se65 = a ∙ r .se65;
+      fr65 = b ∙ r .fr65;
+      qu65 = d ∙ r .qu65;
+      w-small = r .w-small;
+      stand = r .stand;
+    }
 
 -- a search that has seen len columns and looked from h of them, with room in the queue for the others
 pub record Search (cells : List ℕ) (n cols i h len top : ℕ) (u w ro se fr qu : List ℕ) : Type 0 where
@@ -122,17 +123,19 @@ pub record Reaching (cells : List ℕ) (n cols i j h : ℕ) (u w ro se se′ fr�
   pub more : (z : ℕ) → 0 < at se z → 0 < at se′ z
 
 pub may-none : {cells : List ℕ} {n cols : ℕ} {u w : List ℕ} {r y : ℕ} → n ≤ r → MayIs cells n cols u w r y (eqb (at w y) 0)
-may-none {cells} {n} {cols} {u} {w} {r} {y} ge = record {
-  yes-may = λ e. record { row = λ l. absurd (omega arith); none = λ l. eqb-true (at w y) 0 e };
-  no-may = λ e m. eqb-false (at w y) 0 e (m .none ge);
-}
+may-none {cells} {n} {cols} {u} {w} {r} {y} ge =
+    record {
+      yes-may = λ e. record { row = λ l. absurd (omega arith); none = λ l. eqb-true (at w y) 0 e };
+      no-may = λ e m. eqb-false (at w y) 0 e (m .none ge);
+    }
 
 pub may-row : {cells : List ℕ} {n cols : ℕ} {u w : List ℕ} {r y : ℕ} (x : ℕ) → r < n → x ≡ cellAt cells cols r y
     → MayIs cells n cols u w r y (eqb (at u r) (x + at w y))
-may-row {cells} {n} {cols} {u} {w} {r} {y} x lr ex = record {
-  yes-may = λ e. record { row = λ l. let a = eqb-true (at u r) (x + at w y) e in omega arith; none = λ l. absurd (omega arith) };
-  no-may = λ e m. eqb-false (at u r) (x + at w y) e (let a = m .row lr in omega arith);
-}
+may-row {cells} {n} {cols} {u} {w} {r} {y} x lr ex =
+    record {
+      yes-may = λ e. record { row = λ l. let a = eqb-true (at u r) (x + at w y) e in omega arith; none = λ l. absurd (omega arith) };
+      no-may = λ e m. eqb-false (at u r) (x + at w y) e (let a = m .row lr in omega arith);
+    }
 
 -- y is seen
 pub visit-push : {cells : List ℕ} {n cols i h len top : ℕ} {u w ro se fr qu : List ℕ} (x r y : ℕ)
@@ -210,10 +213,11 @@ search-next s lh swept = record { front = front-next (s .front) lh swept; room =
 -- no column has been looked at, one more, all of them
 pub expand-none : {cells : List ℕ} {n cols i h len : ℕ} {u w ro se fr qu : List ℕ}
     → ExpandingAll cells n cols i h len 0 u w ro se fr qu se fr qu len
-expand-none = record {
-  expanding = λ top s. record { search = s; shut = λ z l. absurd (omega arith); more = λ z p. p; head = λ p l. refl; grows = omega arith };
-  space = omega arith;
-}
+expand-none =
+    record {
+      expanding = λ top s. record { search = s; shut = λ z l. absurd (omega arith); more = λ z p. p; head = λ p l. refl; grows = omega arith };
+      space = omega arith;
+    }
 
 pub expand-step : {cells : List ℕ} {n cols i h len len₁ len₂ y : ℕ} {u w ro se fr qu se₁ fr₁ qu₁ se₂ fr₂ qu₂ : List ℕ} (x r : ℕ)
     → h < len → x ≡ at qu h → r ≡ at ro x → y < cols → ExpandingAll cells n cols i h len y u w ro se fr qu se₁ fr₁ qu₁ len₁
@@ -242,17 +246,18 @@ expand-step {cells} {n} {cols} {i} {h} {len} {len₁} {len₂} {y} {u} {w} {ro} 
 
 pub expand-done : {cells : List ℕ} {n cols i h len len₁ y : ℕ} {u w ro se fr qu se₁ fr₁ qu₁ : List ℕ} → h < len → cols ≤ y
     → ExpandingAll cells n cols i h len y u w ro se fr qu se₁ fr₁ qu₁ len₁ → ExpandedAll cells n cols i h len u w ro se fr qu se₁ fr₁ qu₁ len₁
-expand-done {cells} {n} {cols} {i} {h} {len} {len₁} {y} {u} {w} {ro} {se} {fr} {qu} lh ge ea = record {
-  expanded = λ top s.
-      let e = ea .expanding top s in
-      record {
-        search = search-next (e .search) (omega (arith, e .grows)) (λ z lz o l ma. e .shut z (omega arith) o l (rw (e .head h lh) at ma));
-        more = e .more;
-        head = e .head;
-        grows = e .grows;
-      };
-  space = ea .space;
-}
+expand-done {cells} {n} {cols} {i} {h} {len} {len₁} {y} {u} {w} {ro} {se} {fr} {qu} lh ge ea =
+    record {
+      expanded = λ top s.
+          let e = ea .expanding top s in
+          record {
+            search = search-next (e .search) (omega (arith, e .grows)) (λ z lz o l ma. e .shut z (omega arith) o l (rw (e .head h lh) at ma));
+            more = e .more;
+            head = e .head;
+            grows = e .grows;
+          };
+      space = ea .space;
+    }
 
 -- column j was looked at from the stand
 module _ {cells : List ℕ} {n cols i j len len₁ : ℕ} {u w ro se fr qu se₁ fr₁ qu₁ : List ℕ} (rd : SearchReady cells n cols i u w ro se fr qu)
@@ -310,25 +315,27 @@ settle-none st = record { matched = st .matched; priced = st .priced; lows = λ 
 -- all rows have their lowest columns: the choice that is asked for
 pub settle-done : {cells : List ℕ} {n cols : ℕ} {u w ro co : List ℕ} → Settled cells n cols n u w ro co
     → Chosen n cols (cellAt cells cols) (at co)
-settle-done st = record {
-  choice = matched-choice (st .matched);
-  least = tight-least (matched-choice (st .matched)) (priced-tight (st .matched) (st .priced)) (st .priced .under);
-  lowest = λ q hq e i li agree. st .lows i li q hq e agree;
-}
+settle-done st =
+    record {
+      choice = matched-choice (st .matched);
+      least = tight-least (matched-choice (st .matched)) (priced-tight (st .matched) (st .priced)) (st .priced .under);
+      lowest = λ q hq e i li agree. st .lows i li q hq e agree;
+    }
 
 -- only the stand's row is another
 pub settled-stand : {cells : List ℕ} {n cols i : ℕ} {u w ro co : List ℕ} (v : ℕ) → Settled cells n cols i u w ro co
     → Settled cells n cols i u w (set ro cols v) co
-settled-stand {cells} {n} {cols} {i} {u} {w} {ro} {co} v st = record {
-  matched = record {
-    back = h .back;
-    back-row = λ r lr. same (at co r) (h .back r lr) ∙ h .back-row r lr;
-    forth = λ j lj lr. lr;
-    forth-col = λ j lj lr. ap (at co) (same j lj) ∙ h .forth-col j lj (let a = same j lj in omega arith);
-  };
-  priced = record { under = g .under; tight = g .tight; unused = λ j lj fj. g .unused j lj (let a = same j lj in omega arith) };
-  lows = st .lows;
-}
+settled-stand {cells} {n} {cols} {i} {u} {w} {ro} {co} v st =
+    record {
+      matched = record {
+        back = h .back;
+        back-row = λ r lr. same (at co r) (h .back r lr) ∙ h .back-row r lr;
+        forth = λ j lj lr. lr;
+        forth-col = λ j lj lr. ap (at co) (same j lj) ∙ h .forth-col j lj (let a = same j lj in omega arith);
+      };
+      priced = record { under = g .under; tight = g .tight; unused = λ j lj fj. g .unused j lj (let a = same j lj in omega arith) };
+      lows = st .lows;
+    }
   where
     h : Matched n cols n (at ro) (at co)
     h = st .matched
@@ -454,27 +461,28 @@ pub lower-start : {cells : List ℕ} {n cols i : ℕ} {u w ro co qu fr se se′ 
     → Matrix cells n cols → i < n
     → ((j : ℕ) → j < cols → at w j ≤ big) → Settled cells n cols i u w ro co → length se′ ≡ length se → Cleared cols se′
     → Lowering cells n cols i (at co i) 0 0 u w (set ro cols i) co qu fr se′
-lower-start {cells} {n} {cols} {i} {u} {w} {ro} {co} {qu} {fr} {se} {se′} sz sc mx li ws st le cl = record {
-  ready = record {
-    matrix = mx;
-    row = li;
-    u32 = sz .u32;
-    w65 = sz .w65;
-    ro65 = simp length-set (sz .ro65);
-    se65 = le ∙ sc .se65;
-    fr65 = sc .fr65;
-    qu65 = sc .di65;
-    w-small = ws;
-    stand = at-same ro cols i (omega (arith, sz .ro65, mx .cols64));
-  };
-  co32 = sz .co32;
-  settled = settled-stand i st;
-  own = refl;
-  below = omega arith;
-  search = search-empty cl;
-  away = cl .zeros (at co i) (st .matched .back i li);
-  passed = λ x lx. absurd (omega arith);
-}
+lower-start {cells} {n} {cols} {i} {u} {w} {ro} {co} {qu} {fr} {se} {se′} sz sc mx li ws st le cl =
+    record {
+      ready = record {
+        matrix = mx;
+        row = li;
+        u32 = sz .u32;
+        w65 = sz .w65;
+        ro65 = simp length-set (sz .ro65);
+        se65 = le ∙ sc .se65;
+        fr65 = sc .fr65;
+        qu65 = sc .di65;
+        w-small = ws;
+        stand = at-same ro cols i (omega (arith, sz .ro65, mx .cols64));
+      };
+      co32 = sz .co32;
+      settled = settled-stand i st;
+      own = refl;
+      below = omega arith;
+      search = search-empty cl;
+      away = cl .zeros (at co i) (st .matched .back i li);
+      passed = λ x lx. absurd (omega arith);
+    }
 
 module _ {cells : List ℕ} {n cols i k len j : ℕ} {u w ro co qu fr se : List ℕ} (lo : Lowering cells n cols i k len j u w ro co qu fr se) where
   li : i < n

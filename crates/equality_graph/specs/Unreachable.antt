@@ -181,18 +181,19 @@ rest-no i ro se y e l = ⊎-elim (λ z. absurd (let a = rest-yes i ro se y z (om
 
 shut-kept : {n m i : ℕ} {c : ℕ → ℕ → ℕ} {ro co u w se : ℕ → ℕ} → Matched n m n ro co → i < n → Shut n m i (co i) c ro u w se
     → Kept n m i (co i) c ro u w (rest i ro se)
-shut-kept {n} {m} {i} {c} {ro} {co} {u} {w} {se} h li sh = record {
-  home = rest-yes i ro se (co i) (sh .away) (let e = h .back-row i li in omega arith);
-  later = λ x lx p ne.
-      let a = rest-is i ro se x p in
-      ⊎-elim
-      (λ (e : ro x ≡ i). absurd (ne (sym (h .forth-col x lx (omega arith)) ∙ ap co e)))
-      (λ far. omega arith)
-      (same? (ro x) i);
-  closed = λ x y lx ly o lr p ma.
-      let b = rest-is i ro se y p in
-      sh .closed x y lx ly (rest-no i ro se x o lr) (b .0) (b .1) ma;
-}
+shut-kept {n} {m} {i} {c} {ro} {co} {u} {w} {se} h li sh =
+    record {
+      home = rest-yes i ro se (co i) (sh .away) (let e = h .back-row i li in omega arith);
+      later = λ x lx p ne.
+          let a = rest-is i ro se x p in
+          ⊎-elim
+          (λ (e : ro x ≡ i). absurd (ne (sym (h .forth-col x lx (omega arith)) ∙ ap co e)))
+          (λ far. omega arith)
+          (same? (ro x) i);
+      closed = λ x y lx ly o lr p ma.
+          let b = rest-is i ro se y p in
+          sh .closed x y lx ly (rest-no i ro se x o lr) (b .0) (b .1) ma;
+    }
 
 -- Where every column below j that row i is tight at, and that may still change hands, is seen and shut in, no least choice that agrees on the
 -- rows before i has a column below j for it.

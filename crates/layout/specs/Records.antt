@@ -102,14 +102,14 @@ aboardOf f = record { car = read f aboard·car; destination = read f aboard·des
 
 -- kind 6, waiting
 unfoldable pub waitingOf : Fields → Waiting
-waitingOf f = record {
-  stop = read f waiting·stop;
-  line = read f waiting·line;
-  destination = read f waiting·destination;
-  weight =
-      double f waiting·weight;
-  wait = read f waiting·wait;
-}
+waitingOf f =
+    record {
+      stop = read f waiting·stop;
+      line = read f waiting·line;
+      destination = read f waiting·destination;
+      weight = double f waiting·weight;
+      wait = read f waiting·wait;
+    }
 
 -- kind 7, demand
 unfoldable pub demandOf : Fields → Demand

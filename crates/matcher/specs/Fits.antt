@@ -19,16 +19,17 @@ use Rattle.matcher.specs.Promise.{mostCell, tooLarge, refused, matching,
 -- the method takes the matrix
 pub fits-matrix : {cars columns : ℕ} {cells : List ℕ} → cars ≤ 32 → columns ≤ 64 → cars ≤ columns → length cells ≡ cars * columns
     → any (tooLarge cells) (length cells) ≡ false → Matrix cells cars columns
-fits-matrix {cars} {columns} {cells} a b c d e = record {
-  rows32 = a;
-  cols64 = b;
-  wide = c;
-  whole = d;
-  small = λ k. ⊎-elim
-      (λ l. let s = ltb-false mostCell (getD cells k 0) (any-none (tooLarge cells) (length cells) e k l) in omega arith)
-      (λ l. let z = List·getD-eq-default cells 0 l in omega arith)
-      (less? k (length cells));
-}
+fits-matrix {cars} {columns} {cells} a b c d e =
+    record {
+      rows32 = a;
+      cols64 = b;
+      wide = c;
+      whole = d;
+      small = λ k. ⊎-elim
+          (λ l. let s = ltb-false mostCell (getD cells k 0) (any-none (tooLarge cells) (length cells) e k l) in omega arith)
+          (λ l. let z = List·getD-eq-default cells 0 l in omega arith)
+          (less? k (length cells));
+    }
 
 -- the product of so few cars and columns is small
 pub small-product : (cars columns : ℕ) → cars ≤ 32 → columns ≤ 64 → cars * columns ≤ 2048
