@@ -23,4 +23,5 @@ pub mod show;
 pub mod store;
 pub mod text;
 pub mod value;
+#[cfg(feature = "pass")]
 pub mod weights;

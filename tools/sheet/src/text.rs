@@ -8,8 +8,10 @@ use sheetgen::sheet::{BODY_BITS, EDITION};
 use crate::fields::{self, Absence, Field, KINDS, WEIGHTS};
 use crate::line::{self, Fault, Line};
 use crate::near::did_you_mean;
+use crate::store;
 use crate::value::{self, Stops, Value};
-use crate::{store, weights};
+#[cfg(feature = "pass")]
+use crate::weights::of_file;
 
 /// For who hands a text over where a sheet is expected.
 pub const HINT: &str = "If this is a sheet's text, `sheet write` turns it into a sheet.";
@@ -211,7 +213,7 @@ fn stored_weights(
         return Err(line.fault_in("weights", "is missing; expected the file of a store"));
     };
     let day = line.needed("day", 32)? as u32;
-    let six = weights::of_file(&folder.join(file), day);
+    let six = of_file(&folder.join(file), day);
     let six = six.map_err(|what| line.fault_in("weights", &what))?;
     for (field, weight) in fields.iter().zip(six) {
         let bits = match field.absence {
@@ -222,6 +224,12 @@ fn stored_weights(
         value::put(writer, field, Value { present, bits });
     }
     Ok(())
+}
+
+/// What looks weights up is not there.
+#[cfg(not(feature = "pass"))]
+fn of_file(_: &Path, _: u32) -> Result<[f64; 6], String> {
+    Err("this program was built without the proved library (feature `pass`), which alone looks weights up".into())
 }
 
 /// The strategy, by which the weights have their names.

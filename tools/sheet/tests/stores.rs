@@ -2,12 +2,10 @@
 
 mod common;
 
-use std::path::Path;
-
 use common::{files, here, name, run, text};
 use sheet::store;
 use sheetgen::rng::Rng;
-use sheetgen::store::{RECORD_BYTES, Record, records, write};
+use sheetgen::store::{RECORD_BYTES, Record, write};
 use sheetgen::stores::{PROFILES, generate};
 
 /// The store of a text among the examples.
@@ -213,8 +211,12 @@ fn without_the_library() {
 
 #[cfg(feature = "pass")]
 mod asked {
-    use super::*;
+    use std::path::Path;
+
     use dispatch_bench::weights;
+    use sheetgen::store::records;
+
+    use super::*;
 
     /// The answers that stand beside the examples: `> DAY [STRATEGY]`, then the lines.
     #[test]

@@ -139,16 +139,17 @@ impl Reading {
             let offset = at(record);
             return Err(Refusal { number, offset });
         }
-        if self.has(Fault::TwoValuesInTheLookUp)
-            && let Some(slot) = self.missing(&records, day)
-        {
-            return Err(slot);
-        }
-        if let Some(record) = self.first_disagreeing(&records) {
-            let offset = at(record);
-            return Err(Refusal { number: 17, offset });
-        }
-        match self.missing(&records, day) {
+        let missing = self.missing(&records, day);
+        let two_values = self.first_disagreeing(&records).map(|record| Refusal {
+            number: 17,
+            offset: at(record),
+        });
+        let refusal = if self.has(Fault::TwoValuesInTheLookUp) {
+            missing.or(two_values)
+        } else {
+            two_values.or(missing)
+        };
+        match refusal {
             Some(refusal) => Err(refusal),
             None => {
                 let slot = |slot| self.weight(&records, day, slot).unwrap_or(0);
