@@ -14,6 +14,8 @@ uint32_t __wrap_dispatch_bench_pass(const uint8_t *, size_t, uint32_t *, size_t,
                                     uint64_t *, uint64_t *);
 uint32_t __real_dispatch_bench_pending(const uint8_t *, size_t, uint32_t *, size_t, uint64_t *, uint64_t *);
 uint32_t __wrap_dispatch_bench_pending(const uint8_t *, size_t, uint32_t *, size_t, uint64_t *, uint64_t *);
+uint32_t __real_dispatch_bench_weights(const uint8_t *, size_t, uint32_t, double *, size_t, uint64_t *);
+uint32_t __wrap_dispatch_bench_weights(const uint8_t *, size_t, uint32_t, double *, size_t, uint64_t *);
 
 static int is(const char *fault) {
     const char *named = getenv("FAULT");
@@ -158,4 +160,92 @@ uint32_t __wrap_dispatch_bench_pending(const uint8_t *sheet, size_t length, uint
         *offset += is("pending_offset") && number == 11;
     }
     return is("pending_few") && number == 1 && places == 63 ? 2 : is("pending_number") && number == 9 ? 10 : number;
+}
+
+#define RECORD (DISPATCH_BENCH_WEIGHT_BITS / 8)
+
+/* The value of a record. */
+static double value_at(const uint8_t *record) {
+    uint64_t bits = 0;
+    double value;
+    for (int k = 7; k < RECORD; k++) {
+        bits = bits << 8 | record[k];
+    }
+    memcpy(&value, &bits, sizeof value);
+    return value;
+}
+
+/* The first slot gets another value of its own that has started, the least above zero, where there is one. */
+static void take_another(const uint8_t *store, size_t length, uint32_t day, double *weights) {
+    double least = 0;
+    for (size_t at = 0; at + RECORD <= length; at += RECORD) {
+        const uint8_t *record = store + at;
+        uint32_t start = (uint32_t)record[1] << 24 | (uint32_t)record[2] << 16 | (uint32_t)record[3] << 8 | record[4];
+        double value = value_at(record);
+        if (record[0] == 0 && start <= day && value > 0 && value != weights[0] && (least == 0 || value < least)) {
+            least = value;
+        }
+    }
+    weights[0] = least > 0 ? least : weights[0];
+}
+
+/* The last record is one that stands there twice. */
+static int ends_repeated(const uint8_t *store, size_t length) {
+    for (size_t at = 0; at + 2 * RECORD <= length; at += RECORD) {
+        if (memcmp(store + at, store + length - RECORD, RECORD) == 0) {
+            return 1;
+        }
+    }
+    return 0;
+}
+
+/* The faults of weights that were found; held is what stood in the first place. */
+static void spoil_weights(const uint8_t *store, size_t length, uint32_t day, double *weights, size_t places, uint8_t held, uint64_t *offset) {
+    *offset ^= is("weights_writes_offset");
+    if (places > DISPATCH_BENCH_WEIGHTS && is("weights_past")) {
+        weights[DISPATCH_BENCH_WEIGHTS] = 0;
+    }
+    for (int slot = 0; slot < DISPATCH_BENCH_WEIGHTS; slot++) {
+        weights[slot] = is("weights_minus_zero") && weights[slot] == 0 ? -0.0 : weights[slot];
+    }
+    weights[0] += is("weights_above") ? 2e9 : 0;
+    weights[0] = is("weights_unknown") ? 0.123 : weights[0];
+    if (is("weights_another") || (is("weights_held") && held == 0xa5)) {
+        take_another(store, length, day, weights);
+    }
+    if (is("weights_first_record") && store[0] == 0 && value_at(store) != 0) {
+        weights[0] = value_at(store);
+    }
+}
+
+uint32_t __wrap_dispatch_bench_weights(const uint8_t *store, size_t length, uint32_t day, double *weights, size_t places, uint64_t *offset) {
+    uint8_t held = places > 0 ? *(const uint8_t *)weights : 0;
+    if (is("weights_repeated") && places >= DISPATCH_BENCH_WEIGHTS && ends_repeated(store, length)) {
+        *offset = 0;
+        return DISPATCH_BENCH_TWO_VALUES;
+    }
+    uint32_t number = __real_dispatch_bench_weights(store, length, day, weights, places, offset);
+    if (number == 0) {
+        spoil_weights(store, length, day, weights, places, held, offset);
+    } else {
+        if (is("weights_refusal_writes") && places > 0) {
+            weights[0] = 1.0;
+        }
+        *offset -= is("weights_offset") && number == 11 ? DISPATCH_BENCH_WEIGHT_BITS : 0;
+        *offset += is("weights_byte") && number == 2;
+        *offset += is("weights_slot") && number == 18 ? 6 : 0;
+        *offset = is("weights_next_slot") && number == 18 && *offset < 5 ? *offset + 1 : *offset;
+    }
+    if (is("weights_reads_past") && length > 0) {
+        *(volatile uint64_t *)offset += ((const volatile uint8_t *)store)[length] & 0;
+    }
+    if (is("weights_writes_before")) {
+        offset[-1] ^= 1;
+    }
+    if (is("weights_writes_store") && length > 0) {
+        ((uint8_t *)(uintptr_t)store)[0] ^= 1;
+    }
+    number = is("weights_few") && number == 1 && places == 5 ? 2 : number;
+    number = is("weights_none") && number == 18 ? 19 : number;
+    return is("weights_number") && number == 8 ? 11 : number;
 }

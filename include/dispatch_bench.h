@@ -27,10 +27,10 @@ uint32_t dispatch_bench_read(const uint8_t *sheet, size_t length, uint64_t *offs
    than cars, cell_count not cars * columns, a cell above DISPATCH_BENCH_SENTINEL, or fewer places than cars. */
 uint32_t dispatch_bench_choose(size_t cars, size_t columns, const uint64_t *cells, size_t cell_count, uint32_t *chosen, size_t places, uint64_t *total);
 
-/* The refusals, by document 01's numbers. */
+/* The refusals, by the numbers of documents 01 and 02. Those of a store of weights are 1, 2, 7, 8, 11, 17 and 18. */
 enum dispatch_bench_refusal {
     DISPATCH_BENCH_ACCEPTED = 0,
-    DISPATCH_BENCH_SHORT_BUFFER = 1,    /* a lent buffer is too short (dispatch_bench_pass, dispatch_bench_pending) */
+    DISPATCH_BENCH_SHORT_BUFFER = 1,    /* a lent buffer is too short (dispatch_bench_pass, dispatch_bench_pending, dispatch_bench_weights) */
     DISPATCH_BENCH_PAST_END = 2,        /* what is stated passes the last byte */
     DISPATCH_BENCH_EDITION = 3,         /* the edition is not known */
     DISPATCH_BENCH_UNKNOWN_KIND = 4,    /* a record of an unknown kind */
@@ -45,7 +45,9 @@ enum dispatch_bench_refusal {
     DISPATCH_BENCH_TICKS = 13,          /* door ticks that pass 32 bits */
     DISPATCH_BENCH_WAIT = 14,           /* wait ticks above 2^53 */
     DISPATCH_BENCH_LOAD_WEIGHT = 15,    /* RSR with a load weight above 0 */
-    DISPATCH_BENCH_TAIL = 16            /* what follows the last record */
+    DISPATCH_BENCH_TAIL = 16,           /* what follows the last record */
+    DISPATCH_BENCH_TWO_VALUES = 17,     /* records of a store that agree in setting, start day and issue, but not in value */
+    DISPATCH_BENCH_NO_WEIGHT = 18       /* a slot without a record for the day */
 };
 
 /* The least lengths of the buffers that a pass is lent. */
@@ -56,11 +58,20 @@ enum dispatch_bench_refusal {
 /* The least places for the pending stops. */
 #define DISPATCH_BENCH_STOPS 64
 
+/* The weights of a policy, and so the least places for them. */
+#define DISPATCH_BENCH_WEIGHTS 6
+
+/* The bits of a record of a store of weights: an offset divided by them is the record's number, from 0. */
+#define DISPATCH_BENCH_WEIGHT_BITS 120
+
 /* The cell of a pair without a rank, and the largest cell. */
 #define DISPATCH_BENCH_SENTINEL UINT64_C(281474976710656)
 
-/* Bytes past these change no answer. */
+/* Bytes of a sheet past these change no answer. */
 #define DISPATCH_BENCH_MOST_BYTES 65536
+
+/* Bytes of a store of weights past these change no answer: 257 records. */
+#define DISPATCH_BENCH_MOST_STORE_BYTES 3855
 
 /* A pass over a sheet. 0: *cars idle cars, *stops pending stops, *total the least total; in decisions the stop id of each idle car in record order (0 for
    idle), in matrix the cells row by row, a row of max(*cars, *stops) columns for each idle car, in sweeps 2 * sweep + mode of each car record; what
@@ -79,6 +90,21 @@ uint32_t dispatch_bench_pass(const uint8_t *sheet, size_t length, uint32_t *deci
    stands past these is left, and so is *offset. Otherwise the refusal's number with the bit offset where the refused record starts in *offset, and
    nothing else is written: 1 at 0 where fewer than DISPATCH_BENCH_STOPS places are lent, else what dispatch_bench_read answers. */
 uint32_t dispatch_bench_pending(const uint8_t *sheet, size_t length, uint32_t *stops, size_t places, uint64_t *count, uint64_t *offset);
+
+/* The weights of a store for a day. A store is up to 256 records of 15 bytes, most significant bit first: setting 8 bits (0 to 5, the weight slots),
+   start day 32, issue 16, value 64 (an IEEE double). Each slot takes the record with the latest start not after the day, and of these the highest
+   issue. 0: the six values in slot order stand first in weights, a minus zero as zero; what stands past these is left, and so is *offset. Otherwise
+   the refusal's number, and nothing else is written but *offset:
+     1         0: fewer than DISPATCH_BENCH_WEIGHTS places are lent
+     2         the bit offset of the record that is cut short
+     7         that of the 257th record
+     8         that of a record whose setting is above 5
+     11        that of a record whose value is outside of 0 to 1,000,000,000, or a NaN
+     17        that of the first record that agrees with an earlier one in setting, start day and issue, but not in value (0 and -0 are one value)
+     18        not an offset, but the lowest slot that has no record for the day
+   Records are tested in their order, and each by rising number up to 11; then 17 over the whole store, then 18. A policy record takes the six; those
+   that its strategy leaves unused stay zero there. */
+uint32_t dispatch_bench_weights(const uint8_t *store, size_t length, uint32_t day, double *weights, size_t places, uint64_t *offset);
 
 #ifdef __cplusplus
 }

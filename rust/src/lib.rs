@@ -1,7 +1,7 @@
-//! The dispatch bench for Rust hosts: one group pass of lift dispatch over a binary sheet.
+//! The dispatch bench for Rust hosts: one group pass of lift dispatch over a binary sheet, and the weights of a policy from a store.
 //!
 //! Every function of the linked library is proved to meet its contract; this crate is what a Rust host needs around it and is not proved. Each
-//! function ends on every input, with an answer or a [`Refusal`], and none panics. There is no state, so any number of threads may call at once;
+//! function ends on every input, with an answer or a refusal, and none panics. There is no state, so any number of threads may call at once;
 //! a call takes less than 64 KiB of stack. docs/manual has the format of a sheet, the rules of the refusals, and what is proved.
 //!
 //! ```
@@ -27,6 +27,7 @@ mod pending;
 mod records;
 mod refusal;
 mod rules;
+mod weights;
 
 pub use lines::lines;
 pub use pass::{
@@ -35,6 +36,7 @@ pub use pass::{
 pub use pending::{STOPS, pending, pending_into};
 pub use records::{Car, cars};
 pub use refusal::Refusal;
+pub use weights::{SLOTS, StoreRefusal, weights};
 
 /// The cell of a pair that has no rank and of a spare column, what a car that stays idle counts in the total, and the largest cell that
 /// [`choose`] takes. A cost of 1 is a cell of 1,000,000.

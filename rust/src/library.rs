@@ -41,6 +41,14 @@ unsafe extern "C" {
         count: *mut u64,
         offset: *mut u64,
     ) -> u32;
+    fn dispatch_bench_weights(
+        store: *const u8,
+        length: usize,
+        day: u32,
+        weights: *mut f64,
+        places: usize,
+        offset: *mut u64,
+    ) -> u32;
 }
 
 /// The numbers that a pass answers, beside what it leaves in the buffers.
@@ -128,6 +136,21 @@ pub fn pending(sheet: &[u8], stops: &mut [u32], count: &mut u64, offset: &mut u6
             stops.as_mut_ptr(),
             stops.len(),
             count,
+            offset,
+        )
+    }
+}
+
+/// 0 where the six weights of a store for a day stand first in `weights`, or the refusal's number.
+pub fn weights(store: &[u8], day: u32, weights: &mut [f64], offset: &mut u64) -> u32 {
+    // SAFETY: both slices are lent as their addresses and lengths, and the offset as the address of one `u64`; see above.
+    unsafe {
+        dispatch_bench_weights(
+            store.as_ptr(),
+            store.len(),
+            day,
+            weights.as_mut_ptr(),
+            weights.len(),
             offset,
         )
     }

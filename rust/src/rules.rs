@@ -1,4 +1,4 @@
-//! Document 01's refusals, a sentence each, and what to do about them.
+//! The refusals of documents 01 and 02, a sentence each, and what to do about them.
 
 pub struct Rule {
     /// When the number is given.
@@ -18,7 +18,7 @@ macro_rules! changed {
 #[allow(dead_code)]
 pub const CHANGED: &str = changed!();
 
-/// Rule `number` is entry `number` - 1.
+/// The refusals of a sheet: rule `number` is entry `number` - 1.
 pub const RULES: [Rule; 16] = [
     Rule {
         says: "A buffer that the host lent is too short: decisions need 32 entries, the matrix 2,048, the sweeps 32, the pending stops 64.",
@@ -101,6 +101,72 @@ pub const RULES: [Rule; 16] = [
     },
 ];
 
+/// The refusals of a store of weights, by number.
+pub const STORE_RULES: [(u32, Rule); 7] = [
+    (
+        1,
+        Rule {
+            says: "Fewer than 6 places were lent for the weights.",
+            remedy: "Lend 6 places or more; the store is not at fault.",
+        },
+    ),
+    (
+        2,
+        Rule {
+            says: "The last record is cut short: a record has 15 bytes.",
+            remedy: "Fetch the whole file again, in binary; if it is whole, it may be no store of weights.",
+        },
+    ),
+    (
+        7,
+        Rule {
+            says: "There are more than 256 records.",
+            remedy: "Leave out records that a later start or a higher issue has replaced for every day that is still asked for.",
+        },
+    ),
+    (
+        8,
+        Rule {
+            says: "A record's setting is above 5.",
+            remedy: concat!(
+                "Give the record a setting of 0 to 5, the slot of its weight. ",
+                changed!()
+            ),
+        },
+    ),
+    (
+        11,
+        Rule {
+            says: "A record's value is outside of 0 to 1,000,000,000, or not a number.",
+            remedy: concat!(
+                "Give the record a value inside of the weights' range. ",
+                changed!()
+            ),
+        },
+    ),
+    (
+        17,
+        Rule {
+            says: "Two records agree in setting, start day and issue, but not in value.",
+            remedy: "Give the record that corrects the other a higher issue, or leave out the one that is wrong.",
+        },
+    ),
+    (
+        18,
+        Rule {
+            says: "A slot has no record that starts on the day or before it.",
+            remedy: "Add a record for the slot that starts on the day or before it, or ask for a later day.",
+        },
+    ),
+];
+
+/// The rule of a sheet's refusal.
 pub fn rule(number: u32) -> Option<&'static Rule> {
     RULES.get((number as usize).checked_sub(1)?)
+}
+
+/// The rule of a store's refusal.
+pub fn store_rule(number: u32) -> Option<&'static Rule> {
+    let found = STORE_RULES.iter().find(|entry| entry.0 == number);
+    found.map(|entry| &entry.1)
 }

@@ -152,7 +152,7 @@ fn place(cut: &Cut, record: &Record) -> String {
 }
 
 /// A bit's offset in both ways, each counted from 0: `bit 1,723; byte 215, bit 3`.
-fn bit_and_byte(at: usize) -> String {
+pub fn bit_and_byte(at: usize) -> String {
     let (bit, byte) = (grouped(at as u64), grouped(at as u64 / 8));
     format!("bit {bit}; byte {byte}, bit {}", at % 8)
 }

@@ -209,7 +209,7 @@ fn listed(ids: &[u64]) -> String {
 }
 
 /// 11: a double outside of its range.
-fn outside(field: &Field, held: Value) -> Option<String> {
+pub fn outside(field: &Field, held: Value) -> Option<String> {
     let Form::Double(range) = field.form else {
         return None;
     };

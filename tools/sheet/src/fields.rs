@@ -141,27 +141,41 @@ const fn policy(weights: [&'static str; 6], used: usize) -> [Field; 10] {
     fields
 }
 
-static POLICY_ETD: [Field; 10] = policy(
-    ["wait", "delay", "door", "wait_squared", "age", "weight_6"],
-    5,
-);
-static POLICY_RSR: [Field; 10] = policy(
+/// How many fields of a policy stand before its six weights.
+pub const WEIGHTS: usize = 4;
+
+/// The names of the six weights, by strategy.
+const WEIGHTS_ETD: [&str; 6] = ["wait", "delay", "door", "wait_squared", "age", "weight_6"];
+const WEIGHTS_RSR: [&str; 6] = [
+    "eta",
+    "wrong_direction",
+    "coincident_call",
+    "load",
+    "age",
+    "peak_multiplier",
+];
+const WEIGHTS_SCAN: [&str; 6] = [
+    "weight_1", "weight_2", "weight_3", "weight_4", "weight_5", "weight_6",
+];
+
+static POLICY_ETD: [Field; 10] = policy(WEIGHTS_ETD, 5);
+static POLICY_RSR: [Field; 10] = policy(WEIGHTS_RSR, 6);
+static POLICY_SCAN: [Field; 10] = policy(WEIGHTS_SCAN, 0);
+
+/// The fields of a record of a store of weights.
+const fn stored(setting: Form) -> [Field; 4] {
     [
-        "eta",
-        "wrong_direction",
-        "coincident_call",
-        "load",
-        "age",
-        "peak_multiplier",
-    ],
-    6,
-);
-static POLICY_SCAN: [Field; 10] = policy(
-    [
-        "weight_1", "weight_2", "weight_3", "weight_4", "weight_5", "weight_6",
-    ],
-    0,
-);
+        always("setting", 0, setting),
+        always("start", 8, Form::Number(32)),
+        always("issue", 40, Form::Number(16)),
+        always("value", 56, Form::Double(Range::Amount)),
+    ]
+}
+
+static STORED: [Field; 4] = stored(Form::Number(8));
+static STORED_ETD: [Field; 4] = stored(Form::Code(&WEIGHTS_ETD, 8));
+static STORED_RSR: [Field; 4] = stored(Form::Code(&WEIGHTS_RSR, 8));
+static STORED_SCAN: [Field; 4] = stored(Form::Code(&WEIGHTS_SCAN, 8));
 
 static STOP: [Field; 2] = [
     always("id", 0, Form::Id(Names::Itself)),
@@ -231,6 +245,16 @@ pub fn policy_fields(strategy: u64) -> &'static [Field] {
     }
 }
 
+/// The fields of a record of a store; its settings have the names of a strategy's weights where one is given.
+pub fn store_fields(strategy: Option<u64>) -> &'static [Field; 4] {
+    match strategy {
+        None => &STORED,
+        Some(strategy) if strategy == u64::from(ETD) => &STORED_ETD,
+        Some(strategy) if strategy == u64::from(RSR) => &STORED_RSR,
+        Some(_) => &STORED_SCAN,
+    }
+}
+
 /// The fields of a record of kind 2 to 7; a policy's depend on its strategy.
 pub fn fields(kind: usize) -> &'static [Field] {
     match kind {
@@ -248,6 +272,7 @@ pub fn fields(kind: usize) -> &'static [Field] {
 mod tests {
     use super::*;
     use sheetgen::sheet::BODY_BITS;
+    use sheetgen::store::RECORD_BITS;
 
     /// The fields follow each other without a gap and fill the body.
     fn fill(fields: &[Field], bits: usize) {
@@ -266,6 +291,21 @@ mod tests {
         }
         for (kind, bits) in BODY_BITS.iter().enumerate().skip(2) {
             fill(fields(kind), *bits);
+        }
+        for strategy in [None, Some(0), Some(1), Some(2)] {
+            fill(store_fields(strategy), RECORD_BITS);
+        }
+    }
+
+    /// A store's setting has the name of the policy's weight.
+    #[test]
+    fn settings_are_the_weights() {
+        for strategy in 0..3 {
+            let weights = policy_fields(strategy)[WEIGHTS..].iter().map(|f| f.name);
+            let Form::Code(names, 8) = store_fields(Some(strategy))[0].form else {
+                panic!("a setting has no names");
+            };
+            assert!(weights.eq(names.iter().copied()), "{strategy}");
         }
     }
 }

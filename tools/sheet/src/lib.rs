@@ -1,7 +1,7 @@
 //! Sheets of the dispatch bench as text: `text` writes them, `show` shows them, `explain` says why the
 //! proved library refuses one, `draw` draws a sheet and its pass. `fields` is the one table of the
-//! format that they read. Verdicts and passes come from the crate dispatch-bench, with the feature
-//! `pass`.
+//! format that they read. `store` writes and shows stores of weights, `weights` looks a day's weights up.
+//! Verdicts, passes and weights come from the crate dispatch-bench, with the feature `pass`.
 
 pub mod cut;
 #[cfg(feature = "pass")]
@@ -11,6 +11,7 @@ pub mod explain;
 #[cfg(feature = "pass")]
 mod faults;
 pub mod fields;
+pub mod line;
 pub mod near;
 mod numbers;
 #[cfg(feature = "pass")]
@@ -19,5 +20,8 @@ mod remedies;
 #[path = "../../../rust/src/rules.rs"]
 pub mod rules;
 pub mod show;
+pub mod store;
 pub mod text;
 pub mod value;
+#[cfg(feature = "pass")]
+pub mod weights;

@@ -1,11 +1,13 @@
-//! `sheet`: sheets of the dispatch bench written from text, shown as text, explained and drawn.
+//! `sheet`: sheets of the dispatch bench written from text, shown as text, explained and drawn; stores of
+//! weights written, shown and asked.
 
 use std::ffi::OsString;
 use std::io::{ErrorKind, IsTerminal, Read, Write};
 use std::path::Path;
 use std::process::ExitCode;
 
-use sheet::{near, rules, show, text};
+use sheet::line::Fault;
+use sheet::{near, rules, show, store, text};
 
 const USAGE: &str = "\
 usage: sheet COMMAND
@@ -16,13 +18,24 @@ usage: sheet COMMAND
   draw SHEET [OUT]     draw a sheet and its pass, or where it is refused, as SVG
   pass SHEET           print the pass, or the refusal, in the lines of the program passprint
   rule [NUMBER]        print a refusal's rule, or all of them
+  store example        print the text of a store of weights to start from
+  store write IN.txt [OUT]
+                       turn text into a store, in OUT or on standard output
+  store show STORE [STRATEGY]
+                       print a store as text that `store write` turns into the same bytes, settings by name
+                       where a strategy is named
+  store weights STORE DAY [STRATEGY]
+                       print the six weights of a day with the records that they are of, or why there are none
   help, --version      print this, or the version
+In a sheet's text `policy .. weights=STORE day=DAY` takes the weights of a store, which is looked for from the text's folder on.
 - stands for standard input, as OUT for standard output. The text is described in docs/manual/planners.md.
-Exit 0: done, a refused sheet explained included. 1: not done, the reason is on standard error. 2: no such command.
+Exit 0: done, a refusal explained included. 1: not done, the reason is on standard error. 2: no such command.
 ";
 
-/// Each command, what follows it, and the least number of words of that.
-const COMMANDS: [(&str, &str, usize); 11] = [
+/// A command, what follows it, and the least number of words of that.
+type Command = (&'static str, &'static str, usize);
+
+const COMMANDS: [Command; 12] = [
     ("example", " [STRATEGY]", 0),
     ("write", " IN.txt [OUT]", 1),
     ("show", " SHEET", 1),
@@ -30,10 +43,18 @@ const COMMANDS: [(&str, &str, usize); 11] = [
     ("draw", " SHEET [OUT]", 1),
     ("pass", " SHEET", 1),
     ("rule", " [NUMBER]", 0),
+    ("store", " example|write|show|weights ..", 1),
     ("help", "", 0),
     ("--help", "", 0),
     ("-h", "", 0),
     ("--version", "", 0),
+];
+
+const STORE_COMMANDS: [Command; 4] = [
+    ("example", "", 0),
+    ("write", " IN.txt [OUT]", 1),
+    ("show", " STORE [STRATEGY]", 1),
+    ("weights", " STORE DAY [STRATEGY]", 2),
 ];
 
 /// Why a command ended early.
@@ -72,30 +93,47 @@ fn command(args: &[OsString]) -> Result<(), Stop> {
         ["--version"] => print(concat!("sheet ", env!("CARGO_PKG_VERSION"), "\n").as_bytes()),
         ["example"] => example("ETD"),
         ["example", strategy] => example(strategy),
-        ["write", _] | ["write", _, "-"] => write(path(1), None),
-        ["write", _, _] => write(path(1), Some(path(2))),
+        ["write", _] | ["write", _, "-"] => write(path(1), None, sheet_bytes, "a sheet"),
+        ["write", _, _] => write(path(1), Some(path(2)), sheet_bytes, "a sheet"),
         ["show", _] => print(made(path(1), shown)?.as_bytes()),
         ["explain", _] => print(explain(&input(path(1))?)?.as_bytes()),
         ["draw", _] | ["draw", _, "-"] => print(made(path(1), draw)?.as_bytes()),
         ["draw", _, _] => replace(path(2), made(path(1), draw)?.as_bytes()),
         ["pass", _] => print(made(path(1), pass)?.as_bytes()),
-        ["rule"] => rules_from(1, rules::RULES.len() as u32),
+        ["rule"] => rules_from(1, LAST_RULE),
         ["rule", number] => rule(number),
+        ["store", "example"] => print(STORE_EXAMPLE.as_bytes()),
+        ["store", "write", _] | ["store", "write", _, "-"] => {
+            write(path(2), None, store_bytes, "a store")
+        }
+        ["store", "write", _, _] => write(path(2), Some(path(3)), store_bytes, "a store"),
+        ["store", "show", _] => store_show(path(2), None),
+        ["store", "show", _, name] => store_show(path(2), Some(strategy(name)?)),
+        ["store", "weights", _, word] => weights(path(2), day(word)?, None),
+        ["store", "weights", _, word, name] => weights(path(2), day(word)?, Some(strategy(name)?)),
         words => Err(Stop::Usage(no_meaning(words))),
     }
 }
 
 /// What is wrong with a command line that no command takes.
 fn no_meaning(words: &[&str]) -> String {
-    let Some((word, after)) = words.split_first() else {
-        return "no command is named".into();
-    };
-    let Some((name, takes, least)) = COMMANDS.iter().find(|command| command.0 == *word) else {
-        let meant = near::did_you_mean(word, &COMMANDS.map(|command| command.0));
-        return format!("\"{word}\" is no command{meant}");
+    match words.split_first() {
+        None => "no command is named".into(),
+        Some((&"store", after @ [_, ..])) => no_meaning_of(&STORE_COMMANDS, "store ", after),
+        Some(_) => no_meaning_of(&COMMANDS, "", words),
+    }
+}
+
+/// The same, of commands whose words all have something before them.
+fn no_meaning_of(commands: &[Command], before: &str, words: &[&str]) -> String {
+    let (word, after) = (words[0], &words[1..]);
+    let Some((name, takes, least)) = commands.iter().find(|command| command.0 == word) else {
+        let names: Vec<&str> = commands.iter().map(|command| command.0).collect();
+        let meant = near::did_you_mean(word, &names);
+        return format!("\"{before}{word}\" is no command{meant}");
     };
     let few_or_many = if after.len() < *least { "few" } else { "many" };
-    format!("too {few_or_many} words after {name}: expected `sheet {name}{takes}`")
+    format!("too {few_or_many} words after {before}{name}: expected `sheet {before}{name}{takes}`")
 }
 
 /// Standard error may be closed; then there is nobody to tell.
@@ -137,16 +175,28 @@ fn shown(bytes: &[u8]) -> Result<String, Stop> {
     Ok(show::show(bytes))
 }
 
-fn write(from: &Path, to: Option<&Path>) -> Result<(), Stop> {
-    let bytes = text::write(&input(from)?).map_err(|faults| {
-        let line = |f: &text::Fault| format!("{}:{}: {}", from.display(), f.line, f.what);
+/// The bytes of a text, or its faults; the path is that of the text.
+type Bytes = fn(&[u8], &Path) -> Result<Vec<u8>, Vec<Fault>>;
+
+fn sheet_bytes(text: &[u8], from: &Path) -> Result<Vec<u8>, Vec<Fault>> {
+    text::write(text, from.parent().unwrap_or(Path::new("")))
+}
+
+fn store_bytes(text: &[u8], _: &Path) -> Result<Vec<u8>, Vec<Fault>> {
+    store::write(text)
+}
+
+fn write(from: &Path, to: Option<&Path>, bytes: Bytes, what: &str) -> Result<(), Stop> {
+    let bytes = bytes(&input(from)?, from).map_err(|faults| {
+        let from = from.display();
+        let line = |f: &Fault| format!("{from}:{}:{}: {}", f.line, f.column, f.what);
         failed(faults.iter().map(line).collect::<Vec<_>>().join("\n"))
     })?;
     match to {
         Some(path) => replace(path, &bytes),
-        None if std::io::stdout().is_terminal() => {
-            Err(failed("a sheet is not text: name a file to write it to"))
-        }
+        None if std::io::stdout().is_terminal() => Err(failed(format!(
+            "{what} is not text: name a file to write it to"
+        ))),
         None => print(&bytes),
     }
 }
@@ -198,6 +248,40 @@ fn unlinked(_: &[u8]) -> Result<String, Stop> {
     ))
 }
 
+/// What gives weights is not there.
+#[cfg(not(feature = "pass"))]
+fn weights(_: &Path, _: u32, _: Option<u64>) -> Result<(), Stop> {
+    unlinked(&[]).map(|_| ())
+}
+
+/// The six weights, or the refusal explained.
+#[cfg(feature = "pass")]
+fn weights(path: &Path, day: u32, strategy: Option<u64>) -> Result<(), Stop> {
+    print(sheet::weights::weights(&input(path)?, day, strategy).as_bytes())
+}
+
+fn store_show(path: &Path, strategy: Option<u64>) -> Result<(), Stop> {
+    let bytes = input(path)?;
+    if text::is_text(&bytes) {
+        complain(&format!("{}: hint: {}\n", path.display(), store::HINT));
+    }
+    print(store::show(&bytes, strategy).as_bytes())
+}
+
+fn day(word: &str) -> Result<u32, Stop> {
+    let day = sheet::value::whole(word, 32).map(|day| day as u32);
+    let most = u32::MAX;
+    day.ok_or_else(|| failed(format!("\"{word}\": expected a day, 0 to {most}")))
+}
+
+/// A strategy's number.
+fn strategy(name: &str) -> Result<u64, Stop> {
+    let no_strategy = format!("\"{name}\": expected a strategy, ETD, RSR or SCAN");
+    store::strategy(name).ok_or_else(|| failed(no_strategy))
+}
+
+const STORE_EXAMPLE: &str = include_str!("../examples/stores/corrections.txt");
+
 fn example(strategy: &str) -> Result<(), Stop> {
     let text = match strategy {
         "ETD" => include_str!("../examples/lobby.txt"),
@@ -212,20 +296,29 @@ fn example(strategy: &str) -> Result<(), Stop> {
     print(text.as_bytes())
 }
 
+/// The last number of a refusal.
+const LAST_RULE: u32 = 18;
+
 fn rule(number: &str) -> Result<(), Stop> {
     match number.parse() {
-        Ok(number @ 1..=16) => rules_from(number, number),
+        Ok(number @ 1..=LAST_RULE) => rules_from(number, number),
         _ => Err(failed(format!(
-            "\"{number}\": expected a refusal's number, 1 to 16"
+            "\"{number}\": expected a refusal's number, 1 to {LAST_RULE}"
         ))),
     }
 }
 
+/// The rules of sheets, then those of stores.
 fn rules_from(first: u32, last: u32) -> Result<(), Stop> {
     let mut lines = String::new();
     for number in first..=last {
         if let Some(rule) = rules::rule(number) {
             lines += &format!("rule {number}: {}\nto do: {}\n", rule.says, rule.remedy);
+        }
+    }
+    for number in first..=last {
+        if let Some(rules::Rule { says, remedy }) = rules::store_rule(number) {
+            lines += &format!("rule {number} of a store: {says}\nto do: {remedy}\n");
         }
     }
     print(lines.as_bytes())

@@ -128,7 +128,7 @@ fn rest(cut: &Cut) -> Vec<String> {
 }
 
 /// Bits as hexadecimal digits, the last one filled up with zeros; none where there are none.
-fn hex(bytes: &[u8], at: usize, length: usize) -> String {
+pub fn hex(bytes: &[u8], at: usize, length: usize) -> String {
     if length == 0 {
         return "none".into();
     }

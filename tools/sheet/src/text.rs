@@ -1,113 +1,17 @@
 //! The text of a sheet into its bytes.
 
+use std::path::Path;
+
 use sheetgen::bits::Writer;
 use sheetgen::sheet::{BODY_BITS, EDITION};
 
-use crate::fields::{self, Field, KINDS};
-use crate::near::{did_you_mean, nearest};
-use crate::value::{self, Stops};
-
-/// A line that says no record: its number, from 1, and what is wrong with it.
-#[derive(Debug, PartialEq, Eq)]
-pub struct Fault {
-    pub line: usize,
-    pub what: String,
-}
-
-/// A line's word and its fields.
-struct Line<'t> {
-    number: usize,
-    word: &'t str,
-    pairs: Vec<(&'t str, &'t str)>,
-}
-
-impl<'t> Line<'t> {
-    /// The line without its comment; `None` where nothing is left.
-    fn new(number: usize, text: &'t str) -> Option<Result<Self, Fault>> {
-        let said = text.split('#').next().unwrap_or("");
-        let mut words = said.split_whitespace();
-        let word = words.next()?;
-        let mut pairs: Vec<(&str, &str)> = Vec::new();
-        for part in words {
-            let what = match part.split_once('=') {
-                None => format!("\"{part}\": expected FIELD=VALUE, without blanks"),
-                Some((name, _)) if pairs.iter().any(|p| p.0 == name) => {
-                    format!("{name}: expected once, found twice")
-                }
-                Some(pair) => {
-                    pairs.push(pair);
-                    continue;
-                }
-            };
-            return Some(Err(Fault { line: number, what }));
-        }
-        Some(Ok(Self {
-            number,
-            word,
-            pairs,
-        }))
-    }
-
-    fn get(&self, name: &str) -> Option<&'t str> {
-        self.pairs.iter().find(|p| p.0 == name).map(|p| p.1)
-    }
-
-    fn fault(&self, what: String) -> Fault {
-        Fault {
-            line: self.number,
-            what,
-        }
-    }
-
-    fn lacks(&self, field: &Field) -> Fault {
-        let expected = value::expected(field);
-        self.fault(format!("{}: is missing; expected {expected}", field.name))
-    }
-
-    /// No field but these.
-    fn only(&self, names: &[&str]) -> Result<(), Fault> {
-        match self.pairs.iter().find(|p| !names.contains(&p.0)) {
-            None => Ok(()),
-            Some((name, _)) => {
-                let (word, list) = (self.word, names.join(", "));
-                let expected = match nearest(name, names) {
-                    Some(near) => format!("did you mean {near}? Its fields are {list}"),
-                    None => format!("expected {list}"),
-                };
-                Err(self.fault(format!("{name}: {word} has no such field; {expected}")))
-            }
-        }
-    }
-
-    /// A whole number of so many bits; `None` where the field is left out.
-    fn number(&self, name: &str, width: usize) -> Result<Option<u64>, Fault> {
-        let Some(text) = self.get(name) else {
-            return Ok(None);
-        };
-        let expected = number_below(width);
-        let wrong = || self.fault(format!("{name}: expected {expected}, found \"{text}\""));
-        value::whole(text, width).map(Some).ok_or_else(wrong)
-    }
-
-    fn needed(&self, name: &str, width: usize) -> Result<u64, Fault> {
-        let expected = number_below(width);
-        let missing = || self.fault(format!("{name}: is missing; expected {expected}"));
-        self.number(name, width)?.ok_or_else(missing)
-    }
-
-    fn is_record(&self) -> bool {
-        self.kind().is_some() || self.word == "record"
-    }
-
-    /// The kind whose name the line begins with.
-    fn kind(&self) -> Option<usize> {
-        (1..KINDS.len()).find(|k| KINDS[*k] == self.word)
-    }
-}
-
-fn number_below(width: usize) -> String {
-    format!("a whole number from 0 to {}", (1u64 << width) - 1)
-}
+use crate::fields::{self, Absence, Field, KINDS, WEIGHTS};
+use crate::line::{self, Fault, Line};
+use crate::near::did_you_mean;
+use crate::store;
+use crate::value::{self, Stops, Value};
+#[cfg(feature = "pass")]
+use crate::weights::of_file;
 
 /// For who hands a text over where a sheet is expected.
 pub const HINT: &str = "If this is a sheet's text, `sheet write` turns it into a sheet.";
@@ -119,22 +23,34 @@ pub fn is_text(bytes: &[u8]) -> bool {
     !text.is_empty() && text.chars().all(is_printed)
 }
 
-/// The bytes that a text says, or every line that says none.
-pub fn write(text: &[u8]) -> Result<Vec<u8>, Vec<Fault>> {
-    let text = utf8(text).map_err(|fault| vec![fault])?;
-    let (lines, mut faults) = lines(text);
+/// What a line is read with.
+struct Around<'a> {
+    /// How many records the text has.
+    records: usize,
+    stops: Stops,
+    /// Where the stores of weights are looked for.
+    folder: &'a Path,
+}
+
+/// The bytes that a text says, or every line that says none. A store that a policy names is looked for from `folder` on.
+pub fn write(text: &[u8], folder: &Path) -> Result<Vec<u8>, Vec<Fault>> {
+    let text = line::utf8(text, "`sheet show` makes text of a sheet");
+    let (lines, mut faults) = line::lines(text.map_err(|fault| vec![fault])?);
     let stop_lines = lines.iter().filter(|line| line.word == "stop");
-    let stops = Stops(stop_lines.map(stop_id).collect());
-    let records = lines.iter().filter(|line| line.is_record()).count();
+    let around = Around {
+        records: lines.iter().filter(|line| is_record(line)).count(),
+        stops: Stops(stop_lines.map(stop_id).collect()),
+        folder,
+    };
     let mut writer = Writer::default();
     if lines.first().is_none_or(|line| line.word != "sheet") {
-        let written = default_head(&mut writer, records, &lines);
+        let written = default_head(&mut writer, around.records, &lines);
         faults.extend(written.err());
     }
     let mut before = Before::Nothing;
     for line in &lines {
         let placed = place(line, before);
-        let written = placed.and_then(|()| encode(&mut writer, line, records, &stops));
+        let written = placed.and_then(|()| encode(&mut writer, line, &around));
         faults.extend(written.err());
         before = match line.word {
             "rest" => Before::Rest,
@@ -149,29 +65,13 @@ pub fn write(text: &[u8]) -> Result<Vec<u8>, Vec<Fault>> {
     }
 }
 
-/// The lines that say something, and those that cannot be read.
-fn lines(text: &str) -> (Vec<Line<'_>>, Vec<Fault>) {
-    let (mut lines, mut faults) = (Vec::new(), Vec::new());
-    for (index, text) in text.lines().enumerate() {
-        match Line::new(index + 1, text) {
-            None => {}
-            Some(Ok(line)) => lines.push(line),
-            Some(Err(fault)) => faults.push(fault),
-        }
-    }
-    (lines, faults)
+fn is_record(line: &Line) -> bool {
+    kind(line).is_some() || line.word == "record"
 }
 
-fn utf8(text: &[u8]) -> Result<&str, Fault> {
-    let text = text.strip_prefix(b"\xef\xbb\xbf").unwrap_or(text);
-    std::str::from_utf8(text).map_err(|error| {
-        let good = &text[..error.valid_up_to()];
-        let line = 1 + good.iter().filter(|b| **b == b'\n').count();
-        Fault {
-            line,
-            what: "expected text in UTF-8; `sheet show` makes text of a sheet".into(),
-        }
-    })
+/// The kind whose name a line begins with.
+fn kind(line: &Line) -> Option<usize> {
+    (1..KINDS.len()).find(|k| KINDS[*k] == line.word)
 }
 
 fn stop_id(line: &Line) -> Option<u32> {
@@ -199,16 +99,19 @@ fn place(line: &Line, before: Before) -> Result<(), Fault> {
     }
 }
 
-fn encode(writer: &mut Writer, line: &Line, records: usize, stops: &Stops) -> Result<(), Fault> {
-    match (line.word, line.kind()) {
-        (_, Some(kind)) => named_record(writer, line, kind, stops),
-        ("sheet", _) => head(writer, line, records),
+fn encode(writer: &mut Writer, line: &Line, around: &Around) -> Result<(), Fault> {
+    match (line.word, kind(line)) {
+        (_, Some(kind)) => named_record(writer, line, kind, around),
+        ("sheet", _) => head(writer, line, around.records),
         ("record", _) => raw_record(writer, line),
         ("rest", _) => {
             line.only(&["length", "bits"])?;
             let length = line.needed("length", 32)? as usize;
             raw_bits(writer, line, length)
         }
+        (word, _) if store::WORDS.contains(&word) && word != "rest" => Err(line.fault(format!(
+            "{word}: is a line of a store of weights, which `sheet store write` writes"
+        ))),
         _ => {
             let names = KINDS[1..].join(", ");
             let words = [&["sheet", "record", "rest"], &KINDS[1..]].concat();
@@ -224,7 +127,12 @@ fn encode(writer: &mut Writer, line: &Line, records: usize, stops: &Stops) -> Re
 fn default_head(writer: &mut Writer, records: usize, lines: &[Line]) -> Result<(), Fault> {
     let line = lines.last().map_or(1, |line| line.number);
     writer.put(8, EDITION);
-    writer.put(16, counted(records).map_err(|what| Fault { line, what })?);
+    let fault = |what| Fault {
+        line,
+        column: 1,
+        what,
+    };
+    writer.put(16, counted(records).map_err(fault)?);
     Ok(())
 }
 
@@ -239,7 +147,7 @@ fn head(writer: &mut Writer, line: &Line, records: usize) -> Result<(), Fault> {
         return line.only(&["head"]);
     }
     if let Some(text) = line.get("head") {
-        return Err(line.fault(format!("head: expected none, found \"{text}\"")));
+        return Err(line.fault_in("head", &format!("expected none, found \"{text}\"")));
     }
     line.only(&["edition", "records", "head"])?;
     let edition = line.number("edition", 8)?.unwrap_or(EDITION);
@@ -252,26 +160,76 @@ fn head(writer: &mut Writer, line: &Line, records: usize) -> Result<(), Fault> {
     Ok(())
 }
 
-fn named_record(writer: &mut Writer, line: &Line, kind: usize, stops: &Stops) -> Result<(), Fault> {
+fn named_record(
+    writer: &mut Writer,
+    line: &Line,
+    kind: usize,
+    around: &Around,
+) -> Result<(), Fault> {
     let fields = match kind {
         1 => fields::policy_fields(strategy(line)?),
         _ => fields::fields(kind),
     };
-    let names: Vec<&str> = fields.iter().map(|field| field.name).collect();
+    let mut names: Vec<&str> = fields.iter().map(|field| field.name).collect();
+    if kind == 1 {
+        names.extend(OF_A_STORE);
+    }
     line.only(&names)?;
     writer.put(6, kind as u64);
     writer.put(16, BODY_BITS[kind] as u64);
-    for field in fields {
+    let stored = kind == 1 && OF_A_STORE.iter().any(|name| line.get(name).is_some());
+    let (written, weights) = fields.split_at(if stored { WEIGHTS } else { fields.len() });
+    for field in written {
         let text = match line.get(field.name) {
             Some(text) => text,
             None if field.can_be_none() => "none",
             None => return Err(line.lacks(field)),
         };
-        let value = value::parse(field, text, stops);
-        let value = value.map_err(|what| line.fault(format!("{}: {what}", field.name)))?;
+        let value = value::parse(field, text, &around.stops);
+        let value = value.map_err(|what| line.fault_in(field.name, &what))?;
         value::put(writer, field, value);
     }
+    if stored {
+        stored_weights(writer, line, weights, around.folder)?;
+    }
     Ok(())
+}
+
+/// What a policy says in the place of its six weights.
+const OF_A_STORE: [&str; 2] = ["weights", "day"];
+
+/// The weights of a store for a day; one that the strategy leaves unused stays zero.
+fn stored_weights(
+    writer: &mut Writer,
+    line: &Line,
+    fields: &[Field],
+    folder: &Path,
+) -> Result<(), Fault> {
+    if let Some(field) = fields.iter().find(|field| line.get(field.name).is_some()) {
+        let what = "expected no weight of its own beside weights= and day=, which give all of them";
+        return Err(line.fault_in(field.name, what));
+    }
+    let Some(file) = line.get("weights") else {
+        return Err(line.fault_in("weights", "is missing; expected the file of a store"));
+    };
+    let day = line.needed("day", 32)? as u32;
+    let six = of_file(&folder.join(file), day);
+    let six = six.map_err(|what| line.fault_in("weights", &what))?;
+    for (field, weight) in fields.iter().zip(six) {
+        let bits = match field.absence {
+            Absence::Unused => 0,
+            _ => weight.to_bits(),
+        };
+        let present = true;
+        value::put(writer, field, Value { present, bits });
+    }
+    Ok(())
+}
+
+/// What looks weights up is not there.
+#[cfg(not(feature = "pass"))]
+fn of_file(_: &Path, _: u32) -> Result<[f64; 6], String> {
+    Err("this program was built without the proved library (feature `pass`), which alone looks weights up".into())
 }
 
 /// The strategy, by which the weights have their names.
@@ -282,7 +240,7 @@ fn strategy(line: &Line) -> Result<u64, Fault> {
     };
     match value::parse(field, text, &Stops(Vec::new())) {
         Ok(value) => Ok(value.bits),
-        Err(what) => Err(line.fault(format!("{}: {what}", field.name))),
+        Err(what) => Err(line.fault_in(field.name, &what)),
     }
 }
 
@@ -296,10 +254,11 @@ fn raw_record(writer: &mut Writer, line: &Line) -> Result<(), Fault> {
 }
 
 /// `length` bits from the hexadecimal digits of the field bits.
-fn raw_bits(writer: &mut Writer, line: &Line, length: usize) -> Result<(), Fault> {
+pub fn raw_bits(writer: &mut Writer, line: &Line, length: usize) -> Result<(), Fault> {
     let digits = line.get("bits").unwrap_or("none");
     let digits = if digits == "none" { "" } else { digits };
-    let wrong = |what: String| line.fault(format!("bits: expected {what}, found \"{digits}\""));
+    let wrong =
+        |what: String| line.fault_in("bits", &format!("expected {what}, found \"{digits}\""));
     if digits.len() != length.div_ceil(4) {
         return Err(wrong(format!(
             "{} hexadecimal digits for {length} bits",

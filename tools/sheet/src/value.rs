@@ -238,11 +238,11 @@ pub fn expected(field: &Field) -> String {
         Form::Id(_) => format!("an id from 0 to {}", u32::MAX),
         Form::Limit => format!("a whole number from 0 to {NO_LIMIT}"),
         Form::Code(names, width) => {
-            let spare = (1 << width) - 1;
-            let number = if spare < names.len() {
-                String::new()
-            } else {
-                format!(" or {spare}")
+            let last = (1 << width) - 1;
+            let number = match last + 1 - names.len() {
+                0 => String::new(),
+                1 => format!(" or {last}"),
+                _ => format!(", or a whole number from 0 to {last}"),
             };
             format!("one of {}{number}", names.join(", "))
         }

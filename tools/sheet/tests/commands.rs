@@ -52,11 +52,37 @@ fn too_few_or_too_many_words() {
         (&["rule", "1", "2"], "many", " [NUMBER]"),
         (&["help", "a"], "many", ""),
         (&["--version", "a"], "many", ""),
+        (&["store"], "few", " example|write|show|weights .."),
     ] {
         let name = args[0];
         let why = format!("too {words} words after {name}: expected `sheet {name}{takes}`");
         has_no_meaning(args, &why);
     }
+}
+
+#[test]
+fn store_commands() {
+    for (args, words, takes) in [
+        (&["example", "ETD"][..], "many", ""),
+        (&["write"], "few", " IN.txt [OUT]"),
+        (&["write", "a", "b", "c"], "many", " IN.txt [OUT]"),
+        (&["show"], "few", " STORE [STRATEGY]"),
+        (&["show", "a", "ETD", "c"], "many", " STORE [STRATEGY]"),
+        (&["weights", "a"], "few", " STORE DAY [STRATEGY]"),
+        (
+            &["weights", "a", "1", "ETD", "c"],
+            "many",
+            " STORE DAY [STRATEGY]",
+        ),
+    ] {
+        let name = args[0];
+        let why =
+            format!("too {words} words after store {name}: expected `sheet store {name}{takes}`");
+        has_no_meaning(&[&["store"], args].concat(), &why);
+    }
+    let meant = "\"store weight\" is no command; did you mean weights?";
+    has_no_meaning(&["store", "weight", "a"], meant);
+    has_no_meaning(&["store", "draw"], "\"store draw\" is no command");
 }
 
 #[test]
@@ -103,13 +129,26 @@ fn texts_to_start_from() {
 #[test]
 fn rules() {
     let all = run(&["rule"], b"");
-    assert_eq!(text(&all.stdout).lines().count(), 32);
+    assert_eq!(text(&all.stdout).lines().count(), 2 * (16 + 7));
     let one = run(&["rule", "1"], b"");
     assert!(text(&one.stdout).starts_with("rule 1: A buffer that the host lent"));
-    for number in ["0", "17", "x"] {
+    for (number, sheet, store) in [("3", true, false), ("7", true, true), ("18", false, true)] {
+        let said = text(&run(&["rule", number], b"").stdout);
+        assert_eq!(said.contains(&format!("rule {number}: ")), sheet, "{said}");
+        assert_eq!(
+            said.contains(&format!("rule {number} of a store: ")),
+            store,
+            "{said}"
+        );
+        assert_eq!(
+            said.lines().count(),
+            2 * (usize::from(sheet) + usize::from(store))
+        );
+    }
+    for number in ["0", "19", "x"] {
         let output = run(&["rule", number], b"");
         assert_eq!(output.status.code(), Some(1));
-        let said = format!("\"{number}\": expected a refusal's number, 1 to 16\n");
+        let said = format!("\"{number}\": expected a refusal's number, 1 to 18\n");
         assert_eq!(text(&output.stderr), said);
     }
 }

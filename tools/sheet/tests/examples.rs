@@ -3,6 +3,8 @@
 
 mod common;
 
+use std::path::Path;
+
 use common::{files, here, name, run, text};
 use dispatch_bench::{Refusal, read};
 use sheet::{explain, rules, show};
@@ -117,7 +119,7 @@ fn the_line_to_repair_is_the_record() {
         };
         let shown = show::show(&bytes);
         let above: Vec<&str> = shown.lines().take(number - 1).collect();
-        let above = sheet::text::write(above.join("\n").as_bytes()).unwrap();
+        let above = sheet::text::write(above.join("\n").as_bytes(), Path::new("")).unwrap();
         let offset = read(&bytes).unwrap_err().offset as usize;
         assert_eq!(above.len(), offset.div_ceil(8), "{}", name(&path));
         repaired += 1;
@@ -143,7 +145,7 @@ fn a_repaired_line_is_enough() {
         let mut lines: Vec<String> = shown.lines().map(String::from).collect();
         assert!(lines[number - 1].contains(wrong), "{example}");
         lines[number - 1] = lines[number - 1].replace(wrong, right);
-        let repaired = sheet::text::write(lines.join("\n").as_bytes()).unwrap();
+        let repaired = sheet::text::write(lines.join("\n").as_bytes(), Path::new("")).unwrap();
         assert_eq!(read(&repaired), Ok(()), "{example}");
     }
 }

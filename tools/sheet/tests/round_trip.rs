@@ -2,6 +2,8 @@
 
 mod common;
 
+use std::path::Path;
+
 use sheet::{show, text};
 use sheetgen::generate::{PROFILES, generate};
 use sheetgen::rng::Rng;
@@ -9,7 +11,7 @@ use sheetgen::rng::Rng;
 /// The text of a sheet, written again.
 fn again(bytes: &[u8]) -> Vec<u8> {
     let shown = show::show(bytes);
-    match text::write(shown.as_bytes()) {
+    match text::write(shown.as_bytes(), Path::new("")) {
         Ok(bytes) => bytes,
         Err(faults) => panic!("{faults:?} in\n{shown}"),
     }
@@ -49,7 +51,7 @@ fn stored_passes() {
 #[test]
 fn numbers_and_long_lines() {
     let path = common::here("tests/explained/long_car.txt");
-    let bytes = text::write(&std::fs::read(path).unwrap()).unwrap();
+    let bytes = text::write(&std::fs::read(path).unwrap(), Path::new("")).unwrap();
     let shown = show::show(&bytes);
     let counts = "# 1,116 bytes, 67 records: 1 policy, 64 stops, 1 line, 1 car, 0 aboard, 0 waiting, 0 demands";
     assert_eq!(shown.lines().next(), Some(counts));
@@ -98,7 +100,7 @@ fn any_text_has_an_answer() {
                 _ => text.truncate(at.max(1)),
             }
         }
-        match text::write(&text) {
+        match text::write(&text, Path::new("")) {
             Ok(bytes) => {
                 assert_eq!(again(&bytes), bytes);
                 written += 1;

@@ -1,5 +1,6 @@
 //! The sheet of the dispatch bench, written from document 01 alone: its records and their bits, a reader
-//! that gives each byte string its refusal, generators of sheets from a seed, and a shrinker.
+//! that gives each byte string its refusal, generators of sheets from a seed, and a shrinker. The store of
+//! weights, written from document 02 alone: the same of it, and the look-up for a day.
 
 pub mod bits;
 pub mod describe;
@@ -9,6 +10,8 @@ pub mod reader;
 pub mod rng;
 pub mod sheet;
 pub mod shrink;
+pub mod store;
+pub mod stores;
 
 pub use reader::{Refusal, read};
 pub use sheet::{Aboard, Car, Demand, Line, Policy, Sheet, Stop, Waiting};

@@ -1,0 +1,148 @@
+/* dispatch_bench_weights as a host in C calls it: each number with its offset, and what is left in the places and in the offset. Ends with 0 where all
+   is as the header says; what is not is said on standard error. */
+#include <inttypes.h>
+#include <math.h>
+#include <stdio.h>
+#include <string.h>
+
+#include "dispatch_bench.h"
+
+#define PLACES 9
+#define KEPT_OFFSET UINT64_C(0xa5a5a5a5a5a5)
+#define BYTES (DISPATCH_BENCH_WEIGHT_BITS / 8)
+
+/* What stands in a place before it is lent: a NaN that no answer is. */
+#define KEPT_PLACE UINT64_C(0x7ff4deadbeefdead)
+
+static uint8_t store[300 * BYTES];
+static size_t length;
+static int wrong;
+
+static void add(unsigned setting, uint32_t start, unsigned issue, double value) {
+    uint64_t bits;
+    memcpy(&bits, &value, sizeof bits);
+    uint8_t *at = store + length;
+    at[0] = (uint8_t)setting;
+    for (int k = 0; k < 4; k++) {
+        at[1 + k] = (uint8_t)(start >> (24 - 8 * k));
+    }
+    at[5] = (uint8_t)(issue >> 8);
+    at[6] = (uint8_t)issue;
+    for (int k = 0; k < 8; k++) {
+        at[7 + k] = (uint8_t)(bits >> (56 - 8 * k));
+    }
+    length += BYTES;
+}
+
+/* A record for each slot, from day 100 on: 0.5, 1.5, on to 5.5. */
+static void begin(void) {
+    length = 0;
+    for (unsigned slot = 0; slot < 6; slot++) {
+        add(slot, 100, 0, slot + 0.5);
+    }
+}
+
+static void say(const char *name, const char *what) {
+    fprintf(stderr, "%s: %s\n", name, what);
+    wrong++;
+}
+
+/* So many bits at the front are the wanted ones, every further place and the store are as before. */
+static void left(const char *name, const uint64_t *places, const uint64_t *wanted, size_t written, const uint8_t *before) {
+    for (size_t i = 0; i < PLACES; i++) {
+        if (places[i] != (i < written ? wanted[i] : KEPT_PLACE)) {
+            say(name, i < written ? "another weight" : "a place is written that is not the answer's");
+        }
+    }
+    if (memcmp(store, before, sizeof store) != 0) {
+        say(name, "the store is written");
+    }
+}
+
+/* The call with so many places, of which PLACES stand there: the number, the offset, and the six weights where it is 0. */
+static void ask(const char *name, uint32_t day, size_t lent, uint32_t number, uint64_t offset, const double *weights) {
+    static uint8_t before[sizeof store];
+    double places[PLACES];
+    uint64_t bits[PLACES], wanted[6] = {0}, found = KEPT_OFFSET;
+    for (size_t i = 0; i < PLACES; i++) {
+        bits[i] = KEPT_PLACE;
+    }
+    memcpy(places, bits, sizeof places);
+    memcpy(before, store, sizeof store);
+    uint32_t answer = dispatch_bench_weights(store, length, day, places, lent, &found);
+    memcpy(bits, places, sizeof bits);
+    if (weights != NULL) {
+        memcpy(wanted, weights, sizeof wanted);
+    }
+    if (answer != number || found != offset) {
+        fprintf(stderr, "%s: answers %" PRIu32 " at %" PRIu64 ", and not %" PRIu32 " at %" PRIu64 "\n", name, answer, found, number, offset);
+        wrong++;
+    }
+    left(name, bits, wanted, number == 0 ? 6 : 0, before);
+}
+
+static void weights_are_given(void) {
+    const double six[] = {0.5, 1.5, 2.5, 3.5, 4.5, 5.5}, corrected[] = {0.5, 1.5, 7, 3.5, 4.5, 5.5}, later[] = {0.5, 1.5, 8, 3.5, 4.5, 0};
+    begin();
+    ask("six", 100, 6, DISPATCH_BENCH_ACCEPTED, KEPT_OFFSET, six);
+    ask("more places", 100, PLACES, DISPATCH_BENCH_ACCEPTED, KEPT_OFFSET, six);
+    ask("the last day", UINT32_MAX, 6, DISPATCH_BENCH_ACCEPTED, KEPT_OFFSET, six);
+    add(2, 100, 1, 7);
+    add(2, 101, 0, 8);
+    add(5, 101, 0, -0.0);
+    ask("corrected", 100, 6, DISPATCH_BENCH_ACCEPTED, KEPT_OFFSET, corrected);
+    ask("a later start, minus zero", 101, 6, DISPATCH_BENCH_ACCEPTED, KEPT_OFFSET, later);
+    add(2, 101, 0, 8);
+    add(5, 101, 0, 0);
+    ask("repeated", 101, 6, DISPATCH_BENCH_ACCEPTED, KEPT_OFFSET, later);
+}
+
+static void refusals_write_nothing(void) {
+    begin();
+    ask("no place", 100, 0, DISPATCH_BENCH_SHORT_BUFFER, 0, NULL);
+    ask("five places", 100, 5, DISPATCH_BENCH_SHORT_BUFFER, 0, NULL);
+    ask("too early", 99, 6, DISPATCH_BENCH_NO_WEIGHT, 0, NULL);
+    length -= 1;
+    ask("cut short", 100, 6, DISPATCH_BENCH_PAST_END, 5 * DISPATCH_BENCH_WEIGHT_BITS, NULL);
+    ask("five places for a store cut short", 100, 5, DISPATCH_BENCH_SHORT_BUFFER, 0, NULL);
+    length -= BYTES - 1;
+    ask("no record for slot 5", 100, 6, DISPATCH_BENCH_NO_WEIGHT, 5, NULL);
+    length = 0;
+    ask("empty", 100, 6, DISPATCH_BENCH_NO_WEIGHT, 0, NULL);
+    begin();
+    add(6, 100, 0, 1);
+    ask("setting 6", 100, 6, DISPATCH_BENCH_UNUSED_BITS, 6 * DISPATCH_BENCH_WEIGHT_BITS, NULL);
+    const double outside[] = {-1, NAN, INFINITY, nextafter(1e9, 2e9), -nextafter(0, 1)};
+    for (size_t i = 0; i < sizeof outside / sizeof outside[0]; i++) {
+        begin();
+        add(0, 200, 0, outside[i]);
+        ask("a value outside", 100, 6, DISPATCH_BENCH_DOUBLE, 6 * DISPATCH_BENCH_WEIGHT_BITS, NULL);
+    }
+    begin();
+    add(3, 100, 0, 4.5);
+    ask("two values", 100, 6, DISPATCH_BENCH_TWO_VALUES, 6 * DISPATCH_BENCH_WEIGHT_BITS, NULL);
+    ask("two values, too early", 99, 6, DISPATCH_BENCH_TWO_VALUES, 6 * DISPATCH_BENCH_WEIGHT_BITS, NULL);
+}
+
+static void a_full_store(void) {
+    const double six[] = {250, 1.5, 2.5, 3.5, 4.5, 5.5};
+    begin();
+    for (unsigned i = 1; i <= 250; i++) {
+        add(0, 100, i, i);
+    }
+    ask("256 records", 100, 6, DISPATCH_BENCH_ACCEPTED, KEPT_OFFSET, six);
+    add(0, 100, 251, 1);
+    ask("257 records", 100, 6, DISPATCH_BENCH_TABLE_FULL, 256 * DISPATCH_BENCH_WEIGHT_BITS, NULL);
+    if (length != DISPATCH_BENCH_MOST_STORE_BYTES) {
+        say("257 records", "not DISPATCH_BENCH_MOST_STORE_BYTES");
+    }
+    length -= 14;
+    ask("the 257th cut short", 100, 6, DISPATCH_BENCH_PAST_END, 256 * DISPATCH_BENCH_WEIGHT_BITS, NULL);
+}
+
+int main(void) {
+    weights_are_given();
+    refusals_write_nothing();
+    a_full_store();
+    return wrong != 0;
+}
