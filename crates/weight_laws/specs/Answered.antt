@@ -1,4 +1,4 @@
--- What a store that answers is: every record passed, no two disagree, and each slot's weight is that of a started record of the slot such that no
+-- What a store that answers is: every record passes, no two disagree, and each slot's weight is that of a started record of the slot such that no
 -- started record of the slot is later, or as late with a higher issue. Assumes nothing.
 use Prim.Native.Nat.{ℕ, zero, suc, _≤_, _<_}
 use mathlib.Core.Path.{_≡_, refl, _∙_}
@@ -12,7 +12,7 @@ use borrow.Author.Tests.{eqb-true, eq-eqb, leb-true, le-leb, not-false}
 use Rattle.laws.specs.Bools.{both, both-left, both-right}
 use Rattle.laws.specs.Folds.{any, any-none}
 use Rattle.fp.specs.Ranges.{isMass}
-use Rattle.weight_store.specs.declared.Entry.{Entry}
+use Rattle.weight_store.specs.Entries.{Entry}
 use Rattle.weights.specs.declared.answer.SixWeights.{SixWeights}
 use Rattle.weights.specs.declared.answer.Weights.the-variants.{Found, Refused}
 use Rattle.weight_store.specs.Entries.{entryCount, entryOf, issue-lt}
@@ -21,11 +21,11 @@ use Rattle.weights.specs.Leads.{takes, taken-started, taken-top}
 use Rattle.weights.specs.LookUp.{started, missing, firstTaken, slotWeight, firstMissing}
 use Rattle.weight_store.specs.Passed.{passed}
 use Rattle.weight_store.specs.Refusals.{refused, firstRefused, disagreesEarlier, firstDisagreeing}
-use Rattle.weight_store.specs.Values.{valueOf}
-use Rattle.weights.specs.Answers.{sixOf, lookUp, weightsOf}
+use Rattle.weight_store.specs.Values.{weightBack}
+use Rattle.weights.specs.Answers.{sixOf, lookUp, passedAnswer, weightsOf}
 use Rattle.weight_laws.specs.Value.{back-inside}
 
--- every record passed, and none disagreesEarlier with an earlier one
+-- every record passes, and none disagrees with an earlier one
 pub record Accepted (s : List ℕ) : Type 0 where
   pub passed : any (refused s) (entryCount s) ≡ false
   pub agreed : any (disagreesEarlier (entryOf s)) (entryCount s) ≡ false
@@ -43,7 +43,7 @@ three false false true m n p q r t y x h = absurd (let z : _≡_ {A = ℕ} 0 1 =
 three false false false m n p q r t y x h = (refl, refl, refl, cc)
 
 pub answered : (s : List ℕ) (day : ℕ) (x : SixWeights) → weightsOf s day ≡ Found x → Answered s day x
-unfolding weightsOf lookUp firstRefused firstDisagreeing firstMissing
+unfolding weightsOf passedAnswer lookUp firstRefused firstDisagreeing firstMissing
 answered s day x h =
     let (a, b, c, y) = three _ _ _ _ _ _ _ _ _ _ x h in
     record {
@@ -78,7 +78,7 @@ pub record Chosen (s : List ℕ) (day slot : ℕ) (w : Float) (i : ℕ) : Type 0
   pub there : i < entryCount s
   pub its-slot : entryOf s i .setting ≡ slot
   pub not-after : entryOf s i .start ≤ day
-  pub its-value : w ≡ valueOf (entryOf s i)
+  pub its-value : w ≡ weightBack (entryOf s i .value)
   pub inside : isMass w ≡ true
   pub top : (j : ℕ) → j < entryCount s → entryOf s j .setting ≡ slot → entryOf s j .start ≤ day
       → (entryOf s j .start < entryOf s i .start) ⊎ ((entryOf s j .start ≡ entryOf s i .start) × (entryOf s j .issue ≤ entryOf s i .issue))
@@ -93,14 +93,14 @@ module _ (s : List ℕ) (day : ℕ) (x : SixWeights) (h : weightsOf s day ≡ Fo
       let t = takes n e day slot (issue-lt s) (not-false _ (any-none (missing n e day) 6 (a .complete) slot l)) in
       let i = firstTaken n e day slot in
       let st = taken-started n e day slot i (t .is-it) in
-      let w : inSlot x slot ≡ valueOf (e i) = rw (← a .six) (six-slot n e day slot l) in (
+      let w : inSlot x slot ≡ weightBack (e i .value) = rw (← a .six) (six-slot n e day slot l) in (
         i,
         record {
           there = t .below;
           its-slot = eqb-true _ _ (both-left (eqb (e i .setting) slot) (leb (e i .start) day) st);
           not-after = leb-true _ _ (both-right (eqb (e i .setting) slot) (leb (e i .start) day) st);
           its-value = w;
-          inside = rw w (back-inside (e i) ∙ passed s i (any-none (refused s) n (a .accepted .passed) i (t .below)) .inside);
+          inside = rw w (back-inside (e i .value) ∙ passed s i (any-none (refused s) n (a .accepted .passed) i (t .below)) .inside);
           top = λ j lj p q. taken-top n e day slot i (t .is-it) j lj (both (eq-eqb _ _ p) (le-leb _ _ q));
         },
       )

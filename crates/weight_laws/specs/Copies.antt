@@ -16,7 +16,7 @@ use Rattle.bits.specs.Field.{fieldAt, bitAt}
 use Rattle.weight_store.specs.Entries.{entryCount, entryOf}
 use Rattle.laws.specs.First.{firstIndex, first-agree, first-none}
 use Rattle.weight_store.specs.Refusals.{refusal2Store, entryRefusal, refused, firstRefused, disagree, disagreesEarlier, firstDisagreeing}
-use Rattle.weights.specs.Answers.{weightsOf, lookUp}
+use Rattle.weights.specs.Answers.{weightsOf, passedAnswer}
 use Rattle.weight_laws.specs.Same.{Alike, alike, alike-sym}
 use Rattle.weight_laws.specs.Stores.{passes-too, looked-up, same-records}
 
@@ -104,12 +104,12 @@ module _ (s r : List ℕ) (n i : ℕ) (whole : length s ≡ 15 * n) (few : n < 2
 
     -- two records disagree: the same in both
     disagree-first : (day : ℕ) → ltb (firstDisagreeing n (entryOf s)) n ≡ true → weightsOf t day ≡ weightsOf s day
-    unfolding lookUp firstDisagreeing
+    unfolding passedAnswer firstDisagreeing
     disagree-first day v =
         let p = disagreesEarlier (entryOf s) in
         let e : firstIndex (disagreesEarlier (entryOf t)) (n + 1) ≡ firstIndex p n = first-kept p (disagreesEarlier (entryOf t)) disagrees-kept v in
         let m = ltb-true (firstIndex p n) n v in
-        let both : lookUp (entryCount t) (entryOf t) day ≡ lookUp (entryCount s) (entryOf s) day =
+        let both : passedAnswer (entryCount t) (entryOf t) day ≡ passedAnswer (entryCount s) (entryOf s) day =
         rw (records-t, records-s, e, lt-ltb (firstIndex p n) (n + 1) (omega arith), v) in
         looked-up t day (rw records-t passed-t) ∙ both ∙ sym (looked-up s day (rw records-s passed))
 

@@ -1,5 +1,5 @@
 -- The look-up depends on which records there are and on nothing else: neither on their order nor on how often one is repeated. Assumes nothing.
-use Prim.Native.Nat.{ℕ, _≤_, _<_}
+use Prim.Native.Nat.{ℕ, _^_, _≤_, _<_}
 use mathlib.Core.Path.{_≡_, refl, sym, ap, _∙_}
 use mathlib.Core.Bool.{true, false, not}
 use mathlib.Core.Logic.{_⊎_, inl, inr, ⊎-elim}
@@ -8,14 +8,14 @@ use lib.Dec.{eqb, ltb, leb}
 use borrow.Author.Tests.{eqb-true, eq-eqb, not-false}
 use Rattle.laws.specs.Bools.{which, same-test, same?, less?, both-left, eqb-comm}
 use Rattle.laws.specs.Folds.{any, any-at, any-some, any-none, none-any}
-use Rattle.weight_store.specs.declared.Entry.{Entry}
+use Rattle.weight_store.specs.Entries.{Entry}
 use Rattle.weights.specs.declared.answer.Weights.the-variants.{Found}
 use Rattle.laws.specs.First.{firstIndex, first-cong, first-none, none-first}
 use Rattle.weights.specs.Leads.{takes, taken-started, taken-top}
 use Rattle.weights.specs.LookUp.{started, missing, firstTaken, slotWeight, firstMissing}
 use Rattle.weight_store.specs.Refusals.{disagree, disagreesEarlier, firstDisagreeing}
-use Rattle.weight_store.specs.Values.{sameValue, valueOf}
-use Rattle.weights.specs.Answers.{sixOf, lookUp}
+use Rattle.weight_store.specs.Values.{sameValue, weightBack}
+use Rattle.weights.specs.Answers.{sixOf, lookUp, passedAnswer}
 use Rattle.weight_laws.specs.Value.{same-self, same-sym, same-cong, same-back}
 
 -- "A record repeated with an equal value"
@@ -58,10 +58,10 @@ differ-sym a b =
     rw (eqb-comm (a .setting) (b .setting), eqb-comm (a .start) (b .start), eqb-comm (a .issue) (b .issue), same-sym (a .value) (b .value))
 
 -- what agrees in the rest agrees in value
-agree-value : (a b : Entry) → disagree a b ≡ false → a .setting ≡ b .setting → a .start ≡ b .start → a .issue ≡ b .issue → valueOf a ≡ valueOf b
+agree-value : (a b : Entry) → disagree a b ≡ false → a .setting ≡ b .setting → a .start ≡ b .start → a .issue ≡ b .issue → weightBack (a .value) ≡ weightBack (b .value)
 unfolding disagree
 agree-value a b h p q r =
-    let g : not (sameValue (a .value) (b .value)) ≡ false = rw (eq-eqb _ _ p, eq-eqb _ _ q, eq-eqb _ _ r) at h in same-back a b (not-false _ g)
+    let g : not (sameValue (a .value) (b .value)) ≡ false = rw (eq-eqb _ _ p, eq-eqb _ _ q, eq-eqb _ _ r) at h in same-back (a .value) (b .value) (not-false _ g)
 
 -- records that are alike serve alike
 started-alike : (day slot : ℕ) {a b : Entry} → Alike a b → started day slot a ≡ started day slot b
@@ -120,7 +120,7 @@ module _ (n m : ℕ) (e f : ℕ → Entry) (there : Within n e m f) (back : With
     missing-same k =
         ap not (same-test (any (λ i. started day k (e i)) n) (any (λ j. started day k (f j)) m) (any-within day k there) (any-within day k back))
 
-    module _ (se : (i : ℕ) → e i .issue < 65536) (sf : (i : ℕ) → f i .issue < 65536) where
+    module _ (se : (i : ℕ) → e i .issue < 2 ^ 16) (sf : (i : ℕ) → f i .issue < 2 ^ 16) where
       weight-same : (k : ℕ) → missing n e day k ≡ false → slotWeight n e day k ≡ slotWeight m f day k
       unfolding slotWeight missing started
       weight-same k h =
@@ -140,7 +140,7 @@ module _ (n m : ℕ) (e f : ℕ → Entry) (there : Within n e m f) (back : With
           let kf = eqb-true (f j .setting) k (both-left (eqb (f j .setting) k) (leb (f j .start) day) tj) in
           let both = level (e i .start) (e i .issue) (f j .start) (f j .issue) (rw (q .start, q .issue) at one) (rw (p .start, p .issue) at two) in
           agree-value (e i) (e j′) (g .agree i j′ (t .below) lj) (ke ∙ sym kf ∙ sym (q .setting)) (both .0 ∙ sym (q .start)) (both .1 ∙ sym (q .issue))
-          ∙ same-back (e j′) (f j) (q .value)
+          ∙ same-back (e j′ .value) (f j .value) (q .value)
         where
           level : (a b c d : ℕ) → (c < a) ⊎ ((c ≡ a) × (d ≤ b)) → (a < c) ⊎ ((a ≡ c) × (b ≤ d)) → (a ≡ c) × (b ≡ d)
           level a b c d (inl x) (inl y) = absurd (omega arith)
@@ -155,8 +155,8 @@ module _ (n m : ℕ) (e f : ℕ → Entry) (there : Within n e m f) (back : With
           λ k l. weight-same k (missing-same k ∙ any-none (missing m f day) 6 h k l) in
           rw (w 0 (omega arith), w 1 (omega arith), w 2 (omega arith), w 3 (omega arith), w 4 (omega arith), w 5 (omega arith))
 
-      pub look-up-same : lookUp n e day ≡ lookUp m f day
-      unfolding lookUp firstDisagreeing firstMissing
+      pub look-up-same : passedAnswer n e day ≡ passedAnswer m f day
+      unfolding passedAnswer lookUp firstDisagreeing firstMissing
       look-up-same =
           rw (none-first (disagreesEarlier e) n (agree-none n e g), none-first (disagreesEarlier f) m (agree-none m f agree-too))
           (rw (first-cong (missing n e day) (missing m f day) 6 (λ k l. missing-same k))

@@ -16,7 +16,7 @@ use Rattle.weight_store.specs.Entries.{entryCount, entryOf, issue-lt}
 use Rattle.laws.specs.First.{none-first}
 use Rattle.weight_store.specs.Passed.{passed, is-passed}
 use Rattle.weight_store.specs.Refusals.{refused, firstRefused}
-use Rattle.weights.specs.Answers.{weightsOf, lookUp}
+use Rattle.weights.specs.Answers.{weightsOf, passedAnswer}
 use Rattle.weight_laws.specs.Answered.{Accepted}
 use Rattle.weight_laws.specs.Value.{same-inside}
 use Rattle.weight_laws.specs.Same.{Alike, alike, alike-sym, Within, agreed, look-up-same}
@@ -29,7 +29,7 @@ passes-too s t i j h e w l =
     is-passed t j (record { whole = w; few = l; slot = rw (e .setting) (p .slot); inside = same-inside _ _ (e .value) ∙ p .inside })
 
 -- an accepted store as the look-up sees it
-pub looked-up : (s : List ℕ) (day : ℕ) → any (refused s) (entryCount s) ≡ false → weightsOf s day ≡ lookUp (entryCount s) (entryOf s) day
+pub looked-up : (s : List ℕ) (day : ℕ) → any (refused s) (entryCount s) ≡ false → weightsOf s day ≡ passedAnswer (entryCount s) (entryOf s) day
 unfolding weightsOf firstRefused
 looked-up s day h = rw (none-first (refused s) (entryCount s) h)
 

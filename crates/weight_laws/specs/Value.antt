@@ -13,8 +13,7 @@ use Rattle.fp.specs.Inside.{mass-finite}
 use Rattle.fp.specs.Num.{zero, abs, finite}
 use Rattle.fp.specs.Order.{eq-same}
 use Rattle.fp.specs.Ranges.{isMass}
-use Rattle.weight_store.specs.declared.Entry.{Entry}
-use Rattle.weight_store.specs.Values.{clearZero, sameValue, valueOf}
+use Rattle.weight_store.specs.Values.{clearZero, sameValue, weightBack}
 
 -- ---- what every other law asks of the rule
 
@@ -30,27 +29,27 @@ pub same-cong : (a b c d : ℕ) → sameValue a c ≡ true → sameValue b d ≡
 unfolding sameValue
 same-cong a b c d h k = rw (eqb-true (clearZero a) (clearZero c) h, eqb-true (clearZero b) (clearZero d) k)
 
-pub same-back : (a b : Entry) → sameValue (a .value) (b .value) ≡ true → valueOf a ≡ valueOf b
-unfolding sameValue valueOf
-same-back a b h = ap (ofBits binary64) (eqb-true (clearZero (a .value)) (clearZero (b .value)) h)
+pub same-back : (a b : ℕ) → sameValue a b ≡ true → weightBack a ≡ weightBack b
+unfolding sameValue weightBack
+same-back a b h = ap (ofBits binary64) (eqb-true (clearZero a) (clearZero b) h)
 
-settled-inside : (b : ℕ) → isMass (ofBits binary64 (clearZero b)) ≡ isMass (ofBits binary64 b)
+cleared-inside : (b : ℕ) → isMass (ofBits binary64 (clearZero b)) ≡ isMass (ofBits binary64 b)
 unfolding clearZero isMass le lt eq ofBits
-settled-inside b =
+cleared-inside b =
     ⊎-elim
     (λ (t : eqb b 0x8000_0000_0000_0000 ≡ true). rw (eqb-true b 0x8000_0000_0000_0000 t))
     (λ (t : eqb b 0x8000_0000_0000_0000 ≡ false). rw t)
     (which (eqb b 0x8000_0000_0000_0000))
 
 -- what comes back is in the weights' range where the value is
-pub back-inside : (e : Entry) → isMass (valueOf e) ≡ isMass (ofBits binary64 (e .value))
-unfolding valueOf
-back-inside e = settled-inside (e .value)
+pub back-inside : (b : ℕ) → isMass (weightBack b) ≡ isMass (ofBits binary64 b)
+unfolding weightBack
+back-inside b = cleared-inside b
 
 pub same-inside : (a b : ℕ) → sameValue a b ≡ true → isMass (ofBits binary64 a) ≡ isMass (ofBits binary64 b)
 unfolding sameValue
 same-inside a b h =
-    sym (settled-inside a) ∙ ap (λ (x : ℕ). isMass (ofBits binary64 x)) (eqb-true (clearZero a) (clearZero b) h) ∙ settled-inside b
+    sym (cleared-inside a) ∙ ap (λ (x : ℕ). isMass (ofBits binary64 x)) (eqb-true (clearZero a) (clearZero b) h) ∙ cleared-inside b
 
 -- ---- two values of the range are the same exactly where they are equal as doubles
 
@@ -78,9 +77,9 @@ zero-bits (inf s) z = absurd (let w : _≡_ {A = ℕ} 0 1 = cc in omega arith)
 zero-bits (fin false m e) z = inl (ap (toBits binary64) z)
 zero-bits (fin true m e) z = inr (ap (λ (y : Float). toBits binary64 (neg y)) z)
 
-settled-zero : (b : ℕ) → b < 2 ^ 64 → isMass (ofBits binary64 b) ≡ true → abs (ofBits binary64 b) ≡ zero → clearZero b ≡ 0
+cleared-zero : (b : ℕ) → b < 2 ^ 64 → isMass (ofBits binary64 b) ≡ true → abs (ofBits binary64 b) ≡ zero → clearZero b ≡ 0
 unfolding clearZero
-settled-zero b l h z =
+cleared-zero b l h z =
     ⊎-elim
     (λ (q : toBits binary64 (ofBits binary64 b) ≡ 0). rw (sym (real-bits b l h) ∙ q))
     (λ (q : toBits binary64 (ofBits binary64 b) ≡ 0x8000_0000_0000_0000). rw (sym (real-bits b l h) ∙ q))
@@ -95,9 +94,9 @@ zero-or b h =
     (λ (t : eqb b 0x8000_0000_0000_0000 ≡ false). inl (rw t at h))
     (which (eqb b 0x8000_0000_0000_0000))
 
-settled-self : (b : ℕ) → (b ≡ 0x8000_0000_0000_0000 → ⊥) → clearZero b ≡ b
+cleared-self : (b : ℕ) → (b ≡ 0x8000_0000_0000_0000 → ⊥) → clearZero b ≡ b
 unfolding clearZero
-settled-self b h = rw (ne-eqb b 0x8000_0000_0000_0000 h)
+cleared-self b h = rw (ne-eqb b 0x8000_0000_0000_0000 h)
 
 zeros-equal : (a b : ℕ) → (a ≡ 0) ⊎ (a ≡ 0x8000_0000_0000_0000) → (b ≡ 0) ⊎ (b ≡ 0x8000_0000_0000_0000) → eq (ofBits binary64 a) (ofBits binary64 b) ≡ true
 unfolding eq ofBits
@@ -116,7 +115,7 @@ module _ (a b : ℕ) (la : a < 2 ^ 64) (lb : b < 2 ^ 64) (ma : isMass (ofBits bi
       ⊎-elim
       (λ (u : b ≡ 0x8000_0000_0000_0000). zeros-equal a b (zero-or a (h ∙ rw u)) (inr u))
       (λ (u : b ≡ 0x8000_0000_0000_0000 → ⊥).
-      let e : a ≡ b = sym (settled-self a t) ∙ h ∙ settled-self b u in rw e (eq-self (ofBits binary64 b) (mass-finite _ mb)))
+      let e : a ≡ b = sym (cleared-self a t) ∙ h ∙ cleared-self b u in rw e (eq-self (ofBits binary64 b) (mass-finite _ mb)))
       (same? b 0x8000_0000_0000_0000))
       (same? a 0x8000_0000_0000_0000)
 
@@ -124,7 +123,7 @@ module _ (a b : ℕ) (la : a < 2 ^ 64) (lb : b < 2 ^ 64) (ma : isMass (ofBits bi
   equal-same h =
       ⊎-elim
       (λ (e : ofBits binary64 a ≡ ofBits binary64 b). ap clearZero (sym (real-bits a la ma) ∙ ap (toBits binary64) e ∙ real-bits b lb mb))
-      (λ (e : (abs (ofBits binary64 a) ≡ zero) × (abs (ofBits binary64 b) ≡ zero)). settled-zero a la ma (e .0) ∙ sym (settled-zero b lb mb (e .1)))
+      (λ (e : (abs (ofBits binary64 a) ≡ zero) × (abs (ofBits binary64 b) ≡ zero)). cleared-zero a la ma (e .0) ∙ sym (cleared-zero b lb mb (e .1)))
       (eq-same (ofBits binary64 a) (ofBits binary64 b) (ofBits-fits binary64 a) (ofBits-fits binary64 b) h)
 
   pub same-as-doubles : sameValue a b ≡ eq (ofBits binary64 a) (ofBits binary64 b)

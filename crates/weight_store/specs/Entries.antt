@@ -1,6 +1,6 @@
 -- The store's records. Request F-1: "a bit-packed store of up to 256 records, most significant first: setting 8 bits (0 to 5, the weight slots), start
 -- day 32, issue 16, value 64". The store has no head: record i is the 120 bits from bit 120 × i. Assumes nothing.
-use Prim.Native.Nat.{ℕ, _+_, _-_, _*_, _/_, _<_}
+use Prim.Native.Nat.{ℕ, _+_, _-_, _*_, _/_, _^_, _<_}
 use mathlib.Core.Path.{_≡_, refl}
 use mathlib.Core.Bool.{true}
 use mathlib.Core.List.{List, [], _∷_}
@@ -12,7 +12,6 @@ use Rattle.laws.specs.Bools.{same-test}
 use Rattle.bits.specs.Field.{field-lt}
 use Rattle.layout.specs.Table.{Field, field, _then_, covers}
 use Rattle.layout.specs.Records.{Fields, from, read}
-use Rattle.weight_store.specs.declared.Entry.{Entry}
 
 -- "setting 8 bits"
 abbrev pub entry·setting : Field
@@ -39,6 +38,13 @@ pub entry-covered : covers 0 entryLength (entry·setting ∷ entry·start ∷ en
 unfolding covers
 entry-covered = refl
 
+-- a record: the numbers that its fields stand for
+pub record Entry : Type 0 where
+  pub setting : ℕ
+  pub start : ℕ
+  pub issue : ℕ
+  pub value : ℕ
+
 -- record i
 unfoldable pub entryOf : List ℕ → ℕ → Entry
 entryOf s i =
@@ -51,7 +57,7 @@ entryCount s = (8 * length s + (entryLength - 1)) / entryLength
 
 -- ---- laws
 
-pub issue-lt : (s : List ℕ) (i : ℕ) → entryOf s i .issue < 65536
+pub issue-lt : (s : List ℕ) (i : ℕ) → entryOf s i .issue < 2 ^ 16
 unfolding entryOf
 issue-lt s i = field-lt s (120 * i + 40) 16
 

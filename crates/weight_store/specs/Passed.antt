@@ -1,18 +1,21 @@
 -- What a record that passes is. Assumes nothing.
-use Prim.Native.Nat.{ℕ, _+_, _*_, _≤_}
+use Prim.Native.Nat.{ℕ, _+_, _*_, _≤_, _<_}
 use mathlib.Core.Path.{_≡_, refl}
 use mathlib.Core.Bool.{Bool, true, false}
 use mathlib.Core.List.{List, [], _∷_}
+use mathlib.Core.Logic.{⊎-elim}
 use native.Mathlib.Omega.{arith}
 use lib.Dec.{ltb}
 use lib.Ieee.{ofBits, binary64}
 use lib.ListN.{length}
 use borrow.Author.Tests.{eqb-true, ltb-true, ltb-false, leb-false, lt-ltb, le-ltb, lt-leb, not-false}
-use Rattle.laws.specs.Bools.{same-test}
+use Rattle.laws.specs.Bools.{same-test, less?}
+use Rattle.laws.specs.Folds.{any-none}
+use Rattle.laws.specs.First.{firstIndex, first-is}
 use Rattle.fp.specs.Ranges.{isMass}
 use Rattle.layout.specs.Verdict.{Rule, pick, firstOf}
-use Rattle.weight_store.specs.Entries.{entryOf}
-use Rattle.weight_store.specs.Refusals.{refusal2Store, refusal7Store, refusal8Store, refusal11Store, entryRefusal, refused}
+use Rattle.weight_store.specs.Entries.{entryCount, entryOf}
+use Rattle.weight_store.specs.Refusals.{refusal2Store, refusal7Store, refusal8Store, refusal11Store, entryRefusal, refused, firstRefused}
 
 -- cut short, in bytes
 pub short-bytes : (s : List ℕ) (i : ℕ) → ltb (length s) (15 * i + 15) ≡ refusal2Store s i
@@ -58,3 +61,19 @@ is-passed s i h =
       le-ltb 5 (entryOf s i .setting) (h .slot),
       h .inside,
     )
+
+-- no more than 256 pass before the first that is refused
+pub refused-few : (s : List ℕ) → firstRefused s ≤ 256
+unfolding firstRefused
+refused-few s =
+    let n = firstIndex (refused s) (entryCount s) in
+    ⊎-elim
+    (λ (l : 256 < n).
+    absurd (omega (arith, passed s 256 (any-none (refused s) n (first-is (refused s) (entryCount s) .none-before) 256 l) .few)))
+    (λ (l : n ≤ 256). l)
+    (less? 256 n)
+
+-- where the first that is refused is past the last, all pass
+pub refused-none : (s : List ℕ) (n : ℕ) → n ≡ firstRefused s → ltb n (entryCount s) ≡ false → entryCount s ≡ n
+unfolding firstRefused
+refused-none s n e h = let w = first-is (refused s) (entryCount s) .within in omega (arith, ltb-false n (entryCount s) h)

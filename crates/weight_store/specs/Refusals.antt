@@ -9,8 +9,7 @@ use Rattle.laws.specs.First.{firstIndex}
 use Rattle.fp.specs.Ranges.{isMass}
 use Rattle.layout.specs.Refusals.{pastEnd}
 use Rattle.layout.specs.Verdict.{Rule, firstOf}
-use Rattle.weight_store.specs.declared.Entry.{Entry}
-use Rattle.weight_store.specs.Entries.{entryLength, entryCount, entryOf}
+use Rattle.weight_store.specs.Entries.{Entry, entryLength, entryCount, entryOf}
 use Rattle.weight_store.specs.Values.{sameValue}
 
 -- ---- of one record
@@ -32,13 +31,12 @@ unfoldable pub refusal11Store : Entry → Bool
 refusal11Store e = not (isMass (ofBits binary64 (e .value)))
 
 -- "within each by rising number"
-abbrev pub entryRules : List ℕ → ℕ → List Rule
-entryRules s i =
-    (2, refusal2Store s i) ∷ (7, refusal7Store i) ∷ (8, refusal8Store (entryOf s i)) ∷ (11, refusal11Store (entryOf s i)) ∷ []
+abbrev pub entryRules : List ℕ → ℕ → Entry → List Rule
+entryRules s i e = (2, refusal2Store s i) ∷ (7, refusal7Store i) ∷ (8, refusal8Store e) ∷ (11, refusal11Store e) ∷ []
 
 -- the number by which record i is refused; 0 is none
 unfoldable pub entryRefusal : List ℕ → ℕ → ℕ
-entryRefusal s i = firstOf (entryRules s i)
+entryRefusal s i = firstOf (entryRules s i (entryOf s i))
 
 unfoldable pub refused : List ℕ → ℕ → Bool
 refused s i = not (eqb (entryRefusal s i) 0)

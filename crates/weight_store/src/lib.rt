@@ -1,68 +1,67 @@
 // The store of weights: records that each set one of the six weights from a day on. What refuses a store record by record, and by two records that
-// disagree. A record's number is a u16, so that its bit offset always fits.
+// disagree. Records are compared as two columns: a record's key, which is its setting, start day and issue in one number, and its value. A record's
+// number is a u16, so that its bit offset always fits.
 ghost use mathlib.Core.Path.{_≡_};
+ghost use mathlib.Core.List.{_++_};
+ghost use Prim.Native.Nat.{_≤_, _<_};
 ghost use lib.Dec.{ltb};
-ghost use Rattle.weight_store.specs.Entries.{entryCount, entryOf};
-ghost use Rattle.weight_store.specs.Values.{clearZero, sameValue, valueOf};
-ghost use Rattle.weight_store.specs.Refusals.{refusal2Store, refusal11Store, entryRefusal, firstRefused, disagree, disagreesEarlier};
+ghost use lib.ListN.{length, drop, getD};
+ghost use Rattle.laws.specs.Tables.{tab};
+ghost use Rattle.layout.specs.Verdict.{firstOf};
+ghost use Rattle.weight_store.specs.Entries.{entryCount};
+ghost use Rattle.weight_store.specs.Keys.{keyOf, valueOf, unpacked, heldEntry};
+ghost use Rattle.weight_store.specs.Values.{clearZero, sameValue, weightBack};
+ghost use Rattle.weight_store.specs.Refusals.{refusal2Store, entryRules, entryRefusal, firstRefused, disagree, disagreesEarlier};
 ghost use Rattle.weight_store.specs.Refusals.{firstDisagreeing};
 
-// The bit where each field of a record starts, counted from the record's first.
-const SETTING: u32 = 0;
+// A record's length in bits and in bytes.
+const BITS: u32 = 120;
 
-const START: u32 = SETTING + 8;
+const BYTES: usize = 15;
 
-const ISSUE: u32 = START + 32;
+// The bit where the value starts; the key stands before it.
+const VALUE: u32 = 56;
 
-const VALUE: u32 = ISSUE + 16;
+// The first key with a setting above 5.
+const PAST_SLOTS: u64 = 0x0006_0000_0000_0000;
 
-// The record's length.
-const BITS: u32 = VALUE + 64;
-
-// A record of the store.
-pub struct Entry {
-    pub setting: u8,
-    pub start: u32,
-    pub issue: u16,
-    pub value: u64,
+// Setting, start day and issue of record i, in 8, 32 and 16 bits; past the end zeros.
+fn key_at(s: &[u8], i: u16) -> u64
+    ensures { λ r. ⌜ r ≡ keyOf (now (s .entry)) i ⌝ }
+{
+    bits::field(s, BITS * (i as u32), 0, 56)
 }
 
-// Record i, past the end with zeros.
-pub fn entry_at(s: &[u8], i: u16) -> Entry
-    ensures { λ r. ⌜ r ≡ entryOf (now (s .entry)) i ⌝ }
+// The 64 bits of its value.
+fn value_at(s: &[u8], i: u16) -> u64
+    ensures { λ r. ⌜ r ≡ valueOf (now (s .entry)) i ⌝ }
 {
-    let at = BITS * (i as u32);
-    let setting = bits::field(s, at, SETTING, 8);
-    let start = bits::field32(s, at, START);
-    let issue = bits::field(s, at, ISSUE, 16);
-    let value = bits::field(s, at, VALUE, 64);
-    Entry {
-        setting: setting as u8,
-        start: start,
-        issue: issue as u16,
-        value: value,
-    }
+    bits::field(s, BITS * (i as u32), VALUE, 64)
 }
 
 // Whether a bit of record i stands in the store.
 pub fn is_there(s: &[u8], i: u16) -> bool
     ensures { λ r. ⌜ r ≡ ltb i (entryCount (now (s .entry))) ⌝ }
 {
-    15 * (i as usize) < s.len()
+    BYTES * (i as usize) < s.len()
 }
 
 // 2: record i is cut short.
 fn is_short(s: &[u8], i: u16) -> bool
     ensures { λ r. ⌜ r ≡ refusal2Store (now (s .entry)) i ⌝ }
 {
-    s.len() < 15 * (i as usize) + 15
+    s.len() < BYTES * (i as usize) + BYTES
 }
 
 // A value's bits, minus zero's read as zero's.
-fn clear_zero(b: u64) -> u64
-    ensures { λ r. ⌜ r ≡ clearZero b ⌝ }
+fn clear_zero(value: u64) -> u64
+    ensures { λ r. ⌜ r ≡ clearZero value ⌝ }
 {
-    if b == 0x8000_0000_0000_0000 { 0 } else { b }
+    if value == 0x8000_0000_0000_0000 {
+        0
+    } else {
+        value
+    }
 }
 
 // Whether two values are equal.
@@ -72,23 +71,16 @@ fn same_value(a: u64, b: u64) -> bool
     clear_zero(a) == clear_zero(b)
 }
 
-// The weight that comes back of a record.
-pub fn value_of(e: Entry) -> f64
-    ensures { λ r. ⌜ r ≡ valueOf e ⌝ }
+// The weight that comes back of a value.
+pub fn weight_back(value: u64) -> f64
+    ensures { λ r. ⌜ r ≡ weightBack value ⌝ }
 {
-    fp::double(clear_zero(e.value))
+    fp::double(clear_zero(value))
 }
 
-// 11: the value is outside of the weights' range.
-fn is_outside(e: Entry) -> bool
-    ensures { λ r. ⌜ r ≡ refusal11Store e ⌝ }
-{
-    !fp::is_mass(fp::double(e.value))
-}
-
-// The number by which record i is refused, 0 for none.
-pub fn entry_refusal(s: &[u8], i: u16) -> u32
-    ensures { λ r. ⌜ r ≡ entryRefusal (now (s .entry)) i ⌝ }
+// The number by which record i is refused that has this key and value, 0 for none.
+fn refusal_of(s: &[u8], i: u16, key: u64, value: u64) -> u32
+    ensures { λ r. ⌜ r ≡ firstOf (entryRules (now (s .entry)) i (unpacked key value)) ⌝ }
 {
     if is_short(s, i) {
         return 2;
@@ -96,43 +88,67 @@ pub fn entry_refusal(s: &[u8], i: u16) -> u32
     if 256 <= i {
         return 7;
     }
-    let e = entry_at(s, i);
-    if 5 < e.setting {
+    if PAST_SLOTS <= key {
         return 8;
     }
-    if is_outside(e) { 11 } else { 0 }
+    if fp::is_mass(fp::double(value)) {
+        0
+    } else {
+        11
+    }
 }
 
-// The first record that is refused; the number of records where none is.
-pub fn first_refused(s: &[u8]) -> u16
-    ensures { λ r. ⌜ r ≡ firstRefused (now (s .entry)) ⌝ }
+// The number by which record i is refused, 0 for none.
+pub fn entry_refusal(s: &[u8], i: u16) -> u32
+    ensures { λ r. ⌜ r ≡ entryRefusal (now (s .entry)) i ⌝ }
+{
+    refusal_of(s, i, key_at(s, i), value_at(s, i))
+}
+
+// The first record that is refused, the number of records where none is. Keys and values of the records before it are written.
+pub fn read_entries(s: &[u8], keys: &mut [u64], values: &mut [u64]) -> u16
+    requires { ⌜ (256 ≤ length (now keys)) × (256 ≤ length (now values)) ⌝ }
+    ensures first { λ r. ⌜ r ≡ firstRefused (now (s .entry)) ⌝ }
+    ensures keys { λ r. ⌜ (length (now (keys .exit)) ≡ length (now (keys .entry)))
+        × (now (keys .exit) ≡ tab (keyOf (now (s .entry))) r ++ drop r (now (keys .entry))) ⌝ }
+    ensures values { λ r. ⌜ (length (now (values .exit)) ≡ length (now (values .entry)))
+        × (now (values .exit) ≡ tab (valueOf (now (s .entry))) r ++ drop r (now (values .entry))) ⌝ }
 {
     let mut i: u16 = 0;
     while is_there(s, i) {
-        if entry_refusal(s, i) != 0 {
+        let key = key_at(s, i);
+        let value = value_at(s, i);
+        if refusal_of(s, i, key, value) != 0 {
             return i;
         }
+        keys[i as usize] = key;
+        values[i as usize] = value;
         i += 1;
     }
     i
 }
 
-// Whether two records agree in setting, day and issue but not in value.
-fn disagree(a: Entry, b: Entry) -> bool
-    ensures { λ r. ⌜ r ≡ disagree a b ⌝ }
+// Whether record i of the columns agrees with a key but not with its value.
+fn disagrees_at<'a>(keys: &'a [u64], values: &'a [u64], i: usize, key: u64, value: u64) -> bool
+    requires { ⌜ (i < length (now keys)) × (i < length (now values)) ⌝ }
+    ensures { λ r. ⌜ r ≡ disagree (heldEntry (now (keys .entry)) (now (values .entry)) i) (unpacked key value) ⌝ }
 {
-    let same = same_value(a.value, b.value);
-    (a.setting == b.setting) & ((a.start == b.start) & ((a.issue == b.issue) & !same))
+    if keys[i] == key {
+        return !same_value(values[i], value);
+    }
+    false
 }
 
-// Whether record j disagrees with an earlier one.
-fn disagrees_earlier(s: &[u8], j: u16) -> bool
-    ensures { λ r. ⌜ r ≡ disagreesEarlier (entryOf (now (s .entry))) j ⌝ }
+// Whether record j of the columns disagrees with an earlier one.
+fn disagrees_earlier<'a>(keys: &'a [u64], values: &'a [u64], j: usize) -> bool
+    requires { ⌜ (j < length (now keys)) × (j < length (now values)) ⌝ }
+    ensures { λ r. ⌜ r ≡ disagreesEarlier (heldEntry (now (keys .entry)) (now (values .entry))) j ⌝ }
 {
-    let b = entry_at(s, j);
-    let mut i: u16 = 0;
+    let key = keys[j];
+    let value = values[j];
+    let mut i: usize = 0;
     while i < j {
-        if disagree(entry_at(s, i), b) {
+        if disagrees_at(keys, values, i, key, value) {
             return true;
         }
         i += 1;
@@ -140,13 +156,14 @@ fn disagrees_earlier(s: &[u8], j: u16) -> bool
     false
 }
 
-// The first of n records that disagrees with an earlier one; n where none does.
-pub fn first_disagreeing(s: &[u8], n: u16) -> u16
-    ensures { λ r. ⌜ r ≡ firstDisagreeing n (entryOf (now (s .entry))) ⌝ }
+// The first of n records of the columns that disagrees with an earlier one; n where none does.
+pub fn first_disagreeing<'a>(keys: &'a [u64], values: &'a [u64], n: usize) -> usize
+    requires { ⌜ (n ≤ length (now keys)) × (n ≤ length (now values)) ⌝ }
+    ensures { λ r. ⌜ r ≡ firstDisagreeing n (heldEntry (now (keys .entry)) (now (values .entry))) ⌝ }
 {
-    let mut j: u16 = 0;
+    let mut j: usize = 0;
     while j < n {
-        if disagrees_earlier(s, j) {
+        if disagrees_earlier(keys, values, j) {
             return j;
         }
         j += 1;

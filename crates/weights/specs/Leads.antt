@@ -1,24 +1,21 @@
 -- The record that a slot takes is the first of those with the greatest key, which one walk finds. Assumes nothing.
-use Prim.Native.Nat.{ℕ, zero, suc, _+_, _*_, _≤_, _<_}
+use Prim.Native.Nat.{ℕ, zero, suc, _+_, _*_, _^_, _≤_, _<_}
 use mathlib.Core.Path.{_≡_, refl, sym, _∙_}
 use mathlib.Core.Bool.{Bool, true, false, not, _&&_, _||_, cond}
 use mathlib.Core.Logic.{_⊎_, inl, inr, ⊎-elim}
 use native.Mathlib.Omega.{arith}
 use lib.Dec.{eqb, ltb}
-use borrow.Author.Tests.{ltb-true, ltb-false, le-ltb, eq-eqb, ne-eqb, not-true}
+use borrow.Author.Tests.{ltb-true, ltb-false, le-ltb, eqb-true, eq-eqb, ne-eqb, not-true}
 use Rattle.laws.specs.Bools.{which, not-both, both, both-left, both-right, and-none, and-rest, not-of, contrary, same?, less?}
 use Rattle.laws.specs.Folds.{any, any-none, any-no, none-any}
-use Rattle.weight_store.specs.declared.Entry.{Entry}
+use Rattle.weight_store.specs.Entries.{Entry}
+use Rattle.weight_store.specs.Keys.{entryKey}
 use Rattle.laws.specs.First.{first-only, first-end}
 use Rattle.weights.specs.LookUp.{started, latest, taken, firstTaken, missing}
 
--- a later start counts more than any issue
-abbrev pub key : Entry → ℕ
-key a = 65536 * a .start + a .issue
-
 -- a started record a goes before the best so far, n where there is none yet
 unfoldable pub leads : ℕ → (ℕ → Entry) → ℕ → Entry → Bool
-leads n e best a = eqb best n || ltb (key (e best)) (key a)
+leads n e best a = eqb best n || ltb (entryKey (e best)) (entryKey a)
 
 -- the better of the best so far and record i
 unfoldable pub better : ℕ → (ℕ → Entry) → ℕ → ℕ → ℕ → ℕ → ℕ
@@ -27,6 +24,10 @@ better n e day slot best i = cond (started day slot (e i) && leads n e best (e i
 module _ (n : ℕ) (e : ℕ → Entry) (day slot : ℕ) where
   abbrev st : ℕ → Bool
   st j = started day slot (e j)
+
+  slot-of : (i : ℕ) → st i ≡ true → e i .setting ≡ slot
+  unfolding started
+  slot-of i h = eqb-true (e i .setting) slot (both-left (eqb (e i .setting) slot) _ h)
 
   -- ---- the latest
 
@@ -86,27 +87,27 @@ module _ (n : ℕ) (e : ℕ → Entry) (day slot : ℕ) where
       inr (same, taken-most i h j l (is-latest j t (λ k lk tk. omega (arith, most k lk tk)))))
       (less? (e j .start) (e i .start))
 
-  module _ (small : (i : ℕ) → e i .issue < 65536) where
-    pub taken-key : (i : ℕ) → taken n e day slot i ≡ true → (j : ℕ) → j < n → st j ≡ true → key (e j) ≤ key (e i)
+  module _ (small : (i : ℕ) → e i .issue < 2 ^ 16) where
+    pub taken-key : (i : ℕ) → taken n e day slot i ≡ true → (j : ℕ) → j < n → st j ≡ true → entryKey (e j) ≤ entryKey (e i)
     taken-key i h j l t =
         ⊎-elim
-        (λ (u : e j .start < e i .start). omega (arith, small j, small i))
-        (λ (u : (e j .start ≡ e i .start) × (e j .issue ≤ e i .issue)). omega (arith, u .0, u .1))
+        (λ (u : e j .start < e i .start). omega (arith, small j, small i, slot-of j t, slot-of i (taken-started i h)))
+        (λ (u : (e j .start ≡ e i .start) × (e j .issue ≤ e i .issue)). omega (arith, u .0, u .1, slot-of j t, slot-of i (taken-started i h)))
         (taken-top i h j l t)
 
-    pub key-taken : (i : ℕ) → i < n → st i ≡ true → ((j : ℕ) → j < n → st j ≡ true → key (e j) ≤ key (e i)) → taken n e day slot i ≡ true
+    pub key-taken : (i : ℕ) → i < n → st i ≡ true → ((j : ℕ) → j < n → st j ≡ true → entryKey (e j) ≤ entryKey (e i)) → taken n e day slot i ≡ true
     key-taken i li t f =
         is-taken i
-        (is-latest i t (λ j l u. omega (arith, f j l u, small i, small j)))
-        (λ j l u. omega (arith, latest-most j u i li t, f j l (latest-started j u)))
+        (is-latest i t (λ j l u. omega (arith, f j l u, small i, small j, slot-of i t, slot-of j u)))
+        (λ j l u. omega (arith, latest-most j u i li t, f j l (latest-started j u), slot-of i t, slot-of j (latest-started j u)))
 
   -- ---- the walk: of the first i records, b is the first with the greatest key
 
   pub record Leading (i b : ℕ) : Type 0 where
     pub below : b < i
     pub has-started : st b ≡ true
-    pub tops : (j : ℕ) → j < i → st j ≡ true → key (e j) ≤ key (e b)
-    pub before-it : (j : ℕ) → j < b → st j ≡ true → key (e j) < key (e b)
+    pub tops : (j : ℕ) → j < i → st j ≡ true → entryKey (e j) ≤ entryKey (e b)
+    pub before-it : (j : ℕ) → j < b → st j ≡ true → entryKey (e j) < entryKey (e b)
 
   -- the best of the first i, n where none of them has started
   abbrev pub Best : ℕ → ℕ → Type 0
@@ -116,7 +117,7 @@ module _ (n : ℕ) (e : ℕ → Entry) (day slot : ℕ) where
   unfolding any
   best-none = inl (refl, refl)
 
-  on-top : (i : ℕ) → st i ≡ true → ((j : ℕ) → j < i → st j ≡ true → key (e j) < key (e i)) → Leading (i + 1) i
+  on-top : (i : ℕ) → st i ≡ true → ((j : ℕ) → j < i → st j ≡ true → entryKey (e j) < entryKey (e i)) → Leading (i + 1) i
   on-top i t f =
       record {
         below = omega arith;
@@ -125,7 +126,7 @@ module _ (n : ℕ) (e : ℕ → Entry) (day slot : ℕ) where
         before-it = f;
       }
 
-  stays : (i b : ℕ) → Leading i b → (st i ≡ true → key (e i) ≤ key (e b)) → Leading (i + 1) b
+  stays : (i b : ℕ) → Leading i b → (st i ≡ true → entryKey (e i) ≤ entryKey (e b)) → Leading (i + 1) b
   stays i b g f =
       record {
         below = omega (arith, g .below);
@@ -138,12 +139,12 @@ module _ (n : ℕ) (e : ℕ → Entry) (day slot : ℕ) where
   best-on : (i b : ℕ) → i < n → (st i && leads n e b (e i)) ≡ false → Best i b → Best (i + 1) b
   unfolding leads
   best-on i b l h (inl (none, is)) =
-      let out = contrary (st i) (λ t. not-both {a = eqb b n || ltb (key (e b)) (key (e i))} (rw (eq-eqb b n is)) (and-rest (st i) _ h t)) in
+      let out = contrary (st i) (λ t. not-both {a = eqb b n || ltb (entryKey (e b)) (entryKey (e i))} (rw (eq-eqb b n is)) (and-rest (st i) _ h t)) in
       inl (sym (any-no st i out (sym none)), is)
   best-on i b l h (inr g) =
       inr (stays i b g (λ t.
-      let no = and-rest (st i) (eqb b n || ltb (key (e b)) (key (e i))) h t in
-      ltb-false (key (e b)) (key (e i)) (rw (ne-eqb b n (λ q. omega (arith, g .below))) at no)))
+      let no = and-rest (st i) (eqb b n || ltb (entryKey (e b)) (entryKey (e i))) h t in
+      ltb-false (entryKey (e b)) (entryKey (e i)) (rw (ne-eqb b n (λ q. omega (arith, g .below))) at no)))
 
   -- it does
   best-over : (i b : ℕ) → i < n → (st i && leads n e b (e i)) ≡ true → Best i b → Best (i + 1) i
@@ -151,9 +152,13 @@ module _ (n : ℕ) (e : ℕ → Entry) (day slot : ℕ) where
   best-over i b l h (inl (none, is)) =
       inr (on-top i (both-left (st i) _ h) (λ j lj u. absurd (not-both u (any-none st i none j lj))))
   best-over i b l h (inr g) =
-      let yes = both-right (st i) (eqb b n || ltb (key (e b)) (key (e i))) h in
-      let over = ltb-true (key (e b)) (key (e i)) (rw (ne-eqb b n (λ q. omega (arith, g .below))) at yes) in
+      let yes = both-right (st i) (eqb b n || ltb (entryKey (e b)) (entryKey (e i))) h in
+      let over = ltb-true (entryKey (e b)) (entryKey (e i)) (rw (ne-eqb b n (λ q. omega (arith, g .below))) at yes) in
       inr (on-top i (both-left (st i) _ h) (λ j lj u. omega (arith, g .tops j lj u)))
+
+  pub best-le : (i b : ℕ) → i ≤ n → Best i b → b ≤ n
+  best-le i b l (inl (none, is)) = omega arith
+  best-le i b l (inr g) = omega (arith, g .below)
 
   pub best-step : (i b : ℕ) → i < n → Best i b → Best (i + 1) (better n e day slot b i)
   unfolding better
@@ -163,7 +168,7 @@ module _ (n : ℕ) (e : ℕ → Entry) (day slot : ℕ) where
       (λ (t : (st i && leads n e b (e i)) ≡ false). rw t (best-on i b l t h))
       (which (st i && leads n e b (e i)))
 
-  module _ (small : (i : ℕ) → e i .issue < 65536) where
+  module _ (small : (i : ℕ) → e i .issue < 2 ^ 16) where
     -- what the walk ends with is what the slot takes
     pub best-taken : (b : ℕ) → Best n b → firstTaken n e day slot ≡ b
     unfolding firstTaken

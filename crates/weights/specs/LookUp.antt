@@ -6,8 +6,8 @@ use lib.Dec.{eqb, ltb, leb}
 use lib.Ieee.{Float}
 use Rattle.laws.specs.Folds.{any}
 use Rattle.laws.specs.First.{firstIndex}
-use Rattle.weight_store.specs.declared.Entry.{Entry}
-use Rattle.weight_store.specs.Values.{valueOf}
+use Rattle.weight_store.specs.Entries.{Entry}
+use Rattle.weight_store.specs.Values.{weightBack}
 
 -- a record of the slot with a "start not after" the day
 unfoldable pub started : ℕ → ℕ → Entry → Bool
@@ -27,7 +27,7 @@ module _ (n : ℕ) (e : ℕ → Entry) (day : ℕ) where
   firstTaken slot = firstIndex (taken slot) n
 
   unfoldable pub slotWeight : ℕ → Float
-  slotWeight slot = valueOf (e (firstTaken slot))
+  slotWeight slot = weightBack (e (firstTaken slot) .value)
 
   -- "a slot has no record for the day"
   unfoldable pub missing : ℕ → Bool

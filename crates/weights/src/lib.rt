@@ -2,133 +2,159 @@
 pub mod answer;
 
 ghost use mathlib.Core.Path.{_≡_};
-ghost use Rattle.weight_store.specs.Entries.{entryOf};
-ghost use Rattle.weights.specs.LookUp.{started, firstTaken, slotWeight, firstMissing};
-ghost use Rattle.weights.specs.Leads.{key, leads, better};
-ghost use Rattle.weights.specs.Answers.{sixOf, lookUp, weightsOf};
+ghost use mathlib.Core.List.{List};
+ghost use Prim.Native.Nat.{ℕ, _≤_, _<_};
+ghost use lib.ListN.{length};
+ghost use Rattle.weight_store.specs.Keys.{heldEntry};
+ghost use Rattle.weights.specs.LookUp.{firstTaken};
+ghost use Rattle.weights.specs.Columns.{startedKey, leadsKey, betterKey};
+ghost use Rattle.weights.specs.Answers.{lookUp, passedAnswer, weightsOf, lentWeights, weightsLeft};
+ghost use Rattle.weights.specs.declared.answer.Weights.the-variants.{Found};
 use answer::SixWeights;
 use answer::Weights;
-use weight_store::Entry;
 
-// Whether a record is the slot's and has started by the day.
-fn started(e: Entry, day: u32, slot: u8) -> bool
-    ensures { λ r. ⌜ r ≡ started day slot e ⌝ }
+// "1", the host program's: a lent buffer is too short.
+const SHORT_BUFFER: u32 = 1;
+
+// A record's length in bits.
+const BITS: u64 = 120;
+
+// Whether a record with this key is the slot's and has started by the day.
+fn started(key: u64, day: u32, slot: u8) -> bool
+    ensures { λ r. ⌜ r ≡ startedKey day slot key ⌝ }
 {
-    (e.setting == slot) & (e.start <= day)
+    let first = (slot as u64) * 0x0001_0000_0000_0000;
+    let last = first + (day as u64) * 0x0001_0000 + 0xffff;
+    (first <= key) & (key <= last)
 }
 
-// A later start counts more than any issue.
-fn key(e: Entry) -> u64
-    ensures { λ r. ⌜ r ≡ key e ⌝ }
-{
-    let start = e.start as u64;
-    let issue = e.issue as u64;
-    65_536 * start + issue
-}
-
-// Whether a started record goes before the best so far, n where there is none yet.
-fn leads(s: &[u8], n: u16, best: u16, e: Entry) -> bool
-    ensures { λ r. ⌜ r ≡ leads n (entryOf (now (s .entry))) best e ⌝ }
+// Whether a key goes before that of the best so far, n where there is none yet.
+fn leads(keys: &[u64], n: usize, best: usize, key: u64) -> bool
+    requires { ⌜ (best ≤ n) × (n ≤ length (now keys)) ⌝ }
+    ensures { λ r. ⌜ r ≡ leadsKey n (now (keys .entry)) best key ⌝ }
 {
     if best == n {
         return true;
     }
-    let x = key(weight_store::entry_at(s, best));
-    let y = key(e);
-    x < y
+    keys[best] < key
 }
 
-// The better of the best so far and record i.
-fn better(s: &[u8], n: u16, day: u32, slot: u8, best: u16, i: u16) -> u16
-    ensures { λ r. ⌜ r ≡ better n (entryOf (now (s .entry))) day slot best i ⌝ }
+// The better of the best so far and record i: a later start counts more than any issue.
+fn better(keys: &[u64], n: usize, day: u32, slot: u8, best: usize, i: usize) -> usize
+    requires { ⌜ (best ≤ n) × (i < n) × (n ≤ length (now keys)) ⌝ }
+    ensures { λ r. ⌜ r ≡ betterKey n (now (keys .entry)) day slot best i ⌝ }
 {
-    let e = weight_store::entry_at(s, i);
-    if started(e, day, slot) & leads(s, n, best, e) {
+    let key = keys[i];
+    if started(key, day, slot) & leads(keys, n, best, key) {
         i
     } else {
         best
     }
 }
 
-// Which of n records the slot takes for the day, the first of equals; n where it has none.
-fn first_taken(s: &[u8], n: u16, day: u32, slot: u8) -> u16
-    ensures { λ r. ⌜ r ≡ firstTaken n (entryOf (now (s .entry))) day slot ⌝ }
+// Which of n records the slot takes for the day, the first of equals; n where it has none. It does not depend on the values.
+fn first_taken(keys: &[u64], n: usize, day: u32, slot: u8) -> usize
+    requires { ⌜ n ≤ length (now keys) ⌝ }
+    ensures { λ r. ⌜ ((values : List ℕ) → r ≡ firstTaken n (heldEntry (now (keys .entry)) values) day slot) ⌝ }
 {
     let mut best = n;
-    let mut i: u16 = 0;
+    let mut i: usize = 0;
     while i < n {
-        best = better(s, n, day, slot, best, i);
+        best = better(keys, n, day, slot, best, i);
         i += 1;
     }
     best
 }
 
-// The first slot without a record for the day, 6 where each has one.
-fn first_missing(s: &[u8], n: u16, day: u32) -> u8
-    ensures { λ r. ⌜ r ≡ firstMissing n (entryOf (now (s .entry))) day ⌝ }
+// 18, or the six, of n records of which no two disagree.
+fn look_up<'a>(keys: &'a [u64], values: &'a [u64], n: usize, day: u32) -> Weights
+    requires { ⌜ (n ≤ length (now keys)) × (n ≤ length (now values)) × (n ≤ 256) ⌝ }
+    ensures { λ r. ⌜ r ≡ lookUp n (heldEntry (now (keys .entry)) (now (values .entry))) day ⌝ }
 {
+    let mut six = [0.0f64; 6];
     let mut slot: u8 = 0;
     while slot < 6 {
-        if first_taken(s, n, day, slot) == n {
-            return slot;
+        let i = first_taken(keys, n, day, slot);
+        if i == n {
+            return Weights::Refused {
+                number: 18,
+                offset: slot as u64,
+            };
         }
+        six[slot as usize] = weight_store::weight_back(values[i]);
         slot += 1;
     }
-    6
+    Weights::Found(SixWeights {
+        w0: six[0],
+        w1: six[1],
+        w2: six[2],
+        w3: six[3],
+        w4: six[4],
+        w5: six[5],
+    })
 }
 
-// A slot's weight for the day.
-fn weight_of(s: &[u8], n: u16, day: u32, slot: u8) -> f64
-    ensures { λ r. ⌜ r ≡ slotWeight n (entryOf (now (s .entry))) day slot ⌝ }
+// 17, then the look-up, of n records that have passed.
+fn passed_answer<'a>(keys: &'a [u64], values: &'a [u64], n: usize, day: u32) -> Weights
+    requires { ⌜ (n ≤ length (now keys)) × (n ≤ length (now values)) × (n ≤ 256) ⌝ }
+    ensures { λ r. ⌜ r ≡ passedAnswer n (heldEntry (now (keys .entry)) (now (values .entry))) day ⌝ }
 {
-    weight_store::value_of(weight_store::entry_at(s, first_taken(s, n, day, slot)))
-}
-
-// The six.
-fn six_of(s: &[u8], n: u16, day: u32) -> SixWeights
-    ensures { λ r. ⌜ r ≡ sixOf n (entryOf (now (s .entry))) day ⌝ }
-{
-    SixWeights {
-        w0: weight_of(s, n, day, 0),
-        w1: weight_of(s, n, day, 1),
-        w2: weight_of(s, n, day, 2),
-        w3: weight_of(s, n, day, 3),
-        w4: weight_of(s, n, day, 4),
-        w5: weight_of(s, n, day, 5),
-    }
-}
-
-// 17, then 18, then the six, of n records that have passed.
-fn look_up(s: &[u8], n: u16, day: u32) -> Weights
-    ensures { λ r. ⌜ r ≡ lookUp n (entryOf (now (s .entry))) day ⌝ }
-{
-    let j = weight_store::first_disagreeing(s, n);
+    let j = weight_store::first_disagreeing(keys, values, n);
     if j < n {
         return Weights::Refused {
             number: 17,
-            offset: 120 * (j as u64),
+            offset: BITS * (j as u64),
         };
     }
-    let slot = first_missing(s, n, day);
-    if slot < 6 {
-        return Weights::Refused {
-            number: 18,
-            offset: slot as u64,
-        };
-    }
-    Weights::Found(six_of(s, n, day))
+    look_up(keys, values, n, day)
 }
 
-// The weights of a store for a day.
+// The weights of a store for a day. Its records are read once, into two columns.
 pub fn weights(store: &[u8], day: u32) -> Weights
     ensures { λ r. ⌜ r ≡ weightsOf (now (store .entry)) day ⌝ }
 {
-    let n = weight_store::first_refused(store);
+    let mut keys = [0u64; 256];
+    let mut values = [0u64; 256];
+    let n = weight_store::read_entries(store, &mut keys, &mut values);
     if weight_store::is_there(store, n) {
         return Weights::Refused {
             number: weight_store::entry_refusal(store, n),
-            offset: 120 * (n as u64),
+            offset: BITS * (n as u64),
         };
     }
-    look_up(store, n, day)
+    passed_answer(&keys, &values, n as usize, day)
+}
+
+// The six, first in the places.
+fn write_six(six: SixWeights, places: &mut [f64])
+    requires { ⌜ 6 ≤ length (now places) ⌝ }
+    ensures { λ _. ⌜ now (places .exit) ≡ weightsLeft (Found six) (now (places .entry)) ⌝ }
+{
+    places[0] = six.w0;
+    places[1] = six.w1;
+    places[2] = six.w2;
+    places[3] = six.w3;
+    places[4] = six.w4;
+    places[5] = six.w5;
+}
+
+// The weights of a store for a day, first in the places. Fewer than six places are refused in front of the store, and a refusal leaves them.
+pub fn fill_weights(store: &[u8], day: u32, places: &mut [f64]) -> Weights
+    ensures answer { λ r. ⌜ r ≡ lentWeights (now (store .entry)) day (length (now (places .entry))) ⌝ }
+    ensures places { λ _. ⌜ now (places .exit) ≡ weightsLeft (lentWeights (now (store .entry)) day (length (now (places .entry))))
+        (now (places .entry)) ⌝ }
+{
+    if places.len() < 6 {
+        return Weights::Refused {
+            number: SHORT_BUFFER,
+            offset: 0,
+        };
+    }
+    match weights(store, day) {
+        Weights::Found(six) => {
+            write_six(six, places);
+            Weights::Found(six)
+        }
+        Weights::Refused { number, offset } => Weights::Refused { number, offset },
+    }
 }
