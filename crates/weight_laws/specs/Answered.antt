@@ -6,8 +6,9 @@ use mathlib.Core.Bool.{Bool, true, false, cond}
 use mathlib.Core.List.{List}
 use mathlib.Core.Logic.{_⊎_}
 use native.Mathlib.Omega.{arith}
-use lib.Dec.{eqb, leb}
-use lib.Ieee.{Float}
+use lib.Dec.{T, eqb, leb}
+use lib.Ieee.{Float, fits, binary64}
+use lib.Ieee.Bits.{ofBits-fits}
 use borrow.Author.Tests.{eqb-true, eq-eqb, leb-true, le-leb, not-false}
 use Rattle.laws.specs.Bools.{both, both-left, both-right}
 use Rattle.laws.specs.Folds.{any, any-none}
@@ -21,17 +22,17 @@ use Rattle.weights.specs.Leads.{takes, taken-started, taken-top}
 use Rattle.weights.specs.LookUp.{started, missing, firstTaken, slotWeight, firstMissing}
 use Rattle.weight_store.specs.Passed.{passed}
 use Rattle.weight_store.specs.Refusals.{refused, firstRefused, disagreesEarlier, firstDisagreeing}
-use Rattle.weight_store.specs.Values.{weightBack}
+use Rattle.weight_store.specs.Values.{clearZero, weightBack}
 use Rattle.weights.specs.Answers.{sixOf, lookUp, passedAnswer, weightsOf}
 use Rattle.weight_laws.specs.Value.{back-inside}
 
 -- every record passes, and none disagrees with an earlier one
-pub record Accepted (s : List ℕ) : Type 0 where
+pub record AcceptedStore (s : List ℕ) : Type 0 where
   pub passed : any (refused s) (entryCount s) ≡ false
   pub agreed : any (disagreesEarlier (entryOf s)) (entryCount s) ≡ false
 
 pub record Answered (s : List ℕ) (day : ℕ) (x : SixWeights) : Type 0 where
-  pub accepted : Accepted s
+  pub accepted : AcceptedStore s
   pub complete : any (missing (entryCount s) (entryOf s) day) 6 ≡ false
   pub six : sixOf (entryCount s) (entryOf s) day ≡ x
 
@@ -74,7 +75,9 @@ six-slot n e day (suc (suc (suc (suc (suc (suc k)))))) l = absurd (omega arith)
 
 -- ---- the record that a slot takes
 
-pub record Chosen (s : List ℕ) (day slot : ℕ) (w : Float) (i : ℕ) : Type 0 where
+-- a slot's weight is that of a record of the slot that has started by the day, and no started record of the slot is later, or as late with a higher
+-- issue
+pub record TakenEntry (s : List ℕ) (day slot : ℕ) (w : Float) (i : ℕ) : Type 0 where
   pub there : i < entryCount s
   pub its-slot : entryOf s i .setting ≡ slot
   pub not-after : entryOf s i .start ≤ day
@@ -83,10 +86,15 @@ pub record Chosen (s : List ℕ) (day slot : ℕ) (w : Float) (i : ℕ) : Type 0
   pub top : (j : ℕ) → j < entryCount s → entryOf s j .setting ≡ slot → entryOf s j .start ≤ day
       → (entryOf s j .start < entryOf s i .start) ⊎ ((entryOf s j .start ≡ entryOf s i .start) × (entryOf s j .issue ≤ entryOf s i .issue))
 
+-- a double in the weights' range
+pub record Inside (w : Float) : Type 0 where
+  pub mass : isMass w ≡ true
+  pub double : T (fits binary64 w)
+
 module _ (s : List ℕ) (day : ℕ) (x : SixWeights) (h : weightsOf s day ≡ Found x) (slot : ℕ) (l : slot < 6) where
-  pub chosen : (i : ℕ) × Chosen s day slot (inSlot x slot) i
+  pub taken-entry : (i : ℕ) × TakenEntry s day slot (inSlot x slot) i
   unfolding started missing slotWeight
-  chosen =
+  taken-entry =
       let a = answered s day x h in
       let n = entryCount s in
       let e = entryOf s in
@@ -104,3 +112,8 @@ module _ (s : List ℕ) (day : ℕ) (x : SixWeights) (h : weightsOf s day ≡ Fo
           top = λ j lj p q. taken-top n e day slot i (t .is-it) j lj (both (eq-eqb _ _ p) (le-leb _ _ q));
         },
       )
+
+  -- it is a double from 0 to 1,000,000,000
+  pub slot-inside : Inside (inSlot x slot)
+  unfolding weightBack
+  slot-inside = let (i, t) = taken-entry in record { mass = t .inside; double = rw (t .its-value) (ofBits-fits binary64 (clearZero (entryOf s i .value))) }

@@ -17,7 +17,7 @@ use Rattle.weight_store.specs.Entries.{entryCount, entryOf}
 use Rattle.laws.specs.First.{firstIndex, first-agree, first-none}
 use Rattle.weight_store.specs.Refusals.{refusal2Store, entryRefusal, refused, firstRefused, disagree, disagreesEarlier, firstDisagreeing}
 use Rattle.weights.specs.Answers.{weightsOf, passedAnswer}
-use Rattle.weight_laws.specs.Same.{Alike, alike, alike-sym}
+use Rattle.weight_laws.specs.Same.{SameEntry, same-entry, same-entry-sym}
 use Rattle.weight_laws.specs.Stores.{passes-too, looked-up, same-records}
 
 -- the 15 bytes of record i
@@ -31,24 +31,24 @@ withCopy s i = s ++ recordBytes s i
 -- ---- records of equal bytes are equal
 
 module _ (s t : List ℕ) (i j : ℕ) (h : (k : ℕ) → k < 15 → getD t (15 * j + k) 0 ≡ getD s (15 * i + k) 0) where
-  field-same : (o w : ℕ) → o + w ≤ 120 → fieldAt t (120 * j + o) w ≡ fieldAt s (120 * i + o) w
+  field-bytes : (o w : ℕ) → o + w ≤ 120 → fieldAt t (120 * j + o) w ≡ fieldAt s (120 * i + o) w
   unfolding fieldAt bitAt
-  field-same o zero l = refl
-  field-same o (suc w) l =
+  field-bytes o zero l = refl
+  field-bytes o (suc w) l =
       let a : (120 * j + o + w) / 8 ≡ 15 * j + (o + w) / 8 = omega arith in
       let b : (120 * i + o + w) / 8 ≡ 15 * i + (o + w) / 8 = omega arith in
       let c : (120 * j + o + w) % 8 ≡ (120 * i + o + w) % 8 = omega arith in
-      rw (field-same o w (omega arith), a, b, c, h ((o + w) / 8) (omega arith))
+      rw (field-bytes o w (omega arith), a, b, c, h ((o + w) / 8) (omega arith))
 
-  entry-same : entryOf t j ≡ entryOf s i
+  entry-bytes : entryOf t j ≡ entryOf s i
   unfolding entryOf
-  entry-same =
-      rw (field-same 0 8 (omega arith), field-same 8 32 (omega arith), field-same 40 16 (omega arith), field-same 56 64 (omega arith))
+  entry-bytes =
+      rw (field-bytes 0 8 (omega arith), field-bytes 8 32 (omega arith), field-bytes 40 16 (omega arith), field-bytes 56 64 (omega arith))
 
 -- ---- one record more, which changes none of the others
 
 module _ (s r : List ℕ) (n i : ℕ) (whole : length s ≡ 15 * n) (few : n < 256) (l : i < n) (one : length r ≡ 15)
-    (same : Alike (entryOf (s ++ r) n) (entryOf s i)) where
+    (same : SameEntry (entryOf (s ++ r) n) (entryOf s i)) where
   abbrev t : List ℕ
   t = s ++ r
 
@@ -64,7 +64,7 @@ module _ (s r : List ℕ) (n i : ℕ) (whole : length s ≡ 15 * n) (few : n < 2
   records-t = omega (arith, length-t)
 
   kept : (j : ℕ) → j < n → entryOf t j ≡ entryOf s j
-  kept j lj = entry-same s t j j (λ k lk. List·getD-append s r 0 (15 * j + k) (omega arith))
+  kept j lj = entry-bytes s t j j (λ k lk. List·getD-append s r 0 (15 * j + k) (omega arith))
 
   refusal-kept : (j : ℕ) → j < n → entryRefusal t j ≡ entryRefusal s j
   unfolding entryRefusal refusal2Store
@@ -118,20 +118,20 @@ module _ (s r : List ℕ) (n i : ℕ) (whole : length s ≡ 15 * n) (few : n < 2
         same-records s t
         (record { passed = rw records-s passed; agreed = rw records-s agreed })
         (rw records-t length-t) (rw records-t (omega arith))
-        (record { at = λ j lj. let m : j < n = rw records-s at lj in (j, rw records-t (omega arith), alike (kept j m)) })
+        (record { at = λ j lj. let m : j < n = rw records-s at lj in (j, rw records-t (omega arith), same-entry (kept j m)) })
         (record {
           at = λ j lj.
               let m : j < n + 1 = rw records-t at lj in
               ⊎-elim
-              (λ (q : j ≡ n). (i, rw records-s l, alike-sym (rw q same)))
-              (λ (q : j ≡ n → ⊥). (j, rw records-s (omega arith), alike (sym (kept j (omega arith)))))
+              (λ (q : j ≡ n). (i, rw records-s l, same-entry-sym (rw q same)))
+              (λ (q : j ≡ n → ⊥). (j, rw records-s (omega arith), same-entry (sym (kept j (omega arith)))))
               (same? j n);
         })
         day
 
-  pub repeated : (day : ℕ) → weightsOf t day ≡ weightsOf s day
+  pub repeated-harmless : (day : ℕ) → weightsOf t day ≡ weightsOf s day
   unfolding firstRefused firstDisagreeing
-  repeated day =
+  repeated-harmless day =
       ⊎-elim
       (λ (u : ltb (firstRefused s) n ≡ true). refused-first day u)
       (λ (u : ltb (firstRefused s) n ≡ false).
@@ -143,10 +143,10 @@ module _ (s r : List ℕ) (n i : ℕ) (whole : length s ≡ 15 * n) (few : n < 2
       (which (ltb (firstRefused s) n))
 
 -- a copy of record i
-pub copy : (s : List ℕ) (n i : ℕ) → length s ≡ 15 * n → n < 256 → i < n → (day : ℕ) → weightsOf (withCopy s i) day ≡ weightsOf s day
-copy s n i whole few l day =
+pub copy-harmless : (s : List ℕ) (n i : ℕ) → length s ≡ 15 * n → n < 256 → i < n → (day : ℕ) → weightsOf (withCopy s i) day ≡ weightsOf s day
+copy-harmless s n i whole few l day =
     let bytes : length (recordBytes s i) ≡ 15 = simp (length-take, length-drop) (omega arith) in
-    repeated s (recordBytes s i) n i whole few l bytes
-    (alike (entry-same s (withCopy s i) i n (λ k lk.
+    repeated-harmless s (recordBytes s i) n i whole few l bytes
+    (same-entry (entry-bytes s (withCopy s i) i n (λ k lk.
     rw (← whole) (getD-append-add s (recordBytes s i) k 0) ∙ getD-take 15 (drop (15 * i) s) k 0 lk ∙ getD-drop (15 * i) s k 0)))
     day

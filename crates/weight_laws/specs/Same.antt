@@ -19,25 +19,25 @@ use Rattle.weights.specs.Answers.{sixOf, lookUp, passedAnswer}
 use Rattle.weight_laws.specs.Value.{same-self, same-sym, same-cong, same-back}
 
 -- "A record repeated with an equal value"
-pub record Alike (a b : Entry) : Type 0 where
+pub record SameEntry (a b : Entry) : Type 0 where
   pub setting : a .setting ≡ b .setting
   pub start : a .start ≡ b .start
   pub issue : a .issue ≡ b .issue
   pub value : sameValue (a .value) (b .value) ≡ true
 
-pub alike : {a b : Entry} → a ≡ b → Alike a b
-alike {a} {b} e = record { setting = rw e; start = rw e; issue = rw e; value = rw e (same-self (b .value)) }
+pub same-entry : {a b : Entry} → a ≡ b → SameEntry a b
+same-entry {a} {b} e = record { setting = rw e; start = rw e; issue = rw e; value = rw e (same-self (b .value)) }
 
-pub alike-sym : {a b : Entry} → Alike a b → Alike b a
-alike-sym {a} {b} h =
+pub same-entry-sym : {a b : Entry} → SameEntry a b → SameEntry b a
+same-entry-sym {a} {b} h =
     record { setting = sym (h .setting); start = sym (h .start); issue = sym (h .issue); value = same-sym (b .value) (a .value) ∙ h .value }
 
 -- each of n records e is among m records f
-pub record Within (n : ℕ) (e : ℕ → Entry) (m : ℕ) (f : ℕ → Entry) : Type 0 where
-  pub at : (i : ℕ) → i < n → (j : ℕ) × (j < m) × Alike (f j) (e i)
+pub record Among (n : ℕ) (e : ℕ → Entry) (m : ℕ) (f : ℕ → Entry) : Type 0 where
+  pub at : (i : ℕ) → i < n → (j : ℕ) × (j < m) × SameEntry (f j) (e i)
 
 -- no two of n records disagree
-pub record Agree (n : ℕ) (e : ℕ → Entry) : Type 0 where
+pub record NoneDisagree (n : ℕ) (e : ℕ → Entry) : Type 0 where
   pub agree : (i j : ℕ) → i < n → j < n → disagree (e i) (e j) ≡ false
 
 -- ---- two records
@@ -64,18 +64,18 @@ agree-value a b h p q r =
     let g : not (sameValue (a .value) (b .value)) ≡ false = rw (eq-eqb _ _ p, eq-eqb _ _ q, eq-eqb _ _ r) at h in same-back (a .value) (b .value) (not-false _ g)
 
 -- records that are alike serve alike
-started-alike : (day slot : ℕ) {a b : Entry} → Alike a b → started day slot a ≡ started day slot b
+started-alike : (day slot : ℕ) {a b : Entry} → SameEntry a b → started day slot a ≡ started day slot b
 unfolding started
 started-alike day slot h = rw (h .setting, h .start)
 
-differ-alike : (a b c d : Entry) → Alike a c → Alike b d → disagree a b ≡ disagree c d
+differ-alike : (a b c d : Entry) → SameEntry a c → SameEntry b d → disagree a b ≡ disagree c d
 unfolding disagree
 differ-alike a b c d h k =
     rw (h .setting, h .start, h .issue, k .setting, k .start, k .issue, same-cong (a .value) (b .value) (c .value) (d .value) (h .value) (k .value))
 
 -- ---- none disagreesEarlier with an earlier one where no two disagree
 
-pub agreed : (n : ℕ) (e : ℕ → Entry) → any (disagreesEarlier e) n ≡ false → Agree n e
+pub agreed : (n : ℕ) (e : ℕ → Entry) → any (disagreesEarlier e) n ≡ false → NoneDisagree n e
 unfolding disagreesEarlier
 agreed n e h = record {
   agree = λ i j li lj.
@@ -92,21 +92,21 @@ agreed n e h = record {
     earlier : (i j : ℕ) → j < n → i < j → disagree (e i) (e j) ≡ false
     earlier i j lj l = any-none (λ k. disagree (e k) (e j)) j (any-none (disagreesEarlier e) n h j lj) i l
 
-pub agree-none : (n : ℕ) (e : ℕ → Entry) → Agree n e → any (disagreesEarlier e) n ≡ false
+pub agree-none : (n : ℕ) (e : ℕ → Entry) → NoneDisagree n e → any (disagreesEarlier e) n ≡ false
 unfolding disagreesEarlier
 agree-none n e g = none-any (disagreesEarlier e) n (λ j lj. none-any (λ k. disagree (e k) (e j)) j (λ i l. g .agree i j (omega arith) lj))
 
 -- ---- the same records
 
-any-within : (day slot : ℕ) {n m : ℕ} {e f : ℕ → Entry} → Within n e m f
+any-within : (day slot : ℕ) {n m : ℕ} {e f : ℕ → Entry} → Among n e m f
     → any (λ i. started day slot (e i)) n ≡ true → any (λ j. started day slot (f j)) m ≡ true
 any-within day slot {n} {m} {e} {f} w h =
     let (i, l, t) = any-some (λ i. started day slot (e i)) n h in
     let (j, lj, p) = w .at i l in
     any-at (λ j. started day slot (f j)) m j lj (started-alike day slot p ∙ t)
 
-module _ (n m : ℕ) (e f : ℕ → Entry) (there : Within n e m f) (back : Within m f n e) (g : Agree n e) where
-  agree-too : Agree m f
+module _ (n m : ℕ) (e f : ℕ → Entry) (there : Among n e m f) (back : Among m f n e) (g : NoneDisagree n e) where
+  agree-too : NoneDisagree m f
   agree-too = record {
     agree = λ i j li lj.
         let (a, la, p) = back .at i li in
