@@ -14,7 +14,7 @@ use Rattle.weight_store.specs.Entries.{entryCount, entryOf}
 use Rattle.weight_store.specs.Values.{clearZero, sameValue, weightBack}
 use Rattle.weight_store.specs.Refusals.{refusal2Store, refusal7Store, refusal8Store, refusal11Store, entryRefusal, refused, firstRefused, disagree, disagreesEarlier, firstDisagreeing}
 use Rattle.weights.specs.LookUp.{started, latest, taken, firstTaken, slotWeight, missing, firstMissing}
-use Rattle.weights.specs.Answers.{sixOf, lookUp, passedAnswer, weightsOf}
+use Rattle.weights.specs.Answers.{sixOf, lookUp, passedAnswer, weightsOf, lentWeights}
 
 -- one name that opens every definition from bytes to the answer
 unfoldable pub storing : ℕ
@@ -34,14 +34,34 @@ setting-nine : weightsOf (line 9 0 0 0 0 (0 ∷ [])) 7 ≡ Refused 8 0
 unfolding storing
 setting-nine = refl
 
+-- the second record has one byte
 short-second : weightsOf (line 0 0 0 0 0 (9 ∷ [])) 7 ≡ Refused 2 120
 unfolding storing
 short-second = refl
+
+-- a value above 1,000,000,000, and a NaN
+above : weightsOf (line 0 0 0 65 222 []) 7 ≡ Refused 11 0
+unfolding storing
+above = refl
+
+not-a-number : weightsOf (line 0 0 0 127 248 []) 7 ≡ Refused 11 0
+unfolding storing
+not-a-number = refl
 
 -- 1.0 and 2.0 under one setting, day and issue
 unlike : weightsOf (line 0 5 1 63 240 (line 0 5 1 64 0 [])) 7 ≡ Refused 17 120
 unfolding storing
 unlike = refl
+
+-- every record is tested by itself first
+unlike-and-above : weightsOf (line 0 5 1 63 240 (line 0 5 1 64 0 (line 0 0 0 65 222 []))) 7 ≡ Refused 11 240
+unfolding storing
+unlike-and-above = refl
+
+-- the first that disagrees with an earlier one is the third, with the second
+unlike-later : weightsOf (line 1 5 1 63 240 (line 0 5 1 63 240 (line 0 5 1 64 0 (line 1 5 1 64 0 [])))) 7 ≡ Refused 17 240
+unfolding storing
+unlike-later = refl
 
 -- zero and minus zero are equal here: what is missing is slot 1
 zeros : weightsOf (line 0 5 1 0 0 (line 0 5 1 128 0 [])) 7 ≡ Refused 18 1
@@ -75,3 +95,8 @@ highest-issue = refl
 latest-start : weightsOf corrected 9 ≡ Found (six 0x3fe0_0000_0000_0000)
 unfolding storing corrected six
 latest-start = refl
+
+-- a host that lends five places
+five-places : lentWeights corrected 9 5 ≡ Refused 1 0
+unfolding lentWeights
+five-places = refl
