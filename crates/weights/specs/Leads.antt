@@ -33,7 +33,7 @@ module _ (n : ℕ) (e : ℕ → Entry) (day slot : ℕ) where
 
   pub latest-started : (i : ℕ) → latest n e day slot i ≡ true → st i ≡ true
   unfolding latest
-  latest-started i h = both-left (st i) (not (any (λ j. st j && ltb (e i .start) (e j .start)) n)) h
+  latest-started i h = both-left (st i) _ h
 
   pub latest-most : (i : ℕ) → latest n e day slot i ≡ true → (j : ℕ) → j < n → st j ≡ true → e j .start ≤ e i .start
   unfolding latest
@@ -53,7 +53,7 @@ module _ (n : ℕ) (e : ℕ → Entry) (day slot : ℕ) where
 
   pub taken-latest : (i : ℕ) → taken n e day slot i ≡ true → latest n e day slot i ≡ true
   unfolding taken
-  taken-latest i h = both-left (latest n e day slot i) (not (any (λ j. latest n e day slot j && ltb (e i .issue) (e j .issue)) n)) h
+  taken-latest i h = both-left (latest n e day slot i) _ h
 
   pub taken-most : (i : ℕ) → taken n e day slot i ≡ true → (j : ℕ) → j < n → latest n e day slot j ≡ true → e j .issue ≤ e i .issue
   unfolding taken
