@@ -4,9 +4,10 @@
 //!     rustc -O --edition 2021 -o target/make-stores tools/vectors/stores.rs
 //!     target/make-stores > crates/replay_stores/stdin
 //!
-//! It writes cases to standard output, numbers most significant byte first: the store's length in 2 bytes and its bytes, the day (4 bytes), a strategy's
-//! code (1), the refusal's number (1), 0 for none, its offset (4), and the 8 bytes of each of the six weights as a policy record of the strategy takes
-//! them, all zero where the store is refused. The same cases come out each time; how many of each number there are goes to standard error.
+//! It writes cases to standard output, numbers most significant byte first: the store's length in 2 bytes and its bytes, the day (4 bytes), a
+//! strategy's code (1), the refusal's number (1), 0 for none, its offset (4), and the 8 bytes of each of the six weights as a policy record of the
+//! strategy takes them, all zero where the store is refused. The same cases come out each time; how many of each number there are goes to standard
+//! error.
 
 use std::collections::BTreeMap;
 use std::io::Write;

@@ -71,7 +71,8 @@ unfolding firstIndex
 first-cong p q n h = rw (any-cong p q n h, nth-cong p q n 0 h)
 
 -- the first that passes one test is the first that passes another, where they agree up to it
-pub first-agree : (p q : ℕ → Bool) (n m : ℕ) → firstIndex p n < n → firstIndex p n < m → ((k : ℕ) → k ≤ firstIndex p n → q k ≡ p k) → firstIndex q m ≡ firstIndex p n
+pub first-agree : (p q : ℕ → Bool) (n m : ℕ) → firstIndex p n < n → firstIndex p n < m → ((k : ℕ) → k ≤ firstIndex p n → q k ≡ p k)
+    → firstIndex q m ≡ firstIndex p n
 first-agree p q n m l lm h =
     let f = first-is p n in
     first-at q m (firstIndex p n) lm

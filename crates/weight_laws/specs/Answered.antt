@@ -116,4 +116,6 @@ module _ (s : List ℕ) (day : ℕ) (x : SixWeights) (h : weightsOf s day ≡ Fo
   -- it is a double from 0 to 1,000,000,000
   pub slot-inside : Inside (inSlot x slot)
   unfolding weightBack
-  slot-inside = let (i, t) = taken-entry in record { mass = t .inside; double = rw (t .its-value) (ofBits-fits binary64 (clearZero (entryOf s i .value))) }
+  slot-inside =
+      let (i, t) = taken-entry in
+      record { mass = t .inside; double = rw (t .its-value) (ofBits-fits binary64 (clearZero (entryOf s i .value))) }

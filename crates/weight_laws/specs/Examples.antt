@@ -4,6 +4,7 @@ use mathlib.Core.Path.{_≡_, refl}
 use mathlib.Core.List.{List, [], _∷_}
 use lib.Ieee.{ofBits, binary64, lt, le, eq}
 use Rattle.laws.specs.Folds.{any, nth, count}
+use Rattle.fp.specs.Num as Num
 use Rattle.fp.specs.Ranges.{isMass}
 use Rattle.bits.specs.Field.{bitAt, fieldAt}
 use Rattle.layout.specs.Verdict.{pick, firstOf}
@@ -12,7 +13,8 @@ use Rattle.weights.specs.declared.answer.Weights.the-variants.{Found, Refused}
 use Rattle.laws.specs.First.{firstIndex}
 use Rattle.weight_store.specs.Entries.{entryCount, entryOf}
 use Rattle.weight_store.specs.Values.{clearZero, sameValue, weightBack}
-use Rattle.weight_store.specs.Refusals.{refusal2Store, refusal7Store, refusal8Store, refusal11Store, entryRefusal, refused, firstRefused, disagree, disagreesEarlier, firstDisagreeing}
+use Rattle.weight_store.specs.Refusals.{refusal2Store, refusal7Store, refusal8Store, refusal11Store, entryRefusal, refused, firstRefused}
+use Rattle.weight_store.specs.Refusals.{disagree, disagreesEarlier, firstDisagreeing}
 use Rattle.weights.specs.LookUp.{started, latest, taken, firstTaken, slotWeight, missing, firstMissing}
 use Rattle.weights.specs.Answers.{sixOf, lookUp, passedAnswer, weightsOf, lentWeights}
 
@@ -82,7 +84,7 @@ corrected =
     [])))))))
 
 six : ℕ → SixWeights
-six b = record { w0 = ofBits binary64 b; w1 = ofBits binary64 0; w2 = ofBits binary64 0; w3 = ofBits binary64 0; w4 = ofBits binary64 0; w5 = ofBits binary64 0 }
+six b = record { w0 = ofBits binary64 b; w1 = Num.zero; w2 = Num.zero; w3 = Num.zero; w4 = Num.zero; w5 = Num.zero }
 
 before-all : weightsOf corrected 4 ≡ Refused 18 0
 unfolding storing corrected

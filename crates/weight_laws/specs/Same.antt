@@ -42,9 +42,9 @@ pub record NoneDisagree (n : ℕ) (e : ℕ → Entry) : Type 0 where
 
 -- ---- two records
 
-differ-self : (a : Entry) → disagree a a ≡ false
+disagree-self : (a : Entry) → disagree a a ≡ false
 unfolding disagree
-differ-self a =
+disagree-self a =
     rw (
       eq-eqb (a .setting) (a .setting) refl,
       eq-eqb (a .start) (a .start) refl,
@@ -52,25 +52,27 @@ differ-self a =
       same-self (a .value),
     )
 
-differ-sym : (a b : Entry) → disagree a b ≡ disagree b a
+disagree-sym : (a b : Entry) → disagree a b ≡ disagree b a
 unfolding disagree
-differ-sym a b =
+disagree-sym a b =
     rw (eqb-comm (a .setting) (b .setting), eqb-comm (a .start) (b .start), eqb-comm (a .issue) (b .issue), same-sym (a .value) (b .value))
 
 -- what agrees in the rest agrees in value
-agree-value : (a b : Entry) → disagree a b ≡ false → a .setting ≡ b .setting → a .start ≡ b .start → a .issue ≡ b .issue → weightBack (a .value) ≡ weightBack (b .value)
+agree-value : (a b : Entry) → disagree a b ≡ false → a .setting ≡ b .setting → a .start ≡ b .start → a .issue ≡ b .issue
+    → weightBack (a .value) ≡ weightBack (b .value)
 unfolding disagree
 agree-value a b h p q r =
-    let g : not (sameValue (a .value) (b .value)) ≡ false = rw (eq-eqb _ _ p, eq-eqb _ _ q, eq-eqb _ _ r) at h in same-back (a .value) (b .value) (not-false _ g)
+    let g : not (sameValue (a .value) (b .value)) ≡ false = rw (eq-eqb _ _ p, eq-eqb _ _ q, eq-eqb _ _ r) at h in
+    same-back (a .value) (b .value) (not-false _ g)
 
 -- records that are alike serve alike
-started-alike : (day slot : ℕ) {a b : Entry} → SameEntry a b → started day slot a ≡ started day slot b
+started-same : (day slot : ℕ) {a b : Entry} → SameEntry a b → started day slot a ≡ started day slot b
 unfolding started
-started-alike day slot h = rw (h .setting, h .start)
+started-same day slot h = rw (h .setting, h .start)
 
-differ-alike : (a b c d : Entry) → SameEntry a c → SameEntry b d → disagree a b ≡ disagree c d
+disagree-same : (a b c d : Entry) → SameEntry a c → SameEntry b d → disagree a b ≡ disagree c d
 unfolding disagree
-differ-alike a b c d h k =
+disagree-same a b c d h k =
     rw (h .setting, h .start, h .issue, k .setting, k .start, k .issue, same-cong (a .value) (b .value) (c .value) (d .value) (h .value) (k .value))
 
 -- ---- none disagreesEarlier with an earlier one where no two disagree
@@ -83,8 +85,8 @@ agreed n e h = record {
       (λ (l : i < j). earlier i j lj l)
       (λ (g : j ≤ i).
       ⊎-elim
-      (λ (q : j ≡ i). rw q (differ-self (e i)))
-      (λ q. differ-sym (e i) (e j) ∙ earlier j i li (omega arith))
+      (λ (q : j ≡ i). rw q (disagree-self (e i)))
+      (λ q. disagree-sym (e i) (e j) ∙ earlier j i li (omega arith))
       (same? j i))
       (less? i j);
 }
@@ -103,7 +105,7 @@ any-within : (day slot : ℕ) {n m : ℕ} {e f : ℕ → Entry} → Among n e m 
 any-within day slot {n} {m} {e} {f} w h =
     let (i, l, t) = any-some (λ i. started day slot (e i)) n h in
     let (j, lj, p) = w .at i l in
-    any-at (λ j. started day slot (f j)) m j lj (started-alike day slot p ∙ t)
+    any-at (λ j. started day slot (f j)) m j lj (started-same day slot p ∙ t)
 
 module _ (n m : ℕ) (e f : ℕ → Entry) (there : Among n e m f) (back : Among m f n e) (g : NoneDisagree n e) where
   agree-too : NoneDisagree m f
@@ -111,7 +113,7 @@ module _ (n m : ℕ) (e f : ℕ → Entry) (there : Among n e m f) (back : Among
     agree = λ i j li lj.
         let (a, la, p) = back .at i li in
         let (b, lb, q) = back .at j lj in
-        sym (differ-alike (e a) (e b) (f i) (f j) p q) ∙ g .agree a b la lb;
+        sym (disagree-same (e a) (e b) (f i) (f j) p q) ∙ g .agree a b la lb;
   }
 
   module _ (day : ℕ) where
@@ -133,9 +135,9 @@ module _ (n m : ℕ) (e f : ℕ → Entry) (there : Among n e m f) (back : Among
           let ti = taken-started n e day k i (t .is-it) in
           let tj = taken-started m f day k j (u .is-it) in
           let one : (e j′ .start < e i .start) ⊎ ((e j′ .start ≡ e i .start) × (e j′ .issue ≤ e i .issue)) =
-          taken-top n e day k i (t .is-it) j′ lj (started-alike day k q ∙ tj) in
+          taken-top n e day k i (t .is-it) j′ lj (started-same day k q ∙ tj) in
           let two : (f i′ .start < f j .start) ⊎ ((f i′ .start ≡ f j .start) × (f i′ .issue ≤ f j .issue)) =
-          taken-top m f day k j (u .is-it) i′ li (started-alike day k p ∙ ti) in
+          taken-top m f day k j (u .is-it) i′ li (started-same day k p ∙ ti) in
           let ke = eqb-true (e i .setting) k (both-left (eqb (e i .setting) k) (leb (e i .start) day) ti) in
           let kf = eqb-true (f j .setting) k (both-left (eqb (f j .setting) k) (leb (f j .start) day) tj) in
           let both = level (e i .start) (e i .issue) (f j .start) (f j .issue) (rw (q .start, q .issue) at one) (rw (p .start, p .issue) at two) in

@@ -98,7 +98,8 @@ cleared-self : (b : ℕ) → (b ≡ 0x8000_0000_0000_0000 → ⊥) → clearZero
 unfolding clearZero
 cleared-self b h = rw (ne-eqb b 0x8000_0000_0000_0000 h)
 
-zeros-equal : (a b : ℕ) → (a ≡ 0) ⊎ (a ≡ 0x8000_0000_0000_0000) → (b ≡ 0) ⊎ (b ≡ 0x8000_0000_0000_0000) → eq (ofBits binary64 a) (ofBits binary64 b) ≡ true
+zeros-equal : (a b : ℕ) → (a ≡ 0) ⊎ (a ≡ 0x8000_0000_0000_0000) → (b ≡ 0) ⊎ (b ≡ 0x8000_0000_0000_0000)
+    → eq (ofBits binary64 a) (ofBits binary64 b) ≡ true
 unfolding eq ofBits
 zeros-equal a b (inl p) (inl q) = rw (p, q)
 zeros-equal a b (inl p) (inr q) = rw (p, q)

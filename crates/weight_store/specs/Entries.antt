@@ -1,5 +1,5 @@
--- The store's records. Request F-1: "a bit-packed store of up to 256 records, most significant first: setting 8 bits (0 to 5, the weight slots), start
--- day 32, issue 16, value 64". The store has no head: record i is the 120 bits from bit 120 × i. Assumes nothing.
+-- The store's records. Request F-1: "a bit-packed store of up to 256 records, most significant first: setting 8 bits (0 to 5, the weight slots),
+-- start day 32, issue 16, value 64". The store has no head: record i is the 120 bits from bit 120 × i. Assumes nothing.
 use Prim.Native.Nat.{ℕ, _+_, _-_, _*_, _/_, _^_, _<_}
 use mathlib.Core.Path.{_≡_, refl}
 use mathlib.Core.Bool.{true}
