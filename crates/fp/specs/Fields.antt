@@ -3,10 +3,11 @@ use Prim.Native.Nat.{ℕ, zero, suc, _+_, _*_, _/_, _%_, _^_, _≤_, _<_}
 use native.Mathlib.Nat.{mul-one, mod-eq-of-lt}
 use native.Mathlib.Omega.{arith}
 use mathlib.Core.Path.{_≡_, refl, sym, _∙_, subst}
-use mathlib.Core.Bool.{Bool, true, false}
+use mathlib.Core.Bool.{Bool, true, false, not, true≢false}
 use lib.Dec.{T, leb}
-use lib.Ieee.{Float, binary64, odd, fits, ofFields, ofBits, toBits}
+use lib.Ieee.{Float, nan, inf, fin, binary64, odd, fits, isNan, ne, ofFields, ofBits, toBits}
 use lib.Ieee.Bits.{ofBits-toBits}
+use lib.Ieee.Compare.{nan-differs}
 use lib.Ieee.Exact.{HasValue, odd-sign}
 use borrow.Author.Tests.{le-leb, lt-leb, ne-eqb}
 
@@ -21,6 +22,13 @@ signOne = 0x8000_0000_0000_0000
 abbrev pub inUnits : ℕ → ℕ → ℕ
 inUnits zero t = t
 inUnits (suc x) t = (fieldOne + t) * 2 ^ x
+
+-- a double that equals itself is no NaN, so its bits are settled
+pub not-nan : (x : Float) → ne x x ≡ false → T (not (isNan x))
+unfolding isNan
+not-nan nan e = absurd (true≢false (sym nan-differs ∙ e))
+not-nan (inf s) e = tt
+not-nan (fin s m d) e = tt
 
 pub fields-value : (s : Bool) (x t : ℕ) → x < 2047 → HasValue (ofFields binary64 s x t) s (inUnits x t) (2 ^ 1074)
 unfolding ofFields

@@ -14,7 +14,7 @@ use lib.Ieee.Fits.{up-pos, down-pos}
 use lib.Ieee.Nearest.{div-same}
 use lib.Ieee.Bits.{ofBits-toBits}
 use borrow.Author.Tests.{ltb-true, ltb-false, lt-ltb, le-ltb, eqb-true, eq-eqb, ne-eqb}
-use Rattle.laws.specs.Bools.{which, never, not-both, same?, less?, either, either-right, both-left, both-right}
+use Rattle.laws.specs.Bools.{which, never, not-both, same?, less?, either, either-right, both-left, both-right, eqb-comm}
 use Rattle.fp.specs.Num as Num
 use Rattle.fp.specs.Num.{finite, abs}
 
@@ -212,9 +212,6 @@ either-way a b =
     (λ n. rw (le-ltb a b l, ne-eqb a b n, lt-ltb b a (omega arith)))
     (same? a b))
     (less? a b)
-
-eqb-comm : (a b : ℕ) → eqb a b ≡ eqb b a
-eqb-comm a b = ⊎-elim (λ (e : a ≡ b). rw (eq-eqb a b e, eq-eqb b a (sym e))) (λ n. rw (ne-eqb a b n, ne-eqb b a (λ e. n (sym e)))) (same? a b)
 
 below-level : (s : Bool) (a : ℕ) (t : Bool) (b : ℕ) → (below s a t b || level s a t b) ≡ not (below t b s a)
 below-level false a false b = rw (and-true (eqb a b)) (either-way a b)

@@ -5,7 +5,7 @@ use mathlib.Core.Logic.{_⊎_, inl, inr, ⊎-elim, _≢_}
 use Prim.Native.Nat.{ℕ, _+_, _≤_, _<_, min, max}
 use native.Mathlib.Omega.{arith}
 use lib.Dec.{eqb, ltb}
-use borrow.Author.Tests.{eqb-true, eqb-false, ne-eqb, ltb-true, ltb-false}
+use borrow.Author.Tests.{eqb-true, eqb-false, eq-eqb, ne-eqb, ltb-true, ltb-false}
 
 -- 1 for true, 0 for false
 abbrev pub bit : Bool → ℕ
@@ -80,6 +80,23 @@ pub neither-right : (a b : Bool) → (a || b) ≡ false → b ≡ false
 neither-right true b h = never (sym h)
 neither-right false b h = h
 
+-- the second of two tests, where not both hold
+pub and-none : (a b : Bool) → (a ≡ true → b ≡ false) → (a && b) ≡ false
+and-none true b f = f refl
+and-none false b f = refl
+
+pub and-rest : (a b : Bool) → (a && b) ≡ false → a ≡ true → b ≡ false
+and-rest true b h t = h
+and-rest false b h t = never t
+
+pub not-of : {b : Bool} → b ≡ false → not b ≡ true
+not-of h = rw h
+
+-- what cannot hold does not
+pub contrary : (b : Bool) → (b ≡ true → ⊥) → b ≡ false
+contrary true f = absurd (f refl)
+contrary false f = refl
+
 -- what is false is not true
 pub not-both : {a : Bool} → a ≡ true → a ≡ false → ⊥
 not-both p q = true≢false (sym p ∙ q)
@@ -108,3 +125,6 @@ same? a b = ⊎-elim (λ e. inl (eqb-true a b e)) (λ e. inr (eqb-false a b e)) 
 -- the one is below the other, or not
 pub less? : (a b : ℕ) → (a < b) ⊎ (b ≤ a)
 less? a b = ⊎-elim (λ e. inl (ltb-true a b e)) (λ e. inr (ltb-false a b e)) (which (ltb a b))
+
+pub eqb-comm : (a b : ℕ) → eqb a b ≡ eqb b a
+eqb-comm a b = same-test (eqb a b) (eqb b a) (λ t. eq-eqb b a (sym (eqb-true a b t))) (λ t. eq-eqb a b (sym (eqb-true b a t)))

@@ -2,6 +2,7 @@
 pub mod Bools
 pub mod Folds
 pub mod Counts
+pub mod First
 pub mod Sums
 pub mod Tables
 pub mod Collected

@@ -1,14 +1,12 @@
 -- What the proved functions answer of a pair is the sheet's rank. Assumes nothing.
 use Prim.Native.Nat.{ℕ, zero, suc, _*_, _<_}
 use mathlib.Core.Path.{_≡_, sym, ap, _∙_}
-use mathlib.Core.Bool.{Bool, true, false, not, true≢false}
+use mathlib.Core.Bool.{Bool, true, false, not}
 use mathlib.Core.List.{List}
 use native.Mathlib.Nat.{mul-zero}
 use native.Mathlib.Omega.{arith}
-use lib.Dec.{T}
 use lib.ListN.{getD}
-use lib.Ieee.{Float, nan, inf, fin, binary64, eq, ne, isNan, toBits}
-use lib.Ieee.Compare.{nan-differs}
+use lib.Ieee.{Float, nan, binary64, eq, toBits}
 use Rattle.laws.specs.Bools.{bit}
 use Rattle.fp.specs.Num as num
 use Rattle.components.specs.Sheet.{Sheet}
@@ -48,12 +46,6 @@ bits-zero x e = rw e
 pub bits-else : (x : Float) → eq x num.zero ≡ false → toBits binary64 x ≡ bitsOf x
 unfolding bitsOf
 bits-else x e = rw e
-
-pub not-nan : (x : Float) → ne x x ≡ false → T (not (isNan x))
-unfolding isNan
-not-nan nan e = absurd (true≢false (sym nan-differs ∙ e))
-not-nan (inf s) e = tt
-not-nan (fin s m d) e = tt
 
 -- ---- the list
 

@@ -10,11 +10,10 @@ use mathlib.Core.Logic.{inl, inr}
 use mathlib.Core.Bool.{Bool, true, false, not, cond, true≢false}
 use lib.Dec.{T, eqb, lit<, lit≤}
 use lib.Pow.{pow-add, pow-pos, pow-mono, pow-lt}
-use lib.Ieee.{Float, nan, inf, fin, binary64, up, down, odd, fits, isNan, ne, ofFields, toBits}
+use lib.Ieee.{Float, nan, inf, fin, binary64, up, down, odd, fits, isNan, ofFields, toBits}
 use lib.Ieee.Fits.{down-pos}
 use lib.Ieee.Bits.{ofBits-toBits}
 use lib.Ieee.Exact.{HasValue}
-use lib.Ieee.Compare.{nan-differs}
 use lib.Ieee.Nearest.{div-same}
 use Rattle.fp.specs.Fields.{fieldOne, signOne, inUnits, ofBits-clear, ofBits-set, bits-value}
 use Rattle.scale.specs.Scale.{whole, ceiling}
@@ -162,12 +161,6 @@ module _ (y : Float) (ok : T (fits binary64 y)) where
         sym (ap whole z ∙ endless _ (subst (λ (v : Float). T (not (isNan v))) z n))
     | inr l ↦ sym (big y _ _ (pow-pos 1074) (bits-value y ok h l) (big-units _ _ k))
   ]
-
-pub not-nan : (y : Float) → ne y y ≡ false → T (not (isNan y))
-unfolding isNan
-not-nan nan e = absurd (true≢false (sym nan-differs ∙ e))
-not-nan (inf s) e = tt
-not-nan (fin s m c) e = tt
 
 pub half-small : (x : ℕ) → 1022 ≤ x → (1 * 2 ^ (1075 - x - 1)) % 18446744073709551616 < 2 ^ 53
 half-small x h = lt-of-le-of-lt (mod-le _ _) (subst (λ (n : ℕ). n < 2 ^ 53) (sym (one-mul _)) (pow-lt {j = 53} (omega arith)))

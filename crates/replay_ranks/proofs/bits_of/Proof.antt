@@ -1,7 +1,8 @@
 -- replay_ranks::bits_of meets its contract.
 use denote.Floats.{passes}
 use lib.Ieee.Compare.{differs-from-itself}
-use Rattle.replay_ranks.specs.RankLaws.{bits-nan, bits-zero, bits-else, not-nan}
+use Rattle.fp.specs.Fields.{not-nan}
+use Rattle.replay_ranks.specs.RankLaws.{bits-nan, bits-zero, bits-else}
 use Rattle.replay_ranks.proofs.bits_of.Statement.{statement}
 use Rattle.replay_ranks.proofs.bits_of.Tie as tie
 

@@ -6,7 +6,8 @@ use lib.Ieee.Compare.{differs-from-itself}
 use denote.Floats.{passes}
 use borrow.Author.Needs.{needs}
 use Rattle.scale.specs.Scale.{whole}
-use Rattle.scale.proofs.Rounding.{way-set, way-small, way-middle, way-big, not-nan, half-small}
+use Rattle.fp.specs.Fields.{not-nan}
+use Rattle.scale.proofs.Rounding.{way-set, way-small, way-middle, way-big, half-small}
 use Rattle.scale.proofs.whole.Statement.{statement}
 use Rattle.scale.proofs.whole.Tie as tie
 

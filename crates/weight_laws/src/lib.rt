@@ -1,0 +1,1 @@
+// Theorems about the store of weights; no code.

@@ -1,0 +1,79 @@
+-- What a record that passes is. Assumes nothing.
+use Prim.Native.Nat.{ℕ, _+_, _*_, _≤_, _<_}
+use mathlib.Core.Path.{_≡_, refl}
+use mathlib.Core.Bool.{Bool, true, false}
+use mathlib.Core.List.{List, [], _∷_}
+use mathlib.Core.Logic.{⊎-elim}
+use native.Mathlib.Omega.{arith}
+use lib.Dec.{ltb}
+use lib.Ieee.{ofBits, binary64}
+use lib.ListN.{length}
+use borrow.Author.Tests.{eqb-true, ltb-true, ltb-false, leb-false, lt-ltb, le-ltb, lt-leb, not-false}
+use Rattle.laws.specs.Bools.{same-test, less?}
+use Rattle.laws.specs.Folds.{any-none}
+use Rattle.laws.specs.First.{firstIndex, first-is}
+use Rattle.fp.specs.Ranges.{isMass}
+use Rattle.layout.specs.Verdict.{Rule, pick, firstOf}
+use Rattle.weight_store.specs.Entries.{entryCount, entryOf}
+use Rattle.weight_store.specs.Refusals.{refusal2Store, refusal7Store, refusal8Store, refusal11Store, entryRefusal, refused, firstRefused}
+
+-- cut short, in bytes
+pub short-bytes : (s : List ℕ) (i : ℕ) → ltb (length s) (15 * i + 15) ≡ refusal2Store s i
+unfolding refusal2Store
+short-bytes s i =
+    same-test _ _
+    (λ h. let l = ltb-true (length s) (15 * i + 15) h in lt-ltb (8 * length s) (120 * i + 120) (omega arith))
+    (λ h. let l = ltb-true (8 * length s) (120 * i + 120) h in lt-ltb (length s) (15 * i + 15) (omega arith))
+
+pub record Passed (s : List ℕ) (i : ℕ) : Type 0 where
+  pub whole : 15 * i + 15 ≤ length s
+  pub few : i ≤ 255
+  pub slot : entryOf s i .setting ≤ 5
+  pub inside : isMass (ofBits binary64 (entryOf s i .value)) ≡ true
+
+-- none of the rules' numbers
+none-holds : (a b c d : Bool) → firstOf ((2, a) ∷ (7, b) ∷ (8, c) ∷ (11, d) ∷ []) ≡ 0 → (a ≡ false) × (b ≡ false) × (c ≡ false) × (d ≡ false)
+unfolding firstOf pick
+none-holds true b c d h = absurd (omega arith)
+none-holds false true c d h = absurd (omega arith)
+none-holds false false true d h = absurd (omega arith)
+none-holds false false false true h = absurd (omega arith)
+none-holds false false false false h = (refl, refl, refl, refl)
+
+pub passed : (s : List ℕ) (i : ℕ) → refused s i ≡ false → Passed s i
+unfolding refused entryRefusal refusal2Store refusal7Store refusal8Store refusal11Store
+passed s i h =
+    let (a, b, c, d) =
+    none-holds (refusal2Store s i) (refusal7Store i) (refusal8Store (entryOf s i)) (refusal11Store (entryOf s i)) (eqb-true _ _ (not-false _ h)) in
+    record {
+      whole = omega (arith, ltb-false (8 * length s) (120 * i + 120) a);
+      few = omega (arith, leb-false 256 i b);
+      slot = ltb-false 5 (entryOf s i .setting) c;
+      inside = not-false _ d;
+    }
+
+pub is-passed : (s : List ℕ) (i : ℕ) → Passed s i → refused s i ≡ false
+unfolding refused entryRefusal firstOf pick refusal2Store refusal7Store refusal8Store refusal11Store
+is-passed s i h =
+    rw (
+      le-ltb (8 * length s) (120 * i + 120) (omega (arith, h .whole)),
+      lt-leb 256 i (omega (arith, h .few)),
+      le-ltb 5 (entryOf s i .setting) (h .slot),
+      h .inside,
+    )
+
+-- no more than 256 pass before the first that is refused
+pub refused-few : (s : List ℕ) → firstRefused s ≤ 256
+unfolding firstRefused
+refused-few s =
+    let n = firstIndex (refused s) (entryCount s) in
+    ⊎-elim
+    (λ (l : 256 < n).
+    absurd (omega (arith, passed s 256 (any-none (refused s) n (first-is (refused s) (entryCount s) .none-before) 256 l) .few)))
+    (λ (l : n ≤ 256). l)
+    (less? 256 n)
+
+-- where the first that is refused is past the last, all pass
+pub refused-none : (s : List ℕ) (n : ℕ) → n ≡ firstRefused s → ltb n (entryCount s) ≡ false → entryCount s ≡ n
+unfolding firstRefused
+refused-none s n e h = let w = first-is (refused s) (entryCount s) .within in omega (arith, ltb-false n (entryCount s) h)
