@@ -21,17 +21,17 @@ use Rattle.laws.specs.First.{first-none}
 use Rattle.weights.specs.Leads.{takes, taken-started, taken-top}
 use Rattle.weights.specs.LookUp.{started, missing, firstTaken, slotWeight, firstMissing}
 use Rattle.weight_store.specs.Passed.{passed}
-use Rattle.weight_store.specs.Refusals.{refused, firstRefused, disagreesEarlier, firstDisagreeing}
+use Rattle.weight_store.specs.Refusals.{entryRefused, firstRefused, disagreesEarlier, firstDisagreeing}
 use Rattle.weight_store.specs.Values.{clearZero, weightBack}
 use Rattle.weights.specs.Answers.{sixOf, lookUp, passedAnswer, weightsOf}
 use Rattle.weight_laws.specs.Value.{back-inside}
 
 -- every record passes, and none disagrees with an earlier one
 pub record AcceptedStore (s : List ℕ) : Type 0 where
-  pub passed : any (refused s) (entryCount s) ≡ false
+  pub passed : any (entryRefused s) (entryCount s) ≡ false
   pub agreed : any (disagreesEarlier (entryOf s)) (entryCount s) ≡ false
 
-pub record Answered (s : List ℕ) (day : ℕ) (x : SixWeights) : Type 0 where
+pub record AnsweredStore (s : List ℕ) (day : ℕ) (x : SixWeights) : Type 0 where
   pub accepted : AcceptedStore s
   pub complete : any (missing (entryCount s) (entryOf s) day) 6 ≡ false
   pub six : sixOf (entryCount s) (entryOf s) day ≡ x
@@ -43,12 +43,12 @@ three false true c m n p q r t y x h = absurd (let z : _≡_ {A = ℕ} 0 1 = cc 
 three false false true m n p q r t y x h = absurd (let z : _≡_ {A = ℕ} 0 1 = cc in omega arith)
 three false false false m n p q r t y x h = (refl, refl, refl, cc)
 
-pub answered : (s : List ℕ) (day : ℕ) (x : SixWeights) → weightsOf s day ≡ Found x → Answered s day x
+pub answered : (s : List ℕ) (day : ℕ) (x : SixWeights) → weightsOf s day ≡ Found x → AnsweredStore s day x
 unfolding weightsOf passedAnswer lookUp firstRefused firstDisagreeing firstMissing
 answered s day x h =
     let (a, b, c, y) = three _ _ _ _ _ _ _ _ _ _ x h in
     record {
-      accepted = record { passed = first-none (refused s) (entryCount s) a; agreed = first-none (disagreesEarlier (entryOf s)) (entryCount s) b };
+      accepted = record { passed = first-none (entryRefused s) (entryCount s) a; agreed = first-none (disagreesEarlier (entryOf s)) (entryCount s) b };
       complete = first-none (missing (entryCount s) (entryOf s) day) 6 c;
       six = y;
     }
@@ -87,7 +87,7 @@ pub record TakenEntry (s : List ℕ) (day slot : ℕ) (w : Float) (i : ℕ) : Ty
       → (entryOf s j .start < entryOf s i .start) ⊎ ((entryOf s j .start ≡ entryOf s i .start) × (entryOf s j .issue ≤ entryOf s i .issue))
 
 -- a double in the weights' range
-pub record Inside (w : Float) : Type 0 where
+pub record InRange (w : Float) : Type 0 where
   pub mass : isMass w ≡ true
   pub double : T (fits binary64 w)
 
@@ -108,13 +108,13 @@ module _ (s : List ℕ) (day : ℕ) (x : SixWeights) (h : weightsOf s day ≡ Fo
           its-slot = eqb-true _ _ (both-left (eqb (e i .setting) slot) (leb (e i .start) day) st);
           not-after = leb-true _ _ (both-right (eqb (e i .setting) slot) (leb (e i .start) day) st);
           its-value = w;
-          inside = rw w (back-inside (e i .value) ∙ passed s i (any-none (refused s) n (a .accepted .passed) i (t .below)) .inside);
+          inside = rw w (back-inside (e i .value) ∙ passed s i (any-none (entryRefused s) n (a .accepted .passed) i (t .below)) .inside);
           top = λ j lj p q. taken-top n e day slot i (t .is-it) j lj (both (eq-eqb _ _ p) (le-leb _ _ q));
         },
       )
 
   -- it is a double from 0 to 1,000,000,000
-  pub slot-inside : Inside (inSlot x slot)
+  pub slot-inside : InRange (inSlot x slot)
   unfolding weightBack
   slot-inside =
       let (i, t) = taken-entry in

@@ -13,7 +13,7 @@ use Rattle.bits.specs.Field.{field-take}
 use Rattle.layout.specs.Verdict.{pick, firstOf}
 use Rattle.weight_store.specs.Entries.{entryCount, entryOf}
 use Rattle.laws.specs.First.{firstIndex, first-agree, first-le}
-use Rattle.weight_store.specs.Refusals.{refusal2Store, refusal7Store, entryRefusal, refused, firstRefused}
+use Rattle.weight_store.specs.Refusals.{refusal2Store, refusal7Store, entryRefusal, entryRefused, firstRefused}
 use Rattle.weights.specs.Answers.{weightsOf}
 
 module _ (s : List ℕ) (more : 3855 ≤ length s) where
@@ -38,13 +38,13 @@ module _ (s : List ℕ) (more : 3855 ≤ length s) where
   refusal-kept i l =
       rw (le-ltb (8 * length t) (120 * i + 120) (omega (arith, length-t)), le-ltb (8 * length s) (120 * i + 120) (omega arith), entry-kept i l)
 
-  refused-kept : (i : ℕ) → i ≤ 256 → refused t i ≡ refused s i
-  unfolding refused
+  refused-kept : (i : ℕ) → i ≤ 256 → entryRefused t i ≡ entryRefused s i
+  unfolding entryRefused
   refused-kept i l = rw (refusal-kept i l)
 
   -- the 257th is refused
-  refused-last : refused s 256 ≡ true
-  unfolding refused entryRefusal firstOf pick refusal2Store refusal7Store
+  refused-last : entryRefused s 256 ≡ true
+  unfolding entryRefused entryRefusal firstOf pick refusal2Store refusal7Store
   refused-last = rw (le-ltb (8 * length s) 30840 (omega arith))
 
   enough : 256 < entryCount s
@@ -58,14 +58,14 @@ module _ (s : List ℕ) (more : 3855 ≤ length s) where
   long : (day : ℕ) → weightsOf t day ≡ weightsOf s day
   unfolding weightsOf firstRefused
   long day =
-      let b : firstIndex (refused s) (entryCount s) ≤ 256 = first-le (refused s) (entryCount s) 256 enough refused-last in
-      let e : firstIndex (refused t) (entryCount t) ≡ firstIndex (refused s) (entryCount s) =
-      first-agree (refused s) (refused t) (entryCount s) (entryCount t) (omega (arith, enough)) (omega (arith, enough-t)) (λ k l. refused-kept k (omega arith)) in
+      let b : firstIndex (entryRefused s) (entryCount s) ≤ 256 = first-le (entryRefused s) (entryCount s) 256 enough refused-last in
+      let e : firstIndex (entryRefused t) (entryCount t) ≡ firstIndex (entryRefused s) (entryCount s) =
+      first-agree (entryRefused s) (entryRefused t) (entryCount s) (entryCount t) (omega (arith, enough)) (omega (arith, enough-t)) (λ k l. refused-kept k (omega arith)) in
       rw (
         e,
-        lt-ltb (firstIndex (refused s) (entryCount s)) (entryCount t) (omega (arith, enough-t)),
-        lt-ltb (firstIndex (refused s) (entryCount s)) (entryCount s) (omega (arith, enough)),
-        refusal-kept (firstIndex (refused s) (entryCount s)) b,
+        lt-ltb (firstIndex (entryRefused s) (entryCount s)) (entryCount t) (omega (arith, enough-t)),
+        lt-ltb (firstIndex (entryRefused s) (entryCount s)) (entryCount s) (omega (arith, enough)),
+        refusal-kept (firstIndex (entryRefused s) (entryCount s)) b,
       )
 
 pub first-bytes : (s : List ℕ) (day : ℕ) → weightsOf (take 3855 s) day ≡ weightsOf s day

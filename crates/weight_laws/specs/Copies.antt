@@ -15,7 +15,7 @@ use Rattle.laws.specs.Folds.{any, any-none, none-any, any-cong}
 use Rattle.bits.specs.Field.{fieldAt, bitAt}
 use Rattle.weight_store.specs.Entries.{entryCount, entryOf}
 use Rattle.laws.specs.First.{firstIndex, first-agree, first-none}
-use Rattle.weight_store.specs.Refusals.{refusal2Store, entryRefusal, refused, firstRefused, disagree, disagreesEarlier, firstDisagreeing}
+use Rattle.weight_store.specs.Refusals.{refusal2Store, entryRefusal, entryRefused, firstRefused, disagree, disagreesEarlier, firstDisagreeing}
 use Rattle.weights.specs.Answers.{weightsOf, passedAnswer}
 use Rattle.weight_laws.specs.Same.{SameEntry, same-entry, same-entry-sym}
 use Rattle.weight_laws.specs.Stores.{passes-too, looked-up, same-records}
@@ -71,8 +71,8 @@ module _ (s r : List ℕ) (n i : ℕ) (whole : length s ≡ 15 * n) (few : n < 2
   refusal-kept j lj =
       rw (le-ltb (8 * length t) (120 * j + 120) (omega (arith, length-t)), le-ltb (8 * length s) (120 * j + 120) (omega arith), kept j lj)
 
-  refused-kept : (j : ℕ) → j < n → refused t j ≡ refused s j
-  unfolding refused
+  refused-kept : (j : ℕ) → j < n → entryRefused t j ≡ entryRefused s j
+  unfolding entryRefused
   refused-kept j lj = rw (refusal-kept j lj)
 
   disagrees-kept : (j : ℕ) → j < n → disagreesEarlier (entryOf t) j ≡ disagreesEarlier (entryOf s) j
@@ -87,19 +87,19 @@ module _ (s r : List ℕ) (n i : ℕ) (whole : length s ≡ 15 * n) (few : n < 2
   refused-first : (day : ℕ) → ltb (firstRefused s) n ≡ true → weightsOf t day ≡ weightsOf s day
   unfolding weightsOf firstRefused
   refused-first day u =
-      let u′ : ltb (firstIndex (refused s) n) n ≡ true = rw records-s at u in
-      let e : firstIndex (refused t) (n + 1) ≡ firstIndex (refused s) n = first-kept (refused s) (refused t) refused-kept u′ in
-      let m = ltb-true (firstIndex (refused s) n) n u′ in
-      rw (records-t, records-s, e, lt-ltb (firstIndex (refused s) n) (n + 1) (omega arith), u′, refusal-kept (firstIndex (refused s) n) m)
+      let u′ : ltb (firstIndex (entryRefused s) n) n ≡ true = rw records-s at u in
+      let e : firstIndex (entryRefused t) (n + 1) ≡ firstIndex (entryRefused s) n = first-kept (entryRefused s) (entryRefused t) refused-kept u′ in
+      let m = ltb-true (firstIndex (entryRefused s) n) n u′ in
+      rw (records-t, records-s, e, lt-ltb (firstIndex (entryRefused s) n) (n + 1) (omega arith), u′, refusal-kept (firstIndex (entryRefused s) n) m)
 
-  module _ (passed : any (refused s) n ≡ false) where
-    passed-t : any (refused t) (n + 1) ≡ false
+  module _ (passed : any (entryRefused s) n ≡ false) where
+    passed-t : any (entryRefused t) (n + 1) ≡ false
     passed-t =
-        none-any (refused t) (n + 1) (λ j lj.
+        none-any (entryRefused t) (n + 1) (λ j lj.
         ⊎-elim
         (λ (q : j ≡ n).
-        rw q (passes-too s t i n (any-none (refused s) n passed i l) same (omega (arith, length-t)) (omega arith)))
-        (λ q. refused-kept j (omega arith) ∙ any-none (refused s) n passed j (omega arith))
+        rw q (passes-too s t i n (any-none (entryRefused s) n passed i l) same (omega (arith, length-t)) (omega arith)))
+        (λ q. refused-kept j (omega arith) ∙ any-none (entryRefused s) n passed j (omega arith))
         (same? j n))
 
     -- two records disagree: the same in both
@@ -135,7 +135,7 @@ module _ (s r : List ℕ) (n i : ℕ) (whole : length s ≡ 15 * n) (few : n < 2
       ⊎-elim
       (λ (u : ltb (firstRefused s) n ≡ true). refused-first day u)
       (λ (u : ltb (firstRefused s) n ≡ false).
-      let passed : any (refused s) n ≡ false = first-none (refused s) n (rw records-s at u) in
+      let passed : any (entryRefused s) n ≡ false = first-none (entryRefused s) n (rw records-s at u) in
       ⊎-elim
       (λ (v : ltb (firstDisagreeing n (entryOf s)) n ≡ true). disagree-first passed day v)
       (λ (v : ltb (firstDisagreeing n (entryOf s)) n ≡ false). accepted-both passed day (first-none (disagreesEarlier (entryOf s)) n v))

@@ -13,14 +13,14 @@ use Rattle.weights.specs.declared.answer.Weights.the-variants.{Found, Refused}
 use Rattle.laws.specs.First.{firstIndex}
 use Rattle.weight_store.specs.Entries.{entryCount, entryOf}
 use Rattle.weight_store.specs.Values.{clearZero, sameValue, weightBack}
-use Rattle.weight_store.specs.Refusals.{refusal2Store, refusal7Store, refusal8Store, refusal11Store, entryRefusal, refused, firstRefused}
+use Rattle.weight_store.specs.Refusals.{refusal2Store, refusal7Store, refusal8Store, refusal11Store, entryRefusal, entryRefused, firstRefused}
 use Rattle.weight_store.specs.Refusals.{disagree, disagreesEarlier, firstDisagreeing}
 use Rattle.weights.specs.LookUp.{started, latest, taken, firstTaken, slotWeight, missing, firstMissing}
 use Rattle.weights.specs.Answers.{sixOf, lookUp, passedAnswer, weightsOf, lentWeights}
 
 -- one name that opens every definition from bytes to the answer
 unfoldable pub storing : ℕ
-unfolding ofBits lt le eq any nth count isMass bitAt fieldAt pick firstOf firstIndex entryCount entryOf clearZero sameValue weightBack refusal2Store refusal7Store refusal8Store refusal11Store entryRefusal refused firstRefused disagree disagreesEarlier firstDisagreeing started latest taken firstTaken slotWeight missing firstMissing sixOf lookUp passedAnswer weightsOf
+unfolding ofBits lt le eq any nth count isMass bitAt fieldAt pick firstOf firstIndex entryCount entryOf clearZero sameValue weightBack refusal2Store refusal7Store refusal8Store refusal11Store entryRefusal entryRefused firstRefused disagree disagreesEarlier firstDisagreeing started latest taken firstTaken slotWeight missing firstMissing sixOf lookUp passedAnswer weightsOf
 storing = 0
 
 -- a record with a start below 256, an issue below 256, and a value by its first two bytes

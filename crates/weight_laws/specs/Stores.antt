@@ -15,32 +15,32 @@ use Rattle.fp.specs.Ranges.{isMass}
 use Rattle.weight_store.specs.Entries.{entryCount, entryOf, issue-lt}
 use Rattle.laws.specs.First.{none-first}
 use Rattle.weight_store.specs.Passed.{passed, is-passed}
-use Rattle.weight_store.specs.Refusals.{refused, firstRefused}
+use Rattle.weight_store.specs.Refusals.{entryRefused, firstRefused}
 use Rattle.weights.specs.Answers.{weightsOf, passedAnswer}
 use Rattle.weight_laws.specs.Answered.{AcceptedStore}
 use Rattle.weight_laws.specs.Value.{same-inside}
 use Rattle.weight_laws.specs.Same.{SameEntry, same-entry, same-entry-sym, Among, agreed, look-up-same}
 
 -- a record of t passes that is whole, is one of the first 256 and is like one of s that passes
-pub passes-too : (s t : List ℕ) (i j : ℕ) → refused s i ≡ false → SameEntry (entryOf t j) (entryOf s i) → 15 * j + 15 ≤ length t → j ≤ 255
-    → refused t j ≡ false
+pub passes-too : (s t : List ℕ) (i j : ℕ) → entryRefused s i ≡ false → SameEntry (entryOf t j) (entryOf s i) → 15 * j + 15 ≤ length t → j ≤ 255
+    → entryRefused t j ≡ false
 passes-too s t i j h e w l =
     let p = passed s i h in
     is-passed t j (record { whole = w; few = l; slot = rw (e .setting) (p .slot); inside = same-inside _ _ (e .value) ∙ p .inside })
 
 -- an accepted store as the look-up sees it
-pub looked-up : (s : List ℕ) (day : ℕ) → any (refused s) (entryCount s) ≡ false → weightsOf s day ≡ passedAnswer (entryCount s) (entryOf s) day
+pub looked-up : (s : List ℕ) (day : ℕ) → any (entryRefused s) (entryCount s) ≡ false → weightsOf s day ≡ passedAnswer (entryCount s) (entryOf s) day
 unfolding weightsOf firstRefused
-looked-up s day h = rw (none-first (refused s) (entryCount s) h)
+looked-up s day h = rw (none-first (entryRefused s) (entryCount s) h)
 
 module _ (s t : List ℕ) (ok : AcceptedStore s) (whole : length t ≡ 15 * entryCount t) (few : entryCount t ≤ 256)
     (there : Among (entryCount s) (entryOf s) (entryCount t) (entryOf t)) (back : Among (entryCount t) (entryOf t) (entryCount s) (entryOf s)) where
   pub same-records : (day : ℕ) → weightsOf t day ≡ weightsOf s day
   same-records day =
-      let passed : any (refused t) (entryCount t) ≡ false =
-      none-any (refused t) (entryCount t) (λ j l.
+      let passed : any (entryRefused t) (entryCount t) ≡ false =
+      none-any (entryRefused t) (entryCount t) (λ j l.
       let (i, li, p) = back .at j l in
-      passes-too s t i j (any-none (refused s) (entryCount s) (ok .passed) i li) (same-entry-sym p) (omega arith) (omega arith)) in
+      passes-too s t i j (any-none (entryRefused s) (entryCount s) (ok .passed) i li) (same-entry-sym p) (omega arith) (omega arith)) in
       looked-up t day passed
       ∙ sym (look-up-same (entryCount s) (entryCount t) (entryOf s) (entryOf t) there back (agreed (entryCount s) (entryOf s) (ok .agreed)) day (issue-lt s) (issue-lt t))
       ∙ sym (looked-up s day (ok .passed))
@@ -49,7 +49,7 @@ module _ (s t : List ℕ) (ok : AcceptedStore s) (whole : length t ≡ 15 * entr
 pub accepted-few : (s : List ℕ) → AcceptedStore s → entryCount s ≤ 256
 accepted-few s ok =
     ⊎-elim
-    (λ (l : 256 < entryCount s). absurd (omega (arith, passed s 256 (any-none (refused s) (entryCount s) (ok .passed) 256 l) .few)))
+    (λ (l : 256 < entryCount s). absurd (omega (arith, passed s 256 (any-none (entryRefused s) (entryCount s) (ok .passed) 256 l) .few)))
     (λ (l : entryCount s ≤ 256). l)
     (less? 256 (entryCount s))
 

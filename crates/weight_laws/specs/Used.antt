@@ -21,7 +21,7 @@ use Rattle.layout.specs.Refusals.{strategyAt, unusedWeights, refusal8Policy, re
 use Rattle.weights.specs.declared.answer.SixWeights.{SixWeights}
 use Rattle.weights.specs.declared.answer.Weights.the-variants.{Found}
 use Rattle.weights.specs.Answers.{weightsOf, usedBy}
-use Rattle.weight_laws.specs.Answered.{Inside, slot-inside}
+use Rattle.weight_laws.specs.Answered.{InRange, slot-inside}
 
 -- the weights of a policy record are these six
 pub record TakesSix (f : Fields) (x : SixWeights) : Type 0 where
@@ -34,21 +34,21 @@ pub record TakesSix (f : Fields) (x : SixWeights) : Type 0 where
 
 -- ---- 11
 
-zero-inside : Inside Num.zero
+zero-inside : InRange Num.zero
 unfolding isMass le lt eq ofBits fits
 zero-inside = record { mass = refl; double = tt }
 
-back : (y : Float) → Inside y → isMass (ofBits binary64 (toBits binary64 y)) ≡ true
+back : (y : Float) → InRange y → isMass (ofBits binary64 (toBits binary64 y)) ≡ true
 back y h = rw (ofBits-toBits binary64 y (h .double)) (h .mass)
 
 -- each of the six is a double of the range
 record AllInside (x : SixWeights) : Type 0 where
-  pub w0 : Inside (x .w0)
-  pub w1 : Inside (x .w1)
-  pub w2 : Inside (x .w2)
-  pub w3 : Inside (x .w3)
-  pub w4 : Inside (x .w4)
-  pub w5 : Inside (x .w5)
+  pub w0 : InRange (x .w0)
+  pub w1 : InRange (x .w1)
+  pub w2 : InRange (x .w2)
+  pub w3 : InRange (x .w3)
+  pub w4 : InRange (x .w4)
+  pub w5 : InRange (x .w5)
 
 none-inside : AllInside (record { w0 = Num.zero; w1 = Num.zero; w2 = Num.zero; w3 = Num.zero; w4 = Num.zero; w5 = Num.zero })
 none-inside = record { w0 = zero-inside; w1 = zero-inside; w2 = zero-inside; w3 = zero-inside; w4 = zero-inside; w5 = zero-inside }

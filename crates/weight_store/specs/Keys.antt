@@ -17,7 +17,7 @@ use Rattle.layout.specs.Table.{Field, field}
 use Rattle.layout.specs.Records.{from, read}
 use Rattle.layout.specs.Verdict.{firstOf}
 use Rattle.weight_store.specs.Entries.{Entry, entry·value, entryLength, entryOf, entryCount}
-use Rattle.weight_store.specs.Refusals.{entryRules, entryRefusal, refused, disagree}
+use Rattle.weight_store.specs.Refusals.{entryRules, entryRefusal, entryRefused, disagree}
 use Rattle.weight_store.specs.Values.{sameValue}
 
 -- setting, start and issue are a record's first 56 bits
@@ -73,12 +73,12 @@ module _ (s : List ℕ) (i : ℕ) {k v r : ℕ} (key : k ≡ keyOf s i) (value :
   unfolding entryRefusal
   number-read = rw (← unpacked-entry s i, ← key, ← value) is
 
-  pub read-refused : (r ≡ 0 → ⊥) → refused s i ≡ true
-  unfolding refused
+  pub read-refused : (r ≡ 0 → ⊥) → entryRefused s i ≡ true
+  unfolding entryRefused
   read-refused h = rw (← number-read, ne-eqb r 0 h)
 
-  pub read-passed : r ≡ 0 → refused s i ≡ false
-  unfolding refused
+  pub read-passed : r ≡ 0 → entryRefused s i ≡ false
+  unfolding entryRefused
   read-passed h = rw (← number-read, eq-eqb r 0 h)
 
 -- two records that agree in setting, day and issue have one key

@@ -15,7 +15,7 @@ use Rattle.laws.specs.First.{firstIndex, first-is}
 use Rattle.fp.specs.Ranges.{isMass}
 use Rattle.layout.specs.Verdict.{Rule, pick, firstOf}
 use Rattle.weight_store.specs.Entries.{entryCount, entryOf}
-use Rattle.weight_store.specs.Refusals.{refusal2Store, refusal7Store, refusal8Store, refusal11Store, entryRefusal, refused, firstRefused}
+use Rattle.weight_store.specs.Refusals.{refusal2Store, refusal7Store, refusal8Store, refusal11Store, entryRefusal, entryRefused, firstRefused}
 
 -- cut short, in bytes
 pub short-bytes : (s : List ℕ) (i : ℕ) → ltb (length s) (15 * i + 15) ≡ refusal2Store s i
@@ -25,7 +25,7 @@ short-bytes s i =
     (λ h. let l = ltb-true (length s) (15 * i + 15) h in lt-ltb (8 * length s) (120 * i + 120) (omega arith))
     (λ h. let l = ltb-true (8 * length s) (120 * i + 120) h in lt-ltb (length s) (15 * i + 15) (omega arith))
 
-pub record Passed (s : List ℕ) (i : ℕ) : Type 0 where
+pub record PassedEntry (s : List ℕ) (i : ℕ) : Type 0 where
   pub whole : 15 * i + 15 ≤ length s
   pub few : i ≤ 255
   pub slot : entryOf s i .setting ≤ 5
@@ -40,8 +40,8 @@ none-holds false false true d h = absurd (omega arith)
 none-holds false false false true h = absurd (omega arith)
 none-holds false false false false h = (refl, refl, refl, refl)
 
-pub passed : (s : List ℕ) (i : ℕ) → refused s i ≡ false → Passed s i
-unfolding refused entryRefusal refusal2Store refusal7Store refusal8Store refusal11Store
+pub passed : (s : List ℕ) (i : ℕ) → entryRefused s i ≡ false → PassedEntry s i
+unfolding entryRefused entryRefusal refusal2Store refusal7Store refusal8Store refusal11Store
 passed s i h =
     let (a, b, c, d) =
     none-holds (refusal2Store s i) (refusal7Store i) (refusal8Store (entryOf s i)) (refusal11Store (entryOf s i)) (eqb-true _ _ (not-false _ h)) in
@@ -52,8 +52,8 @@ passed s i h =
       inside = not-false _ d;
     }
 
-pub is-passed : (s : List ℕ) (i : ℕ) → Passed s i → refused s i ≡ false
-unfolding refused entryRefusal firstOf pick refusal2Store refusal7Store refusal8Store refusal11Store
+pub is-passed : (s : List ℕ) (i : ℕ) → PassedEntry s i → entryRefused s i ≡ false
+unfolding entryRefused entryRefusal firstOf pick refusal2Store refusal7Store refusal8Store refusal11Store
 is-passed s i h =
     rw (
       le-ltb (8 * length s) (120 * i + 120) (omega (arith, h .whole)),
@@ -66,14 +66,14 @@ is-passed s i h =
 pub refused-few : (s : List ℕ) → firstRefused s ≤ 256
 unfolding firstRefused
 refused-few s =
-    let n = firstIndex (refused s) (entryCount s) in
+    let n = firstIndex (entryRefused s) (entryCount s) in
     ⊎-elim
     (λ (l : 256 < n).
-    absurd (omega (arith, passed s 256 (any-none (refused s) n (first-is (refused s) (entryCount s) .none-before) 256 l) .few)))
+    absurd (omega (arith, passed s 256 (any-none (entryRefused s) n (first-is (entryRefused s) (entryCount s) .none-before) 256 l) .few)))
     (λ (l : n ≤ 256). l)
     (less? 256 n)
 
 -- where the first that is refused is past the last, all pass
 pub refused-none : (s : List ℕ) (n : ℕ) → n ≡ firstRefused s → ltb n (entryCount s) ≡ false → entryCount s ≡ n
 unfolding firstRefused
-refused-none s n e h = let w = first-is (refused s) (entryCount s) .within in omega (arith, ltb-false n (entryCount s) h)
+refused-none s n e h = let w = first-is (entryRefused s) (entryCount s) .within in omega (arith, ltb-false n (entryCount s) h)

@@ -38,12 +38,12 @@ entryRules s i e = (2, refusal2Store s i) ∷ (7, refusal7Store i) ∷ (8, refus
 unfoldable pub entryRefusal : List ℕ → ℕ → ℕ
 entryRefusal s i = firstOf (entryRules s i (entryOf s i))
 
-unfoldable pub refused : List ℕ → ℕ → Bool
-refused s i = not (eqb (entryRefusal s i) 0)
+unfoldable pub entryRefused : List ℕ → ℕ → Bool
+entryRefused s i = not (eqb (entryRefusal s i) 0)
 
 -- "Record by record": the first that is refused, as many as there are where none is
 unfoldable pub firstRefused : List ℕ → ℕ
-firstRefused s = firstIndex (refused s) (entryCount s)
+firstRefused s = firstIndex (entryRefused s) (entryCount s)
 
 -- ---- of two, among n records e
 

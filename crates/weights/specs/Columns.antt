@@ -9,7 +9,7 @@ use lib.ListN.{getD}
 use borrow.Author.Tests.{eqb-true, eq-eqb, leb-true, le-leb}
 use Rattle.laws.specs.Bools.{same-test, both, both-left, both-right}
 use Rattle.weight_store.specs.Keys.{unpacked, heldEntry, unpacked-key}
-use Rattle.weights.specs.Leads.{leads, better}
+use Rattle.weights.specs.Leads.{leads, betterEntry}
 use Rattle.weights.specs.LookUp.{started}
 
 -- a key of the slot that has started by the day: from the slot's first key to the day's last
@@ -40,8 +40,8 @@ started-key day slot k v d =
     both (le-leb (slot * 2 ^ 48) k (omega arith)) (le-leb k (slot * 2 ^ 48 + day * 2 ^ 16 + 65535) (omega arith)))
 
 pub better-key : (n : ℕ) (keys values : List ℕ) (day slot best i : ℕ) → day < 2 ^ 32
-    → betterKey n keys day slot best i ≡ better n (heldEntry keys values) day slot best i
-unfolding betterKey leadsKey better leads heldEntry
+    → betterKey n keys day slot best i ≡ betterEntry n (heldEntry keys values) day slot best i
+unfolding betterKey leadsKey betterEntry leads heldEntry
 better-key n keys values day slot best i d =
     rw (
       ← started-key day slot (getD keys i 0) (getD values i 0) d,

@@ -18,8 +18,8 @@ unfoldable pub leads : ℕ → (ℕ → Entry) → ℕ → Entry → Bool
 leads n e best a = eqb best n || ltb (entryKey (e best)) (entryKey a)
 
 -- the better of the best so far and record i
-unfoldable pub better : ℕ → (ℕ → Entry) → ℕ → ℕ → ℕ → ℕ → ℕ
-better n e day slot best i = cond (started day slot (e i) && leads n e best (e i)) i best
+unfoldable pub betterEntry : ℕ → (ℕ → Entry) → ℕ → ℕ → ℕ → ℕ → ℕ
+betterEntry n e day slot best i = cond (started day slot (e i) && leads n e best (e i)) i best
 
 module _ (n : ℕ) (e : ℕ → Entry) (day slot : ℕ) where
   abbrev st : ℕ → Bool
@@ -160,8 +160,8 @@ module _ (n : ℕ) (e : ℕ → Entry) (day slot : ℕ) where
   best-le i b l (inl (none, is)) = omega arith
   best-le i b l (inr g) = omega (arith, g .below)
 
-  pub best-step : (i b : ℕ) → i < n → Best i b → Best (i + 1) (better n e day slot b i)
-  unfolding better
+  pub best-step : (i b : ℕ) → i < n → Best i b → Best (i + 1) (betterEntry n e day slot b i)
+  unfolding betterEntry
   best-step i b l h =
       ⊎-elim
       (λ (t : (st i && leads n e b (e i)) ≡ true). rw t (best-over i b l t h))
@@ -191,7 +191,7 @@ module _ (n : ℕ) (e : ℕ → Entry) (day slot : ℕ) where
     best-of zero l = (n, best-none)
     best-of (suc i) l =
         let (b, h) = best-of i (omega arith) in
-        let q : i + 1 ≡ suc i = omega arith in (better n e day slot b i, rw q at (best-step i b (omega arith) h))
+        let q : i + 1 ≡ suc i = omega arith in (betterEntry n e day slot b i, rw q at (best-step i b (omega arith) h))
 
     -- so a slot that has a started record takes one
     pub record Takes (b : ℕ) : Type 0 where

@@ -6,7 +6,7 @@ use Rattle.laws.specs.Tables.{tab, tab-next}
 use Rattle.weight_store.specs.Entries.{entryCount}
 use Rattle.weight_store.specs.Keys.{keyOf, valueOf, read-refused, read-passed}
 use Rattle.weight_store.specs.Passed.{passed}
-use Rattle.weight_store.specs.Refusals.{refused, firstRefused}
+use Rattle.weight_store.specs.Refusals.{entryRefused, firstRefused}
 use borrow.Author.Needs.{needs}
 use borrow.Author.Tests.{ltb-true, ltb-false}
 use lib.ListN.{length, drop, length-set}
@@ -21,7 +21,7 @@ abbrev Inv-loop : tie.InvT-loop
 Inv-loop s keys₀ values₀ i₀ keys values i =
     (i ≤ 256)
     × (i ≤ entryCount s)
-    × (false ≡ any (refused s) i)
+    × (false ≡ any (entryRefused s) i)
     × (length keys ≡ length keys₀)
     × (length values ≡ length values₀)
     × (keys ≡ tab (keyOf s) i ++ drop i keys₀)
@@ -39,7 +39,7 @@ unfolding firstRefused
 returns c =
     let a = c .before .before .before .before .before .before .before .before .before .before .args in
     let l = c .before .before .before .before .before .before .loop in (
-      sym (first-at (refused (a .s .now)) (entryCount (a .s .now)) (l .i) (ltb-true _ _ (sym (c .before .before .before .before .before .is-there .ensures) ∙ c .before .before .before .before .if1 .taken))
+      sym (first-at (entryRefused (a .s .now)) (entryCount (a .s .now)) (l .i) (ltb-true _ _ (sym (c .before .before .before .before .before .is-there .ensures) ∙ c .before .before .before .before .if1 .taken))
           (sym (l .inv .2)) (read-refused _ _ (c .before .before .before .key-at .ensures) (c .before .before .value-at .ensures) (c .before .refusal-of .ensures) (c .if2 .taken))),
       ((l .inv .3, l .inv .5), (l .inv .4, l .inv .6)),
     )
@@ -77,7 +77,7 @@ loop-again c =
     let few = passed s (l .i) out .few in (
       omega (arith, few),
       omega arith,
-      any-no (refused s) (l .i) out (l .inv .2),
+      any-no (entryRefused s) (l .i) out (l .inv .2),
       simp length-set (l .inv .3),
       simp length-set (l .inv .4),
       tab-next (keyOf s) (a .keys .now) (l .keys) (l .i) (c .before .before .before .key-at .result) (omega (arith, few, p .0)) (l .inv .5) (c .before .before .before .key-at .ensures),
@@ -92,7 +92,7 @@ returns-2 c =
     let s = a .s .now in
     let g : entryCount s ≤ l .i = ltb-false _ _ (sym (c .before .is-there .ensures) ∙ c .if1 .left) in
     let e : l .i ≡ entryCount s = omega (arith, l .inv .1) in (
-      e ∙ sym (first-end (refused s) (entryCount s) (rw (← e) (sym (l .inv .2)))),
+      e ∙ sym (first-end (entryRefused s) (entryCount s) (rw (← e) (sym (l .inv .2)))),
       ((l .inv .3, l .inv .5), (l .inv .4, l .inv .6)),
     )
 

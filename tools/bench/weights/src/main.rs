@@ -1,6 +1,7 @@
-//! `tools/library`, then `cargo run --release` here. The proved look-up of weights beside two plain ones in Rust, which do the same work: every record
-//! tested, disagreeing ones found, six slots looked up. All three are asked of the same stores in turns; the median of each one's times, and the ratio
-//! of the proved one's to the faster plain one's, are printed.
+//! `tools/library`, then `cargo run --release` here. The proved look-up of weights beside three plain ones in Rust, which do the same work: every record
+//! tested, disagreeing ones found, six slots looked up. One finds them pair by pair, as the proved one does, one by a sort, one by a table. All four
+//! are asked of the same stores in turns; the median of each one's times is printed, and the ratios of the proved one's to that by pairs and to the
+//! fastest of the three.
 
 mod plain;
 
@@ -70,10 +71,10 @@ fn median(mut times: Vec<f64>) -> f64 {
 
 type LookUp = fn(&[u8], u32) -> Result<[f64; 6], Refused>;
 
-/// The medians of the three, which take turns.
-fn times(store: &[u8]) -> [f64; 3] {
-    let look_ups: [LookUp; 3] = [proved, plain::by_sort, plain::by_table];
-    let mut times = [const { Vec::new() }; 3];
+/// The medians of the four, which take turns.
+fn times(store: &[u8]) -> [f64; 4] {
+    let look_ups: [LookUp; 4] = [proved, plain::by_pairs, plain::by_sort, plain::by_table];
+    let mut times = [const { Vec::new() }; 4];
     for _ in 0..ROUNDS {
         for (look_up, times) in look_ups.iter().zip(&mut times) {
             times.push(micros(20, || {
@@ -89,6 +90,7 @@ fn agree() {
     let is_same = |store: &[u8], day: u32| {
         let bits = |answer: Result<[f64; 6], Refused>| answer.map(|six| six.map(f64::to_bits));
         let wanted = bits(proved(store, day));
+        assert_eq!(bits(plain::by_pairs(store, day)), wanted);
         assert_eq!(bits(plain::by_sort(store, day)), wanted);
         assert_eq!(bits(plain::by_table(store, day)), wanted);
     };
@@ -103,8 +105,8 @@ fn agree() {
 fn main() {
     agree();
     println!(
-        "{:30}{:>11}{:>11}{:>11}{:>8}",
-        "store", "sort, us", "table, us", "proved, us", "ratio"
+        "{:30}{:>11}{:>11}{:>11}{:>12}{:>10}{:>12}",
+        "store", "pairs, us", "sort, us", "table, us", "proved, us", "to pairs", "to fastest"
     );
     for (name, store) in [
         ("6 records", corrected(6)),
@@ -113,8 +115,10 @@ fn main() {
         ("256 records, 6 repeated", repeated(256)),
         ("256 records, the last is 17", two_values(256)),
     ] {
-        let [proved, sort, table] = times(&store);
-        let ratio = proved / sort.min(table);
-        println!("{name:30}{sort:11.2}{table:11.2}{proved:11.2}{ratio:8.2}");
+        let [proved, pairs, sort, table] = times(&store);
+        let (to_pairs, to_fastest) = (proved / pairs, proved / pairs.min(sort).min(table));
+        println!(
+            "{name:30}{pairs:11.2}{sort:11.2}{table:11.2}{proved:12.2}{to_pairs:10.2}{to_fastest:12.2}"
+        );
     }
 }

@@ -1,5 +1,5 @@
-//! The look-up as it is usually written: every record is read and tested once, records that agree in setting, start and issue are found by a sort or
-//! by a table, and one walk keeps the best record of each slot.
+//! The look-up as it is usually written: every record is read and tested once, records that agree in setting, start and issue are found by comparing
+//! each with those before it, by a sort or by a table, and one walk keeps the best record of each slot.
 
 use std::collections::HashMap;
 
@@ -54,7 +54,14 @@ fn read(store: &[u8]) -> Result<Vec<Record>, Refused> {
     }
 }
 
-/// The first record that disagrees with an earlier one, by a sort of the keys.
+/// The first record that disagrees with an earlier one, pair by pair, as document 02 says it.
+fn disagreeing_by_pairs(records: &[Record]) -> Option<usize> {
+    let keys: Vec<u64> = records.iter().map(Record::key).collect();
+    (0..keys.len())
+        .find(|&j| (0..j).any(|i| keys[i] == keys[j] && records[i].value != records[j].value))
+}
+
+/// The same by a sort of the keys.
 fn disagreeing_by_sort(records: &[Record]) -> Option<usize> {
     let mut keys: Vec<(u64, usize)> = records
         .iter()
@@ -71,7 +78,7 @@ fn disagreeing_by_sort(records: &[Record]) -> Option<usize> {
     groups.filter_map(first).min()
 }
 
-/// The same by a table of what was seen.
+/// And by a table of what was seen.
 fn disagreeing_by_table(records: &[Record]) -> Option<usize> {
     let mut seen = HashMap::with_capacity(records.len());
     records
@@ -94,6 +101,14 @@ fn look_up(records: &[Record], day: u32) -> Result<[f64; 6], Refused> {
         six[slot] = record.ok_or((18, slot as u64))?.value + 0.0;
     }
     Ok(six)
+}
+
+pub fn by_pairs(store: &[u8], day: u32) -> Result<[f64; 6], Refused> {
+    let records = read(store)?;
+    match disagreeing_by_pairs(&records) {
+        Some(i) => Err((17, 120 * i as u64)),
+        None => look_up(&records, day),
+    }
 }
 
 pub fn by_sort(store: &[u8], day: u32) -> Result<[f64; 6], Refused> {
