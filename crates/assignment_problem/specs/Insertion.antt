@@ -220,8 +220,7 @@ module _ {n m t : ℕ} {c : ℕ → ℕ → ℕ} {ro u w se sl fr : ℕ → ℕ}
     from = fo;
     from-seen = fs;
     link = li;
-    seen-zero =
-        sz;
+    seen-zero = sz;
     earlier = ea;
     slack-le = le;
   }

@@ -104,7 +104,6 @@ near-misses =
     record {
       limit-after-line = (refl, refl, refl, refl, refl);
       covered-stops-count = refl;
-      sum-in-record-order =
-          refl;
+      sum-in-record-order = refl;
       covered-to-the-last = (refl, refl);
     }

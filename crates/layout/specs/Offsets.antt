@@ -43,8 +43,7 @@ next c Policy =
       cars = c .cars;
       aboards = c .aboards;
       waits = c .waits;
-      demands =
-          c .demands;
+      demands = c .demands;
     }
 next c Stop =
     record {
@@ -54,8 +53,7 @@ next c Stop =
       cars = c .cars;
       aboards = c .aboards;
       waits = c .waits;
-      demands =
-          c .demands;
+      demands = c .demands;
     }
 next c Line =
     record {
@@ -65,8 +63,7 @@ next c Line =
       cars = c .cars;
       aboards = c .aboards;
       waits = c .waits;
-      demands =
-          c .demands;
+      demands = c .demands;
     }
 next c Car =
     record {
@@ -76,8 +73,7 @@ next c Car =
       cars = c .cars + 1;
       aboards = c .aboards;
       waits = c .waits;
-      demands =
-          c .demands;
+      demands = c .demands;
     }
 next c Aboard =
     record {
@@ -87,8 +83,7 @@ next c Aboard =
       cars = c .cars;
       aboards = c .aboards + 1;
       waits = c .waits;
-      demands =
-          c .demands;
+      demands = c .demands;
     }
 next c Waiting =
     record {
@@ -98,8 +93,7 @@ next c Waiting =
       cars = c .cars;
       aboards = c .aboards;
       waits = c .waits + 1;
-      demands =
-          c .demands;
+      demands = c .demands;
     }
 next c Demand =
     record {
@@ -109,8 +103,7 @@ next c Demand =
       cars = c .cars;
       aboards = c .aboards;
       waits = c .waits;
-      demands =
-          c .demands + 1;
+      demands = c .demands + 1;
     }
 next c Unknown = c
 

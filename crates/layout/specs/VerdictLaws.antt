@@ -53,8 +53,7 @@ next-small c Policy h e d = let l = leb-false 1 (c .policies) e in
       cars = h .cars;
       aboards = h .aboards;
       waits = h .waits;
-      demands =
-          h .demands;
+      demands = h .demands;
     }
 next-small c Stop h e d = let l = leb-false 64 (c .stops) e in
     record {
@@ -64,8 +63,7 @@ next-small c Stop h e d = let l = leb-false 64 (c .stops) e in
       cars = h .cars;
       aboards = h .aboards;
       waits = h .waits;
-      demands =
-          h .demands;
+      demands = h .demands;
     }
 next-small c Line h e d = let l = leb-false 8 (c .lines) e in
     record {
@@ -75,8 +73,7 @@ next-small c Line h e d = let l = leb-false 8 (c .lines) e in
       cars = h .cars;
       aboards = h .aboards;
       waits = h .waits;
-      demands =
-          h .demands;
+      demands = h .demands;
     }
 next-small c Car h e d = let l = leb-false 32 (c .cars) e in
     record {
@@ -86,8 +83,7 @@ next-small c Car h e d = let l = leb-false 32 (c .cars) e in
       cars = omega arith;
       aboards = h .aboards;
       waits = h .waits;
-      demands =
-          h .demands;
+      demands = h .demands;
     }
 next-small c Aboard h e d = let l = leb-false 512 (c .aboards) e in
     record {
@@ -97,8 +93,7 @@ next-small c Aboard h e d = let l = leb-false 512 (c .aboards) e in
       cars = h .cars;
       aboards = omega arith;
       waits = h .waits;
-      demands =
-          h .demands;
+      demands = h .demands;
     }
 next-small c Waiting h e d = let l = leb-false 512 (c .waits) e in
     record {
@@ -108,8 +103,7 @@ next-small c Waiting h e d = let l = leb-false 512 (c .waits) e in
       cars = h .cars;
       aboards = h .aboards;
       waits = omega arith;
-      demands =
-          h .demands;
+      demands = h .demands;
     }
 next-small c Demand h e d =
     record {
@@ -119,8 +113,7 @@ next-small c Demand h e d =
       cars = h .cars;
       aboards = h .aboards;
       waits = h .waits;
-      demands =
-          omega arith;
+      demands = omega arith;
     }
 next-small c Unknown h e d = h
 

@@ -62,16 +62,14 @@ pub compared-is : (s : List ℕ) (at : ℕ) (p : Stored) (t : Totals) {built dif
     → built ≡ bit (eqb (getD s (p .next - 1) 0) 1) → differ ≡ differsAt s at p
     → (record {
       next = p .next;
-      totals =
-          record { sheets = t .sheets + 1; built = t .built + built; cells = t .cells + p .size; differ = t .differ + differ };
+      totals = record { sheets = t .sheets + 1; built = t .built + built; cells = t .cells + p .size; differ = t .differ + differ };
     } ≡ comparedAt s at p t)
     × Counted (p .next) (record { sheets = t .sheets + 1; built = t .built + built; cells = t .cells + p .size; differ = t .differ + differ })
 compared-is s at p t {built} {differ} b i h eb ed = (
   ap₂
       (λ (x y : ℕ). record {
         next = p .next;
-        totals =
-            record { sheets = t .sheets + 1; built = t .built + x; cells = t .cells + p .size; differ = t .differ + y };
+        totals = record { sheets = t .sheets + 1; built = t .built + x; cells = t .cells + p .size; differ = t .differ + y };
       }) eb ed,
   record {
     sheets = omega (arith, h .sheets, i .decisions-from, i .cells-from, i .sweeps-from, i .ends);

@@ -92,7 +92,8 @@ turnOf s at t =
 
 -- byte at is reached with these totals
 abbrev pub Met : List ℕ → ℕ → Totals → Type 0
-Met s at t = Reached (λ (p : Step). p .next) (λ p. p .totals) (turnOf s) (record { next = 0; totals = record { compared = 0; answered = 0; differ = 0 } }) (length s) at t
+Met s at t = Reached (λ (p : Step). p .next) (λ p. p .totals) (turnOf s)
+    (record { next = 0; totals = record { compared = 0; answered = 0; differ = 0 } }) (length s) at t
 
 -- the totals after the whole list
 abbrev pub Replayed : List ℕ → Totals → Type 0
@@ -109,12 +110,14 @@ pub record Counted (at : ℕ) (t : Totals) : Type 0 where
 pub compared-by : (s : List ℕ) (at n : ℕ) (t : Totals) {c : Case} {took apart : ℕ} {same : Bool} → c ≡ caseAt s at n
     → took ≡ bit (eqb (c .got .number) 0)
     → same ≡ agree (c .got) (c .expected) → apart ≡ bit (not same)
-    → record { next = at + 60 + n; totals = record { compared = t .compared + 1; answered = t .answered + took; differ = t .differ + apart } } ≡ comparedAt s at n t
+    → record { next = at + 60 + n; totals = record { compared = t .compared + 1; answered = t .answered + took; differ = t .differ + apart } }
+    ≡ comparedAt s at n t
 unfolding comparedAt
 compared-by s at n t ec et es ea =
     ap₂
     (λ (x y : ℕ). record { next = at + 60 + n; totals = record { compared = t .compared + 1; answered = t .answered + x; differ = t .differ + y } })
-    (et ∙ ap (λ (k : Case). bit (eqb (k .got .number) 0)) ec) (ea ∙ ap (λ (b : Bool). bit (not b)) (es ∙ ap (λ (k : Case). agree (k .got) (k .expected)) ec))
+    (et ∙ ap (λ (k : Case). bit (eqb (k .got .number) 0)) ec)
+    (ea ∙ ap (λ (b : Bool). bit (not b)) (es ∙ ap (λ (k : Case). agree (k .got) (k .expected)) ec))
 
 pub compared-counted : (s : List ℕ) (at n : ℕ) (t : Totals) {r : Step} → r ≡ comparedAt s at n t → Counted at t
     → Counted (r .next) (r .totals)
@@ -155,7 +158,8 @@ turn-headless s at t l h short e = cut-short s at t l h e (rw (lt-ltb (length s 
 pub turn-cut : (s : List ℕ) (at n : ℕ) (t : Totals) {r : Step} → at < length s → Counted at t → 60 ≤ length s - at → n ≡ number s at 2
     → length s - at - 60 < n → r ≡ cutAt s t → Turned s at t r
 unfolding turnOf
-turn-cut s at n t l h long en short e = cut-short s at t l h e (rw (le-ltb (length s - at) 60 long, lt-ltb (length s - at - 60) (number s at 2) (rw en at short)) e)
+turn-cut s at n t l h long en short e =
+    cut-short s at t l h e (rw (le-ltb (length s - at) 60 long, lt-ltb (length s - at - 60) (number s at 2) (rw en at short)) e)
 
 pub turn-whole : (s : List ℕ) (at n : ℕ) (t : Totals) {r : Step} → at < length s → Counted at t → 60 ≤ length s - at
     → n ≡ number s at 2

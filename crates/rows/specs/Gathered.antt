@@ -56,8 +56,7 @@ waiters-are s j v h =
       squares = v .squares;
       up = v .up;
       down = v .down;
-      level =
-          v .level;
+      level = v .level;
     } ≡ waitersOf s j =
     rw (h .someone, h .call, h .waitsum, h .squares, h .up, h .down, h .level) refl in
     e

@@ -180,8 +180,7 @@ module _ (s : List ℕ) (end n w : ℕ) where
           decisions = end + 10;
           cells = end + 10 + 4 * n;
           sweeps = end + front + 1;
-          records =
-              records;
+          records = records;
           next = end + front + 2 + records;
         })
         ≡ partsOf s end n w

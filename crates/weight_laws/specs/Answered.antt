@@ -48,7 +48,10 @@ unfolding weightsOf passedAnswer lookUp firstRefused firstDisagreeing firstMissi
 answered s day x h =
     let (a, b, c, y) = three _ _ _ _ _ _ _ _ _ _ x h in
     record {
-      accepted = record { passed = first-none (entryRefused s) (entryCount s) a; agreed = first-none (disagreesEarlier (entryOf s)) (entryCount s) b };
+      accepted = record {
+        passed = first-none (entryRefused s) (entryCount s) a;
+        agreed = first-none (disagreesEarlier (entryOf s)) (entryCount s) b;
+      };
       complete = first-none (missing (entryCount s) (entryOf s) day) 6 c;
       six = y;
     }

@@ -60,7 +60,8 @@ module _ (s : List ℕ) (more : 3855 ≤ length s) where
   long day =
       let b : firstIndex (entryRefused s) (entryCount s) ≤ 256 = first-le (entryRefused s) (entryCount s) 256 enough refused-last in
       let e : firstIndex (entryRefused t) (entryCount t) ≡ firstIndex (entryRefused s) (entryCount s) =
-      first-agree (entryRefused s) (entryRefused t) (entryCount s) (entryCount t) (omega (arith, enough)) (omega (arith, enough-t)) (λ k l. refused-kept k (omega arith)) in
+      first-agree (entryRefused s) (entryRefused t) (entryCount s) (entryCount t) (omega (arith, enough)) (omega (arith, enough-t))
+      (λ k l. refused-kept k (omega arith)) in
       rw (
         e,
         lt-ltb (firstIndex (entryRefused s) (entryCount s)) (entryCount t) (omega (arith, enough-t)),

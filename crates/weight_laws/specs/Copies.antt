@@ -78,7 +78,8 @@ module _ (s r : List ℕ) (n i : ℕ) (whole : length s ≡ 15 * n) (few : n < 2
   disagrees-kept : (j : ℕ) → j < n → disagreesEarlier (entryOf t) j ≡ disagreesEarlier (entryOf s) j
   unfolding disagreesEarlier
   disagrees-kept j lj =
-      any-cong (λ k. disagree (entryOf t k) (entryOf t j)) (λ k. disagree (entryOf s k) (entryOf s j)) j (λ k lk. rw (kept k (omega arith), kept j lj))
+      any-cong (λ k. disagree (entryOf t k) (entryOf t j)) (λ k. disagree (entryOf s k) (entryOf s j)) j
+      (λ k lk. rw (kept k (omega arith), kept j lj))
 
   first-kept : (p q : ℕ → Bool) → ((j : ℕ) → j < n → q j ≡ p j) → ltb (firstIndex p n) n ≡ true → firstIndex q (n + 1) ≡ firstIndex p n
   first-kept p q h u = let m = ltb-true (firstIndex p n) n u in first-agree p q n (n + 1) m (omega arith) (λ k lk. h k (omega arith))

@@ -141,7 +141,8 @@ module _ (n m : ℕ) (e f : ℕ → Entry) (there : Among n e m f) (back : Among
           let ke = eqb-true (e i .setting) k (both-left (eqb (e i .setting) k) (leb (e i .start) day) ti) in
           let kf = eqb-true (f j .setting) k (both-left (eqb (f j .setting) k) (leb (f j .start) day) tj) in
           let both = level (e i .start) (e i .issue) (f j .start) (f j .issue) (rw (q .start, q .issue) at one) (rw (p .start, p .issue) at two) in
-          agree-value (e i) (e j′) (g .agree i j′ (t .below) lj) (ke ∙ sym kf ∙ sym (q .setting)) (both .0 ∙ sym (q .start)) (both .1 ∙ sym (q .issue))
+          agree-value (e i) (e j′) (g .agree i j′ (t .below) lj) (ke ∙ sym kf ∙ sym (q .setting)) (both .0 ∙ sym (q .start))
+          (both .1 ∙ sym (q .issue))
           ∙ same-back (e j′ .value) (f j .value) (q .value)
         where
           level : (a b c d : ℕ) → (c < a) ⊎ ((c ≡ a) × (d ≤ b)) → (a < c) ⊎ ((a ≡ c) × (b ≤ d)) → (a ≡ c) × (b ≡ d)

@@ -42,7 +42,8 @@ module _ (s t : List ℕ) (ok : AcceptedStore s) (whole : length t ≡ 15 * entr
       let (i, li, p) = back .at j l in
       passes-too s t i j (any-none (entryRefused s) (entryCount s) (ok .passed) i li) (same-entry-sym p) (omega arith) (omega arith)) in
       looked-up t day passed
-      ∙ sym (look-up-same (entryCount s) (entryCount t) (entryOf s) (entryOf t) there back (agreed (entryCount s) (entryOf s) (ok .agreed)) day (issue-lt s) (issue-lt t))
+      ∙ sym (look-up-same (entryCount s) (entryCount t) (entryOf s) (entryOf t) there back (agreed (entryCount s) (entryOf s) (ok .agreed)) day
+      (issue-lt s) (issue-lt t))
       ∙ sym (looked-up s day (ok .passed))
 
 -- an accepted store has at most 256 records

@@ -100,7 +100,13 @@ module _ (k l : ℕ) (b : Bool) where
   same-key =
       ⊎-elim
       (λ (e : k ≡ l).
-      rw (e, eq-eqb (l / 2 ^ 48) (l / 2 ^ 48) refl, eq-eqb (l / 2 ^ 16 % 2 ^ 32) (l / 2 ^ 16 % 2 ^ 32) refl, eq-eqb (l % 2 ^ 16) (l % 2 ^ 16) refl, eq-eqb l l refl))
+      rw (
+        e,
+        eq-eqb (l / 2 ^ 48) (l / 2 ^ 48) refl,
+        eq-eqb (l / 2 ^ 16 % 2 ^ 32) (l / 2 ^ 16 % 2 ^ 32) refl,
+        eq-eqb (l % 2 ^ 16) (l % 2 ^ 16) refl,
+        eq-eqb l l refl,
+      ))
       (λ (n : k ≢ l). rw (ne-eqb k l n) (contrary parts (λ h. n (parts-same h))))
       (same? k l)
 
