@@ -56,11 +56,12 @@ pub fn see_stops(s: &[u8], c: Counts, ids: &mut [u32], xs: &mut [f64]) -> StopMa
 // The cars and the destinations of those aboard.
 pub fn fill_aboard(s: &[u8], c: Counts, acar: &mut [u32], adest: &mut [u32])
     requires { ⌜ Small c × (length (now acar) ≡ 512) × (length (now adest) ≡ 512) ⌝ }
-    ensures cars { λ _. ⌜ (length (now (acar .exit)) ≡ length (now (acar .entry)))
-        × (now (acar .exit) ≡ tab (λ a. sheetOf (now (s .entry)) c .aboard a .car) (c .aboards) ++ drop (c .aboards) (now (acar .entry))) ⌝ }
-    ensures destinations { λ _. ⌜ (length (now (adest .exit)) ≡ length (now (adest .entry)))
-        × (now (adest .exit) ≡ tab (λ a. sheetOf (now (s .entry)) c .aboard a .destination) (c .aboards) ++ drop (c .aboards)
-        (now (adest .entry))) ⌝ }
+    ensures cars { λ _. let of = sheetOf (now (s .entry)) c in
+        ⌜ (length (now (acar .exit)) ≡ length (now (acar .entry)))
+        × (now (acar .exit) ≡ tab (λ a. of .aboard a .car) (c .aboards) ++ drop (c .aboards) (now (acar .entry))) ⌝ }
+    ensures destinations { λ _. let of = sheetOf (now (s .entry)) c in
+        ⌜ (length (now (adest .exit)) ≡ length (now (adest .entry)))
+        × (now (adest .exit) ≡ tab (λ a. of .aboard a .destination) (c .aboards) ++ drop (c .aboards) (now (adest .entry))) ⌝ }
 {
     let n = c.aboards as usize;
     let at = c.aboards_from();

@@ -79,10 +79,10 @@ pub fn decide<'a>(
     decisions: &mut [u32],
 ) -> u64
     requires { ⌜ Filled (now cells) n columns stops (now ids) (length (now decisions)) ⌝ }
-    ensures { λ r. ⌜ (r ≡ leastTotal (cellAt (now (cells .entry)) columns) n columns)
+    ensures { λ r. let by = decisionBy (now (cells .entry)) n columns stops (now (ids .entry)) in
+        ⌜ (r ≡ leastTotal (cellAt (now (cells .entry)) columns) n columns)
         × (length (now (decisions .exit)) ≡ length (now (decisions .entry)))
-        × (now (decisions .exit) ≡ tab (decisionBy (now (cells .entry)) n columns stops (now (ids .entry))) n ++ drop n
-        (now (decisions .entry))) ⌝ }
+        × (now (decisions .exit) ≡ tab by n ++ drop n (now (decisions .entry))) ⌝ }
 {
     let mut places = [0u32; 32];
     let answer = matcher::assign(n, columns, cells, &mut places);

@@ -23,9 +23,9 @@ pub fn fill_sweeps<'a>(
 )
     requires { ⌜ Small c × (length (now xs) ≡ 64) × (32 ≤ length (now out)) × HoldsCars (sheetOf (now s) c) cars ⌝ }
     requires { ⌜ Positioned (sheetOf (now s) c) (now xs) masks ⌝ }
-    ensures { λ _. ⌜ (length (now (out .exit)) ≡ length (now (out .entry)))
-        × (now (out .exit) ≡ tab (codeAfter (sheetOf (now (s .entry)) c)) (sheetOf (now (s .entry)) c .cars) ++ drop
-        (sheetOf (now (s .entry)) c .cars) (now (out .entry))) ⌝ }
+    ensures { λ _. let of = sheetOf (now (s .entry)) c in
+        ⌜ (length (now (out .exit)) ≡ length (now (out .entry)))
+        × (now (out .exit) ≡ tab (codeAfter of) (of .cars) ++ drop (of .cars) (now (out .entry))) ⌝ }
 {
     let policy = sheet::policy_at(s);
     let strategy = policy.strategy;

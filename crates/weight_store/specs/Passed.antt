@@ -1,16 +1,16 @@
 -- What a record that passes is. Assumes nothing.
-use Prim.Native.Nat.{ℕ, _+_, _*_, _≤_, _<_}
+use Prim.Native.Nat.{ℕ, _+_, _*_, _/_, _≤_, _<_}
 use mathlib.Core.Path.{_≡_, refl}
 use mathlib.Core.Bool.{Bool, true, false}
 use mathlib.Core.List.{List, [], _∷_}
-use mathlib.Core.Logic.{⊎-elim}
+use mathlib.Core.Logic.{⊎-elim, _≢_}
 use native.Mathlib.Omega.{arith}
 use lib.Dec.{ltb}
 use lib.Ieee.{ofBits, binary64}
 use lib.ListN.{length}
 use borrow.Author.Tests.{eqb-true, ltb-true, ltb-false, leb-false, lt-ltb, le-ltb, lt-leb, not-false}
-use Rattle.laws.specs.Bools.{same-test, less?}
-use Rattle.laws.specs.Folds.{any-none}
+use Rattle.laws.specs.Bools.{same-test, not-both, same?, less?}
+use Rattle.laws.specs.Folds.{any, any-none}
 use Rattle.laws.specs.First.{firstIndex, first-is}
 use Rattle.fp.specs.Ranges.{isMass}
 use Rattle.layout.specs.Verdict.{Rule, pick, firstOf}
@@ -77,3 +77,23 @@ refused-few s =
 pub refused-none : (s : List ℕ) (n : ℕ) → n ≡ firstRefused s → ltb n (entryCount s) ≡ false → entryCount s ≡ n
 unfolding firstRefused
 refused-none s n e h = let w = first-is (entryRefused s) (entryCount s) .within in omega (arith, ltb-false n (entryCount s) h)
+
+-- there are no more of them than records, which 15 bytes each hold
+pub refused-within : (s : List ℕ) (n : ℕ) → length s ≤ 15 * n → firstRefused s ≤ n
+unfolding firstRefused entryCount
+refused-within s n l = omega (arith, first-is (entryRefused s) ((8 * length s + 119) / 120) .within)
+
+-- a record that passes after others that do stands before it
+pub passed-before : (s : List ℕ) (i : ℕ) → i < entryCount s → any (entryRefused s) i ≡ false → entryRefused s i ≡ false → i < firstRefused s
+unfolding firstRefused
+passed-before s i l none out =
+    let n = firstIndex (entryRefused s) (entryCount s) in
+    ⊎-elim
+    (λ (q : i < n). q)
+    (λ (q : n ≤ i).
+    let stops = first-is (entryRefused s) (entryCount s) .passes (omega arith) in
+    ⊎-elim
+    (λ (e : n ≡ i). absurd (not-both (rw e at stops) out))
+    (λ (e : n ≢ i). absurd (not-both stops (any-none (entryRefused s) i none n (omega arith))))
+    (same? n i))
+    (less? i n)

@@ -107,7 +107,7 @@ pub fn entry_refusal(s: &[u8], i: u16) -> u32
 
 // The first record that is refused, the number of records where none is. Keys and values of the records before it are written.
 pub fn read_entries(s: &[u8], keys: &mut [u64], values: &mut [u64]) -> u16
-    requires { ⌜ (256 ≤ length (now keys)) × (256 ≤ length (now values)) ⌝ }
+    requires { ⌜ (firstRefused (now s) ≤ length (now keys)) × (firstRefused (now s) ≤ length (now values)) ⌝ }
     ensures first { λ r. ⌜ r ≡ firstRefused (now (s .entry)) ⌝ }
     ensures keys { λ r. ⌜ (length (now (keys .exit)) ≡ length (now (keys .entry)))
         × (now (keys .exit) ≡ tab (keyOf (now (s .entry))) r ++ drop r (now (keys .entry))) ⌝ }

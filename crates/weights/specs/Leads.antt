@@ -2,7 +2,7 @@
 use Prim.Native.Nat.{ℕ, zero, suc, _+_, _*_, _^_, _≤_, _<_}
 use mathlib.Core.Path.{_≡_, refl, sym, _∙_}
 use mathlib.Core.Bool.{Bool, true, false, not, _&&_, _||_, cond}
-use mathlib.Core.Logic.{_⊎_, inl, inr, ⊎-elim}
+use mathlib.Core.Logic.{_⊎_, inl, inr, ⊎-elim, _≢_}
 use native.Mathlib.Omega.{arith}
 use lib.Dec.{eqb, ltb}
 use borrow.Author.Tests.{ltb-true, ltb-false, le-ltb, eqb-true, eq-eqb, ne-eqb, not-true}
@@ -12,14 +12,6 @@ use Rattle.weight_store.specs.Entries.{Entry}
 use Rattle.weight_store.specs.Keys.{entryKey}
 use Rattle.laws.specs.First.{first-only, first-end}
 use Rattle.weights.specs.LookUp.{started, latest, taken, firstTaken, missing}
-
--- a started record a goes before the best so far, n where there is none yet
-unfoldable pub leads : ℕ → (ℕ → Entry) → ℕ → Entry → Bool
-leads n e best a = eqb best n || ltb (entryKey (e best)) (entryKey a)
-
--- the better of the best so far and record i
-unfoldable pub betterEntry : ℕ → (ℕ → Entry) → ℕ → ℕ → ℕ → ℕ → ℕ
-betterEntry n e day slot best i = cond (started day slot (e i) && leads n e best (e i)) i best
 
 module _ (n : ℕ) (e : ℕ → Entry) (day slot : ℕ) where
   abbrev st : ℕ → Bool
@@ -135,38 +127,20 @@ module _ (n : ℕ) (e : ℕ → Entry) (day slot : ℕ) where
         before-it = g .before-it;
       }
 
-  -- record i does not take over
-  best-on : (i b : ℕ) → i < n → (st i && leads n e b (e i)) ≡ false → Best i b → Best (i + 1) b
-  unfolding leads
-  best-on i b l h (inl (none, is)) =
-      let out = contrary (st i) (λ t. not-both {a = eqb b n || ltb (entryKey (e b)) (entryKey (e i))} (rw (eq-eqb b n is)) (and-rest (st i) _ h t)) in
-      inl (sym (any-no st i out (sym none)), is)
-  best-on i b l h (inr g) =
-      inr (stays i b g (λ t.
-      let no = and-rest (st i) (eqb b n || ltb (entryKey (e b)) (entryKey (e i))) h t in
-      ltb-false (entryKey (e b)) (entryKey (e i)) (rw (ne-eqb b n (λ q. omega (arith, g .below))) at no)))
+  -- record i does not take over: it has not started, or there is a best one whose key is as great
+  pub best-left : (i b : ℕ) → i < n → (st i ≡ true → (b ≢ n) × (entryKey (e i) ≤ entryKey (e b))) → Best i b → Best (i + 1) b
+  best-left i b l f (inl (none, is)) = inl (sym (any-no st i (contrary (st i) (λ t. f t .0 is)) (sym none)), is)
+  best-left i b l f (inr g) = inr (stays i b g (λ t. f t .1))
 
-  -- it does
-  best-over : (i b : ℕ) → i < n → (st i && leads n e b (e i)) ≡ true → Best i b → Best (i + 1) i
-  unfolding leads
-  best-over i b l h (inl (none, is)) =
-      inr (on-top i (both-left (st i) _ h) (λ j lj u. absurd (not-both u (any-none st i none j lj))))
-  best-over i b l h (inr g) =
-      let yes = both-right (st i) (eqb b n || ltb (entryKey (e b)) (entryKey (e i))) h in
-      let over = ltb-true (entryKey (e b)) (entryKey (e i)) (rw (ne-eqb b n (λ q. omega (arith, g .below))) at yes) in
-      inr (on-top i (both-left (st i) _ h) (λ j lj u. omega (arith, g .tops j lj u)))
+  -- it does: it has started, and there is no best one yet or its key is greater
+  pub best-over : (i b : ℕ) → i < n → st i ≡ true → (b ≡ n) ⊎ (entryKey (e b) < entryKey (e i)) → Best i b → Best (i + 1) i
+  best-over i b l t o (inl (none, is)) = inr (on-top i t (λ j lj u. absurd (not-both u (any-none st i none j lj))))
+  best-over i b l t (inl is) (inr g) = absurd (omega (arith, g .below))
+  best-over i b l t (inr o) (inr g) = inr (on-top i t (λ j lj u. omega (arith, g .tops j lj u)))
 
   pub best-le : (i b : ℕ) → i ≤ n → Best i b → b ≤ n
   best-le i b l (inl (none, is)) = omega arith
   best-le i b l (inr g) = omega (arith, g .below)
-
-  pub best-step : (i b : ℕ) → i < n → Best i b → Best (i + 1) (betterEntry n e day slot b i)
-  unfolding betterEntry
-  best-step i b l h =
-      ⊎-elim
-      (λ (t : (st i && leads n e b (e i)) ≡ true). rw t (best-over i b l t h))
-      (λ (t : (st i && leads n e b (e i)) ≡ false). rw t (best-on i b l t h))
-      (which (st i && leads n e b (e i)))
 
   module _ (small : (i : ℕ) → e i .issue < 2 ^ 16) where
     -- what the walk ends with is what the slot takes
@@ -191,7 +165,16 @@ module _ (n : ℕ) (e : ℕ → Entry) (day slot : ℕ) where
     best-of zero l = (n, best-none)
     best-of (suc i) l =
         let (b, h) = best-of i (omega arith) in
-        let q : i + 1 ≡ suc i = omega arith in (betterEntry n e day slot b i, rw q at (best-step i b (omega arith) h))
+        let q : i + 1 ≡ suc i = omega arith in
+        let over : st i ≡ true → (b ≡ n) ⊎ (entryKey (e b) < entryKey (e i)) → (b : ℕ) × Best (suc i) b = λ t o. (i, rw q at (best-over i b l t o h)) in
+        let left : (st i ≡ true → (b ≢ n) × (entryKey (e i) ≤ entryKey (e b))) → (b : ℕ) × Best (suc i) b = λ f. (b, rw q at (best-left i b l f h)) in
+        ⊎-elim
+        (λ (t : st i ≡ true).
+        ⊎-elim (λ (is : b ≡ n). over t (inl is))
+        (λ (no : b ≢ n). ⊎-elim (λ o. over t (inr o)) (λ o. left (λ u. (no, o))) (less? (entryKey (e b)) (entryKey (e i))))
+        (same? b n))
+        (λ (t : st i ≡ false). left (λ u. absurd (not-both u t)))
+        (which (st i))
 
     -- so a slot that has a started record takes one
     pub record Takes (b : ℕ) : Type 0 where

@@ -3,11 +3,11 @@ pub mod answer;
 
 ghost use mathlib.Core.Path.{_≡_};
 ghost use mathlib.Core.List.{List};
-ghost use Prim.Native.Nat.{ℕ, _≤_, _<_};
-ghost use lib.ListN.{length};
+ghost use Prim.Native.Nat.{ℕ, _≤_};
+ghost use lib.ListN.{length, replicate};
 ghost use Rattle.weight_store.specs.Keys.{heldEntry};
+ghost use Rattle.weight_store.specs.Refusals.{firstRefused};
 ghost use Rattle.weights.specs.LookUp.{firstTaken};
-ghost use Rattle.weights.specs.Columns.{startedKey, leadsKey, betterKey};
 ghost use Rattle.weights.specs.Answers.{lookUp, passedAnswer, weightsOf, lentWeights, weightsLeft};
 ghost use Rattle.weights.specs.declared.answer.Weights.the-variants.{Found};
 use answer::SixWeights;
@@ -19,48 +19,27 @@ const SHORT_BUFFER: u32 = 1;
 // A record's length in bits.
 const BITS: u64 = 120;
 
-// Whether a record with this key is the slot's and has started by the day.
-fn started(key: u64, day: u32, slot: u8) -> bool
-    ensures { λ r. ⌜ r ≡ startedKey day slot key ⌝ }
-{
-    let first = (slot as u64) * 0x0001_0000_0000_0000;
-    let last = first + (day as u64) * 0x0001_0000 + 0xffff;
-    (first <= key) & (key <= last)
-}
+// A small store's records, and their bytes.
+const SMALL: usize = 16;
 
-// Whether a key goes before that of the best so far, n where there is none yet.
-fn leads(keys: &[u64], n: usize, best: usize, key: u64) -> bool
-    requires { ⌜ (best ≤ n) × (n ≤ length (now keys)) ⌝ }
-    ensures { λ r. ⌜ r ≡ leadsKey n (now (keys .entry)) best key ⌝ }
-{
-    if best == n {
-        return true;
-    }
-    keys[best] < key
-}
+const SMALL_BYTES: usize = 240;
 
-// The better of the best so far and record i: a later start counts more than any issue.
-fn better(keys: &[u64], n: usize, day: u32, slot: u8, best: usize, i: usize) -> usize
-    requires { ⌜ (best ≤ n) × (i < n) × (n ≤ length (now keys)) ⌝ }
-    ensures { λ r. ⌜ r ≡ betterKey n (now (keys .entry)) day slot best i ⌝ }
-{
-    let key = keys[i];
-    if started(key, day, slot) & leads(keys, n, best, key) {
-        i
-    } else {
-        best
-    }
-}
-
-// Which of n records the slot takes for the day, the first of equals; n where it has none. It does not depend on the values.
+// Which of n records the slot takes for the day, the first of equals; n where it has none. It does not depend on the values. A record takes over whose
+// key stands from least to the day's last: a later start counts more than any issue.
 fn first_taken(keys: &[u64], n: usize, day: u32, slot: u8) -> usize
     requires { ⌜ n ≤ length (now keys) ⌝ }
     ensures { λ r. ⌜ ((values : List ℕ) → r ≡ firstTaken n (heldEntry (now (keys .entry)) values) day slot) ⌝ }
 {
+    let mut least = (slot as u64) * 0x0001_0000_0000_0000;
+    let last = least + (day as u64) * 0x0001_0000 + 0xffff;
     let mut best = n;
     let mut i: usize = 0;
     while i < n {
-        best = better(keys, n, day, slot, best, i);
+        let key = keys[i];
+        if (least <= key) & (key <= last) {
+            best = i;
+            least = key + 1;
+        }
         i += 1;
     }
     best
@@ -109,20 +88,34 @@ fn passed_answer<'a>(keys: &'a [u64], values: &'a [u64], n: usize, day: u32) -> 
     look_up(keys, values, n, day)
 }
 
-// The weights of a store for a day. Its records are read once, into two columns.
-pub fn weights(store: &[u8], day: u32) -> Weights
+// The weights of a store for a day. Its records are read once, into two columns, which are clear.
+fn weights_by(store: &[u8], day: u32, keys: &mut [u64], values: &mut [u64]) -> Weights
+    requires { ⌜ (now keys ≡ replicate (length (now keys)) 0) × (now values ≡ replicate (length (now keys)) 0)
+        × (firstRefused (now store) ≤ length (now keys)) ⌝ }
     ensures { λ r. ⌜ r ≡ weightsOf (now (store .entry)) day ⌝ }
 {
-    let mut keys = [0u64; 256];
-    let mut values = [0u64; 256];
-    let n = weight_store::read_entries(store, &mut keys, &mut values);
+    let n = weight_store::read_entries(store, keys, values);
     if weight_store::is_there(store, n) {
         return Weights::Refused {
             number: weight_store::entry_refusal(store, n),
             offset: BITS * (n as u64),
         };
     }
-    passed_answer(&keys, &values, n as usize, day)
+    passed_answer(keys, values, n as usize, day)
+}
+
+// The weights of a store for a day. Clearing the columns of a full store takes longer than looking up a small one.
+pub fn weights(store: &[u8], day: u32) -> Weights
+    ensures { λ r. ⌜ r ≡ weightsOf (now (store .entry)) day ⌝ }
+{
+    if store.len() <= SMALL_BYTES {
+        let mut keys = [0u64; SMALL];
+        let mut values = [0u64; SMALL];
+        return weights_by(store, day, &mut keys, &mut values);
+    }
+    let mut keys = [0u64; 256];
+    let mut values = [0u64; 256];
+    weights_by(store, day, &mut keys, &mut values)
 }
 
 // The six, first in the places.

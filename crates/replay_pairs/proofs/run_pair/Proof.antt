@@ -16,8 +16,8 @@ returns c =
     let s = a .s .now in (
       differs-at s (a .at) (a .p) (two .0) (c .before .before .before .before .before .before .answered .ensures .1),
       (
-        differs-at s (a .p .next) (a .q) (two .1 .0) (c .before .before .answered2 .ensures .1),
-        ap₂ ltb (c .before .total .ensures ∙ total-at s (a .p .next) (a .q) (two .1 .0)) (c .total2 .ensures ∙ total-at s (a .at) (a .p) (two .0)),
+        differs-at s (a .p .next) (a .q) (two .1) (c .before .before .answered2 .ensures .1),
+        ap₂ ltb (c .before .total .ensures ∙ total-at s (a .p .next) (a .q) (two .1)) (c .total2 .ensures ∙ total-at s (a .at) (a .p) (two .0)),
       ),
     )
 

@@ -5,7 +5,7 @@ use Rattle.laws.specs.Folds.{any, any-no}
 use Rattle.laws.specs.Tables.{tab, tab-next}
 use Rattle.weight_store.specs.Entries.{entryCount}
 use Rattle.weight_store.specs.Keys.{keyOf, valueOf, read-refused, read-passed}
-use Rattle.weight_store.specs.Passed.{passed}
+use Rattle.weight_store.specs.Passed.{passed, passed-before}
 use Rattle.weight_store.specs.Refusals.{entryRefused, firstRefused}
 use borrow.Author.Needs.{needs}
 use borrow.Author.Tests.{ltb-true, ltb-false}
@@ -50,7 +50,8 @@ slice-write-keys c =
     let p = c .before .before .before .before .before .before .before .before .before .before .pre in
     let l = c .before .before .before .before .before .before .loop in
     let out = read-passed (a .s .now) (l .i) (c .before .before .before .key-at .ensures) (c .before .before .value-at .ensures) (c .before .refusal-of .ensures) (c .if2 .left) in
-    omega (arith, passed (a .s .now) (l .i) out .few, l .inv .3, p .0)
+    let t : l .i < entryCount (a .s .now) = ltb-true _ _ (sym (c .before .before .before .before .before .is-there .ensures) ∙ c .before .before .before .before .if1 .taken) in
+    omega (arith, passed-before (a .s .now) (l .i) t (sym (l .inv .2)) out, l .inv .3, p .0)
 
 slice-write-values : tie.Need-slice-write-values Inv-loop μ-loop
 slice-write-values c =
@@ -58,7 +59,8 @@ slice-write-values c =
     let p = c .before .before .before .before .before .before .before .before .before .before .pre in
     let l = c .before .before .before .before .before .before .loop in
     let out = read-passed (a .s .now) (l .i) (c .before .before .before .key-at .ensures) (c .before .before .value-at .ensures) (c .before .refusal-of .ensures) (c .if2 .left) in
-    omega (arith, passed (a .s .now) (l .i) out .few, l .inv .4, p .1)
+    let t : l .i < entryCount (a .s .now) = ltb-true _ _ (sym (c .before .before .before .before .before .is-there .ensures) ∙ c .before .before .before .before .if1 .taken) in
+    omega (arith, passed-before (a .s .now) (l .i) t (sym (l .inv .2)) out, l .inv .4, p .1)
 
 loop-less : tie.Need-loop-less Inv-loop μ-loop
 loop-less c =
@@ -74,8 +76,8 @@ loop-again c =
     let s = a .s .now in
     let t : l .i < entryCount s = ltb-true _ _ (sym (c .before .before .before .before .before .is-there .ensures) ∙ c .before .before .before .before .if1 .taken) in
     let out = read-passed s (l .i) (c .before .before .before .key-at .ensures) (c .before .before .value-at .ensures) (c .before .refusal-of .ensures) (c .if2 .left) in
-    let few = passed s (l .i) out .few in (
-      omega (arith, few),
+    let few = passed-before s (l .i) t (sym (l .inv .2)) out in (
+      omega (arith, passed s (l .i) out .few),
       omega arith,
       any-no (entryRefused s) (l .i) out (l .inv .2),
       simp length-set (l .inv .3),
