@@ -5,15 +5,32 @@
 #include "sheet.h"
 
 /* Where a field stands in its record, the 22 bits in front counted. */
-enum { ID = 22, SECOND = 54, CAR_IDLE = 154, CAR_SWEEP = 157, CAR_RESTRICTED = 609, LIMIT = 24 };
+enum { ID = 22, SECOND = 54, CAR_IDLE = 154, CAR_SWEEP = 157, CAR_RESTRICTED = 609, LIMIT = 24, DESTINATION = 55 };
 
 static void read_car(struct facts *f, const uint8_t *bytes, size_t size, size_t at) {
     size_t i = f->cars++;
+    f->car_id[i] = (uint32_t)get_bits(bytes, size, at + ID, 32);
     f->car_line[i] = (uint32_t)get_bits(bytes, size, at + SECOND, 32);
     f->car_restricted[i] = get_bits(bytes, size, at + CAR_RESTRICTED, 64);
     f->car_sweep[i] = (uint8_t)get_bits(bytes, size, at + CAR_SWEEP, 2);
     if (get_bits(bytes, size, at + CAR_IDLE, 1)) {
         f->idle_car[f->idle++] = i;
+    }
+}
+
+/* The mask of the stop with an id, 0 where it has no record. */
+static uint64_t stop_bit(const struct facts *f, uint32_t id) {
+    size_t place = stop_place(f, id);
+    return place < f->stops ? UINT64_C(1) << (63 - place) : 0;
+}
+
+/* A destination that is absent is 0, and no stop's. */
+static void read_aboard(struct facts *f, const uint8_t *bytes, size_t size, size_t at) {
+    uint32_t car = (uint32_t)get_bits(bytes, size, at + ID, 32);
+    for (size_t i = 0; i < f->idle; i++) {
+        if (f->car_id[f->idle_car[i]] == car) {
+            f->wanted |= stop_bit(f, (uint32_t)get_bits(bytes, size, at + DESTINATION, 32));
+        }
     }
 }
 
@@ -33,6 +50,10 @@ void read_facts(struct facts *f, const uint8_t *bytes, size_t size) {
             f->line_id[f->lines++] = (uint32_t)get_bits(bytes, size, at + ID, 32);
         } else if (records[i].kind == CAR && f->cars < 32) {
             read_car(f, bytes, size, at);
+        } else if (records[i].kind == ABOARD) {
+            read_aboard(f, bytes, size, at);
+        } else if (records[i].kind == CLOSED) {
+            f->closed |= stop_bit(f, (uint32_t)get_bits(bytes, size, at + ID, 32));
         }
     }
 }

@@ -12,12 +12,15 @@ struct facts {
     uint32_t stop_id[64];
     uint32_t line_id[8];
     uint64_t line_serves[8];
+    uint32_t car_id[32];
     uint32_t car_line[32];
     uint64_t car_restricted[32];
     /* 2 * sweep + mode before the pass. */
     uint8_t car_sweep[32];
     /* The car records that are idle-listed, in record order. */
     size_t idle_car[32];
+    /* Stops, the first one the highest bit: those with a closed landing, and those that a rider of an idle-listed car is bound for. */
+    uint64_t closed, wanted;
 };
 
 void read_facts(struct facts *f, const uint8_t *bytes, size_t size);

@@ -104,13 +104,18 @@ uint32_t __wrap_dispatch_bench_pass(const uint8_t *sheet, size_t length, uint32_
 
 #define MOST_PLACES 128
 
+/* Up to 64 bits of a sheet. */
+static uint64_t bits_at(const uint8_t *sheet, size_t length, size_t at, size_t width) {
+    uint64_t value = 0;
+    for (size_t bit = at; bit < at + width; bit++) {
+        value = value << 1 | (bit / 8 < length ? sheet[bit / 8] >> (7 - bit % 8) & 1 : 0);
+    }
+    return value;
+}
+
 /* The id of a stop record, 0 where there is none. Stop records follow the policy's. */
 static uint32_t stop_at(const uint8_t *sheet, size_t length, size_t place) {
-    uint64_t record = 0;
-    size_t at = 24 + 22 + 468 + place * (22 + 96);
-    for (size_t bit = at; bit < at + 54; bit++) {
-        record = record << 1 | (bit / 8 < length ? sheet[bit / 8] >> (7 - bit % 8) & 1 : 0);
-    }
+    uint64_t record = bits_at(sheet, length, 24 + 22 + 468 + place * (22 + 96), 54);
     return record >> 48 == 2 ? (uint32_t)record : 0;
 }
 
@@ -124,6 +129,16 @@ static void name_next(const uint8_t *sheet, size_t length, uint32_t *last) {
     *last = next != 0 ? next : *last;
 }
 
+/* The highest stop with a closed landing takes the place of the last pending one, where it is above that. */
+static void name_closed(const uint8_t *sheet, size_t length, uint32_t *last) {
+    size_t at = 24;
+    for (uint64_t left = bits_at(sheet, length, 8, 16); left > 0; left--) {
+        uint32_t stop = (uint32_t)bits_at(sheet, length, at + 22, 32);
+        *last = bits_at(sheet, length, at, 6) == 8 && stop > *last ? stop : *last;
+        at += 22 + bits_at(sheet, length, at + 6, 16);
+    }
+}
+
 /* The faults of pending stops that were found; held is what stood in the places. */
 static void spoil_pending(const uint8_t *sheet, size_t length, uint32_t *stops, size_t places, const uint32_t *held, uint64_t *count,
                           uint64_t *offset) {
@@ -131,6 +146,9 @@ static void spoil_pending(const uint8_t *sheet, size_t length, uint32_t *stops, 
     stops[places - 1] ^= is("pending_past") && *count < places;
     if (*count > 0 && is("pending_other")) {
         name_next(sheet, length, &stops[*count - 1]);
+    }
+    if (*count > 0 && is("pending_closed")) {
+        name_closed(sheet, length, &stops[*count - 1]);
     }
     if (*count > 0 && is("pending_unknown")) {
         stops[0] = 0;

@@ -1,5 +1,5 @@
-/* Sheets changed by their records: a field gets another value of its sort, a record is repeated, left out, or taken from another sheet. One change in
-   eight is libFuzzer's own, of plain bytes. */
+/* Sheets changed by their records: a field gets another value of its sort, a record is repeated, left out, or taken from another sheet, a landing is
+   closed. One change in eight is libFuzzer's own, of plain bytes. */
 #include <string.h>
 
 #include "sheet.h"
@@ -17,7 +17,7 @@ struct field {
 };
 
 /* The fields of each kind, in order. */
-static const struct field fields[8][24] = {
+static const struct field fields[9][24] = {
     [POLICY] = {{STRATEGY, 2}, {LIMIT, 16}, {DOUBLE, 64}, {TRAFFIC, 2}, {DOUBLE, 64}, {DOUBLE, 64}, {DOUBLE, 64}, {DOUBLE, 64}, {DOUBLE, 64}, {DOUBLE, 64}},
     [STOP] = {{ID, 32}, {DOUBLE, 64}},
     [LINE] = {{ID, 32}, {MASK, 64}},
@@ -27,6 +27,7 @@ static const struct field fields[8][24] = {
     [ABOARD] = {{CAR_ID, 32}, {PRESENT, 1}, {STOP_ID, 32}},
     [WAITING] = {{STOP_ID, 32}, {PRESENT, 1}, {LINE_ID, 32}, {PRESENT, 1}, {STOP_ID, 32}, {DOUBLE, 64}, {WAIT, 64}},
     [DEMAND] = {{STOP_ID, 32}, {COUNT, 16}, {FLAG, 1}},
+    [CLOSED] = {{STOP_ID, 32}},
 };
 
 static const double doubles[] = {0.0, -0.0, 1.0, 2.0, 10.0, 60.0, 0.5, 1.0 / 1024, 1000.0, 1e6, -1e6, 1e9, 1e-9, 3.5, 100.0, 1e-300};
@@ -220,6 +221,15 @@ static void insert(const uint8_t *from, size_t from_size, const struct record *r
     }
 }
 
+/* Closes the landing of any stop. */
+static void close_landing(size_t most) {
+    uint8_t closure[8] = {0};
+    struct record r = {0, CLOSED, 32};
+    put_bits(closure, 0, 6, r.kind);
+    put_bits(closure, 6, 16, r.length);
+    insert(closure, sizeof closure, &r, most);
+}
+
 static int take(const uint8_t *data, size_t data_size, unsigned seed) {
     state = seed * UINT64_C(0x9e3779b97f4a7c15) + 1;
     if (data_size < 4 || data_size > MOST_BYTES) {
@@ -233,8 +243,8 @@ static int take(const uint8_t *data, size_t data_size, unsigned seed) {
 }
 
 static int known(const struct record *r) {
-    static const unsigned lengths[8] = {0, 468, 96, 96, 715, 65, 226, 49};
-    return r->kind >= POLICY && r->kind <= DEMAND && r->length == lengths[r->kind];
+    static const unsigned lengths[9] = {0, 468, 96, 96, 715, 65, 226, 49, 32};
+    return r->kind >= POLICY && r->kind <= CLOSED && r->length == lengths[r->kind];
 }
 
 size_t LLVMFuzzerCustomMutator(uint8_t *data, size_t data_size, size_t most, unsigned seed) {
@@ -248,6 +258,8 @@ size_t LLVMFuzzerCustomMutator(uint8_t *data, size_t data_size, size_t most, uns
             splice(r->start, r->start + FRONT + r->length, bytes, size, 0, 0, most);
         } else if (change <= 2 && r->kind != POLICY && known(r)) {
             insert(bytes, size, r, most);
+        } else if (change == 3 && any(2) == 0) {
+            close_landing(most);
         } else if (known(r)) {
             change_field(r);
         }

@@ -41,11 +41,11 @@ static uint64_t unwritten(uint8_t pattern) {
     return pattern * UINT64_C(0x0101010101010101);
 }
 
-/* How many inputs had which answer: passes by strategy, refusals by number. */
-static unsigned long passes[3], refusals[17];
+/* How many inputs had which answer: passes by strategy, those with closed landings among them, refusals by number. */
+static unsigned long passes[3], closed_passes, refusals[17];
 
 static void print_counts(void) {
-    fprintf(stderr, "answers: passes %lu ETD, %lu RSR, %lu SCAN; refusals", passes[0], passes[1], passes[2]);
+    fprintf(stderr, "answers: passes %lu ETD, %lu RSR, %lu SCAN, %lu with closed landings; refusals", passes[0], passes[1], passes[2], closed_passes);
     for (int number = 2; number <= 16; number++) {
         fprintf(stderr, " %d: %lu", number, refusals[number]);
     }
@@ -194,12 +194,14 @@ static void run_pending(struct pending *p, const struct answer *read, const uint
     require(again.number == 1 && again.offset == 0, "too few places are refusal 1 at 0");
 }
 
-/* They are as many as the pass has, stops of the sheet, and rise. */
+/* They are as many as the pass has, stops of the sheet, and rise; a closed one is there for a rider of an idle car alone. */
 static void check_pending(const struct pending *p, const struct answer *a, const struct facts *f) {
     require(p->count == a->value[STOPS], "the pending stops are as many as the pass has");
     for (size_t k = 0; k < p->count; k++) {
         require(stop_place(f, p->stops[k]) < f->stops, "a pending stop is one of the sheet");
         require(k == 0 || p->stops[k - 1] < p->stops[k], "the pending stops rise");
+        uint64_t stop = UINT64_C(1) << (63 - stop_place(f, p->stops[k]));
+        require((f->closed & ~f->wanted & stop) == 0, "a closed stop is pending only where an idle car's rider is bound for it");
     }
 }
 
@@ -306,12 +308,13 @@ static unsigned bits_of(uint64_t value) {
 }
 
 static void tell_refusal(const struct answer *a, const uint8_t *data, size_t size) {
-    unsigned kind = (unsigned)get_bits(data, size, a->value[OFFSET], 6) % 8;
-    features[a->number * 8 + kind] = 1;
+    unsigned kind = (unsigned)get_bits(data, size, a->value[OFFSET], 6);
+    kind = kind <= CLOSED ? kind : 0;
+    features[a->number * 9 + kind] = 1;
     features[256 + kind * 16 + bits_of(a->value[OFFSET]) % 16] = 1;
 }
 
-static void tell_pass(const struct answer *a, const struct facts *f) {
+static void tell_pass(const struct answer *a, const struct pending *p, const struct facts *f) {
     uint8_t *of = features + 512 + f->strategy * 1024;
     size_t cars = a->value[CARS], stops = a->value[STOPS], columns = cars < stops ? stops : cars, sent = 0;
     for (size_t i = 0; i < cars; i++) {
@@ -328,6 +331,11 @@ static void tell_pass(const struct answer *a, const struct facts *f) {
     of[720 + bits_of(a->value[TOTAL])] = 1;
     of[800 + bits_of(a->value[RANKED])] = 1;
     of[840 + bits_of(f->cars - cars) * 8 + bits_of(f->stops - stops)] = 1;
+    uint64_t pending_closed = 0;
+    for (size_t k = 0; k < p->count; k++) {
+        pending_closed += f->closed >> (63 - stop_place(f, p->stops[k])) & 1;
+    }
+    of[920 + bits_of((uint64_t)__builtin_popcountll(f->closed)) * 8 + bits_of(pending_closed)] = 1;
 }
 
 /* FNV-1a: lengths that vary with the input, and are the same each time it is run. */
@@ -371,6 +379,7 @@ int LLVMFuzzerTestOneInput(const uint8_t *data, size_t size) {
     check_pending(&pending, &first, &facts);
     check_decisions(&first, &pending, &facts);
     passes[facts.strategy]++;
-    tell_pass(&first, &facts);
+    tell_pass(&first, &pending, &facts);
+    closed_passes += facts.closed != 0;
     return 0;
 }

@@ -5,11 +5,11 @@
 #include <stddef.h>
 #include <stdint.h>
 
-enum { POLICY = 1, STOP, LINE, CAR, ABOARD, WAITING, DEMAND };
+enum { POLICY = 1, STOP, LINE, CAR, ABOARD, WAITING, DEMAND, CLOSED };
 
 #define FIRST_RECORD 24
 #define FRONT 22
-#define MOST_RECORDS 1193
+#define MOST_RECORDS 1257
 #define MOST_BYTES 65536
 
 struct record {

@@ -33,7 +33,7 @@ enum dispatch_bench_refusal {
     DISPATCH_BENCH_SHORT_BUFFER = 1,    /* a lent buffer is too short (dispatch_bench_pass, dispatch_bench_pending, dispatch_bench_weights) */
     DISPATCH_BENCH_PAST_END = 2,        /* what is stated passes the last byte */
     DISPATCH_BENCH_EDITION = 3,         /* the edition is not known */
-    DISPATCH_BENCH_UNKNOWN_KIND = 4,    /* a record of an unknown kind */
+    DISPATCH_BENCH_UNKNOWN_KIND = 4,    /* a kind that is not 1 to 8 */
     DISPATCH_BENCH_BODY_LENGTH = 5,     /* a body of another length than its kind's */
     DISPATCH_BENCH_OUT_OF_ORDER = 6,    /* kinds that fall, or a first record that is no policy */
     DISPATCH_BENCH_TABLE_FULL = 7,      /* more records of a kind than there may be */
@@ -67,7 +67,7 @@ enum dispatch_bench_refusal {
 /* The cell of a pair without a rank, and the largest cell. */
 #define DISPATCH_BENCH_SENTINEL UINT64_C(281474976710656)
 
-/* Bytes of a sheet past these change no answer. */
+/* Bytes of a sheet past these change no answer; an accepted one has at most 26,515. */
 #define DISPATCH_BENCH_MOST_BYTES 65536
 
 /* Bytes of a store of weights past these change no answer: 257 records. */
@@ -87,8 +87,9 @@ uint32_t dispatch_bench_pass(const uint8_t *sheet, size_t length, uint32_t *deci
                              uint8_t *sweeps, size_t sweep_count, uint64_t *cars, uint64_t *stops, uint64_t *total, uint64_t *ranked, uint64_t *offset);
 
 /* The pending stops of a sheet. 0: *count of them, as many as *stops of a pass, and their ids in column order, which rise, first in stops; what
-   stands past these is left, and so is *offset. Otherwise the refusal's number with the bit offset where the refused record starts in *offset, and
-   nothing else is written: 1 at 0 where fewer than DISPATCH_BENCH_STOPS places are lent, else what dispatch_bench_read answers. */
+   stands past these is left, and so is *offset. A stop whose landing is closed (kind 8) is among them only where a rider in an idle-listed car is
+   bound for it. Otherwise the refusal's number with the bit offset where the refused record starts in *offset, and nothing else is written: 1 at 0
+   where fewer than DISPATCH_BENCH_STOPS places are lent, else what dispatch_bench_read answers. */
 uint32_t dispatch_bench_pending(const uint8_t *sheet, size_t length, uint32_t *stops, size_t places, uint64_t *count, uint64_t *offset);
 
 /* The weights of a store for a day. A store is up to 256 records of 15 bytes, most significant bit first: setting 8 bits (0 to 5, the weight slots),

@@ -36,14 +36,14 @@ pub const RULES: [Rule; 16] = [
         ),
     },
     Rule {
-        says: "A record's kind is not 1 to 7.",
+        says: "A record's kind is not 1 to 8.",
         remedy: concat!(
             "Leave the record out; a newer writer, or a body of the wrong length before it, can cause this. ",
             changed!()
         ),
     },
     Rule {
-        says: "A record's stated body length is not its kind's: 468, 96, 96, 715, 65, 226, 49 bits for kinds 1 to 7.",
+        says: "A record's stated body length is not its kind's: 468, 96, 96, 715, 65, 226, 49, 32 bits for kinds 1 to 8.",
         remedy: concat!(
             "Write the record with its kind's fields and length; a newer writer can cause this. ",
             changed!()
@@ -52,7 +52,7 @@ pub const RULES: [Rule; 16] = [
     Rule {
         says: "The head counts no record, the first one is not the policy, or a record's kind is below the kind before it.",
         remedy: concat!(
-            "Put the records in the order policy, stop, line, car, aboard, waiting, demand. ",
+            "Put the records in the order policy, stop, line, car, aboard, waiting, demand, closed. ",
             changed!()
         ),
     },
@@ -68,11 +68,11 @@ pub const RULES: [Rule; 16] = [
         ),
     },
     Rule {
-        says: "An id is 0, a stop's id is not above that of the stop before, a line or car has the id of an earlier one, or a stop has a second demand.",
-        remedy: "Give every record an id of its own, 1 or more, rising for stops, and one demand a stop.",
+        says: "An id is 0, a stop's id is not above the one before, a line or car has an earlier one's id, or a stop has a second demand or closure.",
+        remedy: "Give every record an id of its own, 1 or more, rising for stops, and at most one demand and one closure a stop.",
     },
     Rule {
-        says: "A car's line, an aboard rider's car, or a waiting rider's or demand's stop has no record, or a mask has a bit past the stops.",
+        says: "A car's line, an aboard rider's car, or a waiting rider's, demand's or closure's stop has no record, or a mask has a bit past the stops.",
         remedy: "Add the record that is named, or name one that is there.",
     },
     Rule {

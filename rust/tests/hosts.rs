@@ -177,6 +177,28 @@ fn pending_stops_are_the_columns() {
     assert!(sent > 80, "{sent} cars are sent");
 }
 
+/// A closed landing counts as covered whoever waits there; one that a rider of an idle car is bound for stays pending.
+#[test]
+fn closed_landings() {
+    let sheet = |name: &str| {
+        let found = corpus().into_iter().find(|sheet| sheet.0 == name);
+        found.unwrap().1
+    };
+    assert_eq!(pending(&sheet("closed_landing")), Ok(vec![1]));
+    let bound = sheet("closed_bound");
+    assert_eq!(pending(&bound), Ok(vec![1, 3]));
+    let decisions = pass(&bound).unwrap().decisions;
+    assert_eq!(decisions, [NonZeroU32::new(1), NonZeroU32::new(3)]);
+    let ids: Vec<u32> = cars(&bound).map(|car| car.id).collect();
+    assert_eq!(ids, [1, 2]);
+    for (name, number, offset) in [
+        ("refusal_09_closed_twice", 9, 804),
+        ("refusal_10_closed_stop", 10, 632),
+    ] {
+        assert_eq!(read(&sheet(name)), Err(Refusal { number, offset }));
+    }
+}
+
 #[test]
 fn places_are_lent_again() {
     let mut places = [99; STOPS + 6];

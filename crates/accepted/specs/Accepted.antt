@@ -15,7 +15,7 @@ use Rattle.laws.specs.Bools.{which, never, neither-left, neither-right, both-le
 use Rattle.laws.specs.Folds.{any, any-some, any-none, count-above, nth, nth-is}
 use Rattle.laws.specs.Counts.{pigeons, count-all}
 use Rattle.components.specs.declared.Kind.{Kind}
-use Rattle.components.specs.declared.Kind.the-variants.{Policy, Stop, Line, Car, Aboard, Waiting, Demand, Unknown}
+use Rattle.components.specs.declared.Kind.the-variants.{Policy, Stop, Line, Car, Aboard, Waiting, Demand, Closed, Unknown}
 use Rattle.components.specs.declared.Phase.{Phase}
 use Rattle.components.specs.declared.Phase.the-variants.{Idle, MovingToStop, Repositioning, DoorOpening, Loading, DoorClosing, Stopped}
 use Rattle.components.specs.declared.Phase.the-variants as phases
@@ -26,18 +26,18 @@ use Rattle.components.specs.declared.Kind.the-variants as kind
 use Rattle.layout.specs.declared.Counts.{Counts}
 use Rattle.layout.specs.declared.Reading.{Reading}
 use Rattle.layout.specs.declared.Reading.the-variants.{Refused, Accepted}
-use Rattle.layout.specs.Offsets.{headLength, stopStart, lineStart, carStart, aboardStart, waitingStart, demandStart, recordLength, none, next, endOf}
+use Rattle.layout.specs.Offsets.{headLength, stopStart, lineStart, carStart, aboardStart, waitingStart, demandStart, closedStart, recordLength, none, next, endOf}
 use Rattle.layout.specs.Offsets.{lastKind, stopsFrom, linesFrom, carsFrom, Small}
 use Rattle.layout.specs.Table.{car·hasBypassUp, car·hasBypassDown, car·bypassDown, policy·limit, policy·rate, policy·w0, policy·w1, policy·w2}
 use Rattle.layout.specs.Table.{policy·w3, policy·w4, stop·id, line·id, line·serves, car·id, car·line, car·phase, car·stop, car·hasTarget, car·target}
 use Rattle.layout.specs.Table.{car·position, car·speed, car·capacity, car·load, car·bypassUp, car·bypassDown, car·transition, car·dwell}
-use Rattle.layout.specs.Table.{car·restricted, car·calls, aboard·car, waiting·stop, waiting·weight, waiting·wait, demand·stop, first}
+use Rattle.layout.specs.Table.{car·restricted, car·calls, aboard·car, waiting·stop, waiting·weight, waiting·wait, demand·stop, first, closed·stop}
 use Rattle.layout.specs.Records.{Fields, from, flag, double, policyOf, stopOf, lineOf, carOf, aboardOf, waitingOf, demandOf, sheetOf, limitOf, read}
 use Rattle.layout.specs.Refusals.{recordCount, kindAt, pastEnd, refusal2Head, refusal6Empty, refusal16, tailFits, refusal6, refusal4, refusal7, seen}
-use Rattle.layout.specs.Refusals.{hasStop, hasLine, hasCar, hasDemand, lastStop, presentZero, strategyAt, loadWeighed, phaseAt, refusal8Policy}
+use Rattle.layout.specs.Refusals.{hasStop, hasLine, hasCar, hasDemand, hasClosed, lastStop, presentZero, strategyAt, loadWeighed, phaseAt, refusal8Policy}
 use Rattle.layout.specs.Refusals.{refusal11Policy, refusal12, refusal15, refusal9Stop, refusal11Stop, refusal9Line, refusal10Line, refusal8Car}
 use Rattle.layout.specs.Refusals.{refusal9Car, refusal10Car, refusal11Car, refusal13, refusal8Aboard, refusal9Aboard, refusal10Aboard}
-use Rattle.layout.specs.Refusals.{refusal8Waiting, refusal9Waiting, refusal10Waiting, refusal11Waiting, refusal14, refusal9Demand, refusal10Demand}
+use Rattle.layout.specs.Refusals.{refusal8Waiting, refusal9Waiting, refusal10Waiting, refusal11Waiting, refusal14, refusal9Demand, refusal10Demand, refusal9Closed, refusal10Closed}
 use Rattle.layout.specs.Verdict.{bodyRefusal, recordRefusal, headRules, tailRules, given, tailVerdict, recordsVerdict, verdict, firstOf}
 use Rattle.layout.specs.Readings.{refused≢accepted, same-counts}
 use Rattle.layout.specs.VerdictLaws.{pick-none, Clean, clean}
@@ -45,8 +45,8 @@ use Rattle.accepted.specs.Sound.{Found, Distinct, isThresholdOr, SoundPo
 
 -- ---- the records that were read
 
-abbrev pub counts : ℕ → ℕ → ℕ → ℕ → ℕ → ℕ → ℕ → Counts
-counts p s l k a w d = record { policies = p; stops = s; lines = l; cars = k; aboards = a; waits = w; demands = d }
+abbrev pub counts : ℕ → ℕ → ℕ → ℕ → ℕ → ℕ → ℕ → ℕ → Counts
+counts p s l k a w d x = record { policies = p; stops = s; lines = l; cars = k; aboards = a; waits = w; demands = d; closures = x }
 
 -- of the record of kind k after those counted, no condition from 7 on holds
 pub record Read (s : List ℕ) (c : Counts) (k : Kind) : Type 0 where
@@ -55,13 +55,15 @@ pub record Read (s : List ℕ) (c : Counts) (k : Kind) : Type 0 where
 
 -- each record with the counts before it: those of its kind that stand before, and all of the lower kinds
 pub record Records (s : List ℕ) (c : Counts) : Type 0 where
-  pub policies : (i : ℕ) → i < c .policies → Read s (counts i 0 0 0 0 0 0) Policy
-  pub stops : (i : ℕ) → i < c .stops → Read s (counts (c .policies) i 0 0 0 0 0) Stop
-  pub lines : (i : ℕ) → i < c .lines → Read s (counts (c .policies) (c .stops) i 0 0 0 0) Line
-  pub cars : (i : ℕ) → i < c .cars → Read s (counts (c .policies) (c .stops) (c .lines) i 0 0 0) Car
-  pub aboards : (i : ℕ) → i < c .aboards → Read s (counts (c .policies) (c .stops) (c .lines) (c .cars) i 0 0) Aboard
-  pub waits : (i : ℕ) → i < c .waits → Read s (counts (c .policies) (c .stops) (c .lines) (c .cars) (c .aboards) i 0) Waiting
-  pub demands : (i : ℕ) → i < c .demands → Read s (counts (c .policies) (c .stops) (c .lines) (c .cars) (c .aboards) (c .waits) i) Demand
+  pub policies : (i : ℕ) → i < c .policies → Read s (counts i 0 0 0 0 0 0 0) Policy
+  pub stops : (i : ℕ) → i < c .stops → Read s (counts (c .policies) i 0 0 0 0 0 0) Stop
+  pub lines : (i : ℕ) → i < c .lines → Read s (counts (c .policies) (c .stops) i 0 0 0 0 0) Line
+  pub cars : (i : ℕ) → i < c .cars → Read s (counts (c .policies) (c .stops) (c .lines) i 0 0 0 0) Car
+  pub aboards : (i : ℕ) → i < c .aboards → Read s (counts (c .policies) (c .stops) (c .lines) (c .cars) i 0 0 0) Aboard
+  pub waits : (i : ℕ) → i < c .waits → Read s (counts (c .policies) (c .stops) (c .lines) (c .cars) (c .aboards) i 0 0) Waiting
+  pub demands : (i : ℕ) → i < c .demands → Read s (counts (c .policies) (c .stops) (c .lines) (c .cars) (c .aboards) (c .waits) i 0) Demand
+  pub closures : (i : ℕ) → i < c .closures
+      → Read s (counts (c .policies) (c .stops) (c .lines) (c .cars) (c .aboards) (c .waits) (c .demands) i) Closed
 
 -- ---- one record more
 
@@ -80,11 +82,13 @@ record Last (c : Counts) (m : ℕ) : Type 0 where
   pub aboards : m < 5 → c .aboards ≡ 0
   pub waits : m < 6 → c .waits ≡ 0
   pub demands : m < 7 → c .demands ≡ 0
+  pub closures : m < 8 → c .closures ≡ 0
 
 last : (c : Counts) (m : ℕ) → lastKind c ≤ m → Last c m
 unfolding lastKind
 last c m h =
-    let d : m < 7 → _ = λ l. peel (c .demands) 7 _ m h l in
+    let x : m < 8 → _ = λ l. peel (c .closures) 8 _ m h l in
+    let d : m < 7 → _ = λ l. peel (c .demands) 7 _ m (x (omega arith) .1) l in
     let w : m < 6 → _ = λ l. peel (c .waits) 6 _ m (d (omega arith) .1) l in
     let a : m < 5 → _ = λ l. peel (c .aboards) 5 _ m (w (omega arith) .1) l in
     let k : m < 4 → _ = λ l. peel (c .cars) 4 _ m (a (omega arith) .1) l in
@@ -97,6 +101,7 @@ last c m h =
       aboards = λ l. a l .0;
       waits = λ l. w l .0;
       demands = λ l. d l .0;
+      closures = λ l. x l .0;
     }
 
 grown : {P : ℕ → Type 0} {n : ℕ} → ((i : ℕ) → i < n → P i) → P n → (i : ℕ) → i < n + 1 → P i
@@ -108,10 +113,10 @@ above-zero n e = let h = eqb-false n 0 e in ⊎-elim (λ (l : 0 < n). l) (λ (l 
 gone : {n i : ℕ} → n ≡ 0 → i < n → ⊥
 gone e l = absurd (omega arith)
 
-agree-counts : {p s l k a w d p′ s′ l′ k′ a′ w′ d′ : ℕ} → p ≡ p′ → s ≡ s′ → l ≡ l′ → k ≡ k′ → a ≡ a′
-    → w ≡ w′ → d ≡ d′
-    → counts p s l k a w d ≡ counts p′ s′ l′ k′ a′ w′ d′
-agree-counts e1 e2 e3 e4 e5 e6 e7 = cc
+agree-counts : {p s l k a w d x p′ s′ l′ k′ a′ w′ d′ x′ : ℕ} → p ≡ p′ → s ≡ s′ → l ≡ l′ → k ≡ k′ → a ≡ a′
+    → w ≡ w′ → d ≡ d′ → x ≡ x′
+    → counts p s l k a w d x ≡ counts p′ s′ l′ k′ a′ w′ d′ x′
+agree-counts e1 e2 e3 e4 e5 e6 e7 e8 = cc
 
 module _ (s : List ℕ) (c : Counts) (m : ℕ) (h : Records s c) (e : Last c m) where
   with-policy : m ≡ 1 → Read s c Policy → Records s (next c Policy)
@@ -123,14 +128,16 @@ module _ (s : List ℕ) (c : Counts) (m : ℕ) (h : Records s c) (e : Last c m) 
       let a0 = e .aboards (omega arith) in
       let w0 = e .waits (omega arith) in
       let d0 = e .demands (omega arith) in
+      let x0 = e .closures (omega arith) in
       record {
-        policies = grown (h .policies) (subst (λ x. Read s x Policy) (agree-counts refl s0 l0 k0 a0 w0 d0) r);
+        policies = grown (h .policies) (subst (λ x. Read s x Policy) (agree-counts refl s0 l0 k0 a0 w0 d0 x0) r);
         stops = λ i l. absurd (gone s0 l);
         lines = λ i l. absurd (gone l0 l);
         cars = λ i l. absurd (gone k0 l);
         aboards = λ i l. absurd (gone a0 l);
         waits = λ i l. absurd (gone w0 l);
         demands = λ i l. absurd (gone d0 l);
+        closures = λ i l. absurd (gone x0 l);
       }
 
   with-stop : m ≡ 2 → Read s c Stop → Records s (next c Stop)
@@ -140,14 +147,16 @@ module _ (s : List ℕ) (c : Counts) (m : ℕ) (h : Records s c) (e : Last c m) 
       let a0 = e .aboards (omega arith) in
       let w0 = e .waits (omega arith) in
       let d0 = e .demands (omega arith) in
+      let x0 = e .closures (omega arith) in
       record {
         policies = h .policies;
-        stops = grown (h .stops) (subst (λ x. Read s x Stop) (agree-counts refl refl l0 k0 a0 w0 d0) r);
+        stops = grown (h .stops) (subst (λ x. Read s x Stop) (agree-counts refl refl l0 k0 a0 w0 d0 x0) r);
         lines = λ i l. absurd (gone l0 l);
         cars = λ i l. absurd (gone k0 l);
         aboards = λ i l. absurd (gone a0 l);
         waits = λ i l. absurd (gone w0 l);
         demands = λ i l. absurd (gone d0 l);
+        closures = λ i l. absurd (gone x0 l);
       }
 
   with-line : m ≡ 3 → Read s c Line → Records s (next c Line)
@@ -156,14 +165,16 @@ module _ (s : List ℕ) (c : Counts) (m : ℕ) (h : Records s c) (e : Last c m) 
       let a0 = e .aboards (omega arith) in
       let w0 = e .waits (omega arith) in
       let d0 = e .demands (omega arith) in
+      let x0 = e .closures (omega arith) in
       record {
         policies = h .policies;
         stops = h .stops;
-        lines = grown (h .lines) (subst (λ x. Read s x Line) (agree-counts refl refl refl k0 a0 w0 d0) r);
+        lines = grown (h .lines) (subst (λ x. Read s x Line) (agree-counts refl refl refl k0 a0 w0 d0 x0) r);
         cars = λ i l. absurd (gone k0 l);
         aboards = λ i l. absurd (gone a0 l);
         waits = λ i l. absurd (gone w0 l);
         demands = λ i l. absurd (gone d0 l);
+        closures = λ i l. absurd (gone x0 l);
       }
 
   with-car : m ≡ 4 → Read s c Car → Records s (next c Car)
@@ -171,45 +182,52 @@ module _ (s : List ℕ) (c : Counts) (m : ℕ) (h : Records s c) (e : Last c m) 
       let a0 = e .aboards (omega arith) in
       let w0 = e .waits (omega arith) in
       let d0 = e .demands (omega arith) in
+      let x0 = e .closures (omega arith) in
       record {
         policies = h .policies;
         stops = h .stops;
         lines = h .lines;
-        cars = grown (h .cars) (subst (λ x. Read s x Car) (agree-counts refl refl refl refl a0 w0 d0) r);
+        cars = grown (h .cars) (subst (λ x. Read s x Car) (agree-counts refl refl refl refl a0 w0 d0 x0) r);
         aboards = λ i l. absurd (gone a0 l);
         waits = λ i l. absurd (gone w0 l);
         demands = λ i l. absurd (gone d0 l);
+        closures = λ i l. absurd (gone x0 l);
       }
 
   with-aboard : m ≡ 5 → Read s c Aboard → Records s (next c Aboard)
   with-aboard q r =
       let w0 = e .waits (omega arith) in
       let d0 = e .demands (omega arith) in
+      let x0 = e .closures (omega arith) in
       record {
         policies = h .policies;
         stops = h .stops;
         lines = h .lines;
         cars = h .cars;
-        aboards = grown (h .aboards) (subst (λ x. Read s x Aboard) (agree-counts refl refl refl refl refl w0 d0) r);
+        aboards = grown (h .aboards) (subst (λ x. Read s x Aboard) (agree-counts refl refl refl refl refl w0 d0 x0) r);
         waits = λ i l. absurd (gone w0 l);
         demands = λ i l. absurd (gone d0 l);
+        closures = λ i l. absurd (gone x0 l);
       }
 
   with-waiting : m ≡ 6 → Read s c Waiting → Records s (next c Waiting)
   with-waiting q r =
       let d0 = e .demands (omega arith) in
+      let x0 = e .closures (omega arith) in
       record {
         policies = h .policies;
         stops = h .stops;
         lines = h .lines;
         cars = h .cars;
         aboards = h .aboards;
-        waits = grown (h .waits) (subst (λ x. Read s x Waiting) (agree-counts refl refl refl refl refl refl d0) r);
+        waits = grown (h .waits) (subst (λ x. Read s x Waiting) (agree-counts refl refl refl refl refl refl d0 x0) r);
         demands = λ i l. absurd (gone d0 l);
+        closures = λ i l. absurd (gone x0 l);
       }
 
-  with-demand : Read s c Demand → Records s (next c Demand)
-  with-demand r =
+  with-demand : m ≡ 7 → Read s c Demand → Records s (next c Demand)
+  with-demand q r =
+      let x0 = e .closures (omega arith) in
       record {
         policies = h .policies;
         stops = h .stops;
@@ -217,7 +235,21 @@ module _ (s : List ℕ) (c : Counts) (m : ℕ) (h : Records s c) (e : Last c m) 
         cars = h .cars;
         aboards = h .aboards;
         waits = h .waits;
-        demands = grown (h .demands) r;
+        demands = grown (h .demands) (subst (λ x. Read s x Demand) (agree-counts refl refl refl refl refl refl refl x0) r);
+        closures = λ i l. absurd (gone x0 l);
+      }
+
+  with-closed : Read s c Closed → Records s (next c Closed)
+  with-closed r =
+      record {
+        policies = h .policies;
+        stops = h .stops;
+        lines = h .lines;
+        cars = h .cars;
+        aboards = h .aboards;
+        waits = h .waits;
+        demands = h .demands;
+        closures = grown (h .closures) r;
       }
 
 pub one-more : (s : List ℕ) (c : Counts) → Records s c → Clean s c → Records s (next c (kindOf (kindAt s c)))
@@ -227,7 +259,8 @@ one-more s c h r =
     let e = last c m (ltb-false m (lastKind c) (neither-left (ltb m (lastKind c)) _ (r .in-order))) in
     by-kind (λ k. Read s c k → Records s (next c k)) m
     (λ q. with-policy s c m h e q) (λ q. with-stop s c m h e q) (λ q. with-line s c m h e q) (λ q. with-car s c m h e q)
-    (λ q. with-aboard s c m h e q) (λ q. with-waiting s c m h e q) (λ q. with-demand s c m h e) (λ _. h)
+    (λ q. with-aboard s c m h e q) (λ q. with-waiting s c m h e q) (λ q. with-demand s c m h e q)
+    (λ q. with-closed s c m h e) (λ _. h)
     (record { has-room = r .has-room; body = r .body })
 
 -- the first record is a policy
@@ -243,6 +276,7 @@ with-first s c r =
     (which (eqb (c .policies) 0)) in
     by-kind (λ k. refusal4 k ≡ false → 0 < next c k .policies) m
     (λ q _. omega arith)
+    (λ q _. other (λ x. absurd (omega arith)))
     (λ q _. other (λ x. absurd (omega arith)))
     (λ q _. other (λ x. absurd (omega arith)))
     (λ q _. other (λ x. absurd (omega arith)))
@@ -328,6 +362,7 @@ no-records s =
       aboards = λ i l. absurd (omega arith);
       waits = λ i l. absurd (omega arith);
       demands = λ i l. absurd (omega arith);
+      closures = λ i l. absurd (omega arith);
     }
 
 pub whole : (s : List ℕ) (c : Counts) → verdict s ≡ Accepted c → Whole s c
@@ -479,6 +514,17 @@ module _ (f : Fields) where
       let b = pick-none (refusal10Demand s c f) 10 0 (omega arith) (a .1) in
       record { fresh = neither-right (eqb (read f demand·stop) 0) _ (a .0); stop = not-false _ (b .0) }
 
+  record ClosedFacts (s : List ℕ) (c : Counts) : Type 0 where
+    pub fresh : hasClosed s c (read f closed·stop) ≡ false
+    pub stop : hasStop s c (read f closed·stop) ≡ true
+
+  closed-facts : (s : List ℕ) (c : Counts) → bodyRefusal s c kind.Closed f ≡ 0 → ClosedFacts s c
+  unfolding firstOf refusal9Closed refusal10Closed
+  closed-facts s c e =
+      let a = pick-none (refusal9Closed s c f) 9 _ (omega arith) e in
+      let b = pick-none (refusal10Closed s c f) 10 0 (omega arith) (a .1) in
+      record { fresh = neither-right (eqb (read f closed·stop) 0) _ (a .0); stop = not-false _ (b .0) }
+
 -- ---- ids
 
 found : (s : List ℕ) (base len n id : ℕ) → seen s base len n id ≡ true → Found (λ i. read (from s (base + len * i)) (first 32)) n id
@@ -549,37 +595,44 @@ pub body-at : {s : List ℕ} {c : Counts} {k : Kind} → Read s c k → (at : �
 body-at {s} {c} {k} r at e = subst (λ x. bodyRefusal s c k (from s x) ≡ 0) e (r .body)
 
 module _ (s : List ℕ) (c : Counts) (h : Records s c) where
-  the-stop : (j : ℕ) → j < c .stops → StopFacts (from s (stopStart c j)) s (counts (c .policies) j 0 0 0 0 0)
+  the-stop : (j : ℕ) → j < c .stops → StopFacts (from s (stopStart c j)) s (counts (c .policies) j 0 0 0 0 0 0)
   the-stop j l =
-      let at = stopStart c j in stop-facts (from s at) s (counts (c .policies) j 0 0 0 0 0) (body-at (h .stops j l) at (omega arith))
+      let at = stopStart c j in stop-facts (from s at) s (counts (c .policies) j 0 0 0 0 0 0) (body-at (h .stops j l) at (omega arith))
 
-  the-line : (i : ℕ) → i < c .lines → LineFacts (from s (lineStart c i)) s (counts (c .policies) (c .stops) i 0 0 0 0)
+  the-line : (i : ℕ) → i < c .lines → LineFacts (from s (lineStart c i)) s (counts (c .policies) (c .stops) i 0 0 0 0 0)
   the-line i l =
       let at = lineStart c i in
-      line-facts (from s at) s (counts (c .policies) (c .stops) i 0 0 0 0) (body-at (h .lines i l) at (omega arith))
+      line-facts (from s at) s (counts (c .policies) (c .stops) i 0 0 0 0 0) (body-at (h .lines i l) at (omega arith))
 
-  the-car : (i : ℕ) → i < c .cars → CarFacts (from s (carStart c i)) s (counts (c .policies) (c .stops) (c .lines) i 0 0 0)
+  the-car : (i : ℕ) → i < c .cars → CarFacts (from s (carStart c i)) s (counts (c .policies) (c .stops) (c .lines) i 0 0 0 0)
   the-car i l =
       let at = carStart c i in
-      car-facts (from s at) s (counts (c .policies) (c .stops) (c .lines) i 0 0 0) (body-at (h .cars i l) at (omega arith))
+      car-facts (from s at) s (counts (c .policies) (c .stops) (c .lines) i 0 0 0 0) (body-at (h .cars i l) at (omega arith))
 
   the-aboard : (i : ℕ) → i < c .aboards → hasCar s c (read (from s (aboardStart c i)) aboard·car) ≡ true
   the-aboard i l =
       let at = aboardStart c i in
-      aboard-car (from s at) s (counts (c .policies) (c .stops) (c .lines) (c .cars) i 0 0) (body-at (h .aboards i l) at (omega arith))
+      aboard-car (from s at) s (counts (c .policies) (c .stops) (c .lines) (c .cars) i 0 0 0) (body-at (h .aboards i l) at (omega arith))
 
   the-waiting : (i : ℕ) → i < c .waits
-      → WaitingFacts (from s (waitingStart c i)) s (counts (c .policies) (c .stops) (c .lines) (c .cars) (c .aboards) i 0)
+      → WaitingFacts (from s (waitingStart c i)) s (counts (c .policies) (c .stops) (c .lines) (c .cars) (c .aboards) i 0 0)
   the-waiting i l =
       let at = waitingStart c i in
-      waiting-facts (from s at) s (counts (c .policies) (c .stops) (c .lines) (c .cars) (c .aboards) i 0) (body-at (h .waits i l) at (omega arith))
+      waiting-facts (from s at) s (counts (c .policies) (c .stops) (c .lines) (c .cars) (c .aboards) i 0 0) (body-at (h .waits i l) at (omega arith))
 
   the-demand : (i : ℕ) → i < c .demands
-      → DemandFacts (from s (demandStart c i)) s (counts (c .policies) (c .stops) (c .lines) (c .cars) (c .aboards) (c .waits) i)
+      → DemandFacts (from s (demandStart c i)) s (counts (c .policies) (c .stops) (c .lines) (c .cars) (c .aboards) (c .waits) i 0)
   the-demand i l =
       let at = demandStart c i in
-      demand-facts (from s at) s (counts (c .policies) (c .stops) (c .lines) (c .cars) (c .aboards) (c .waits) i)
+      demand-facts (from s at) s (counts (c .policies) (c .stops) (c .lines) (c .cars) (c .aboards) (c .waits) i 0)
       (body-at (h .demands i l) at (omega arith))
+
+  the-closed : (i : ℕ) → i < c .closures
+      → ClosedFacts (from s (closedStart c i)) s (counts (c .policies) (c .stops) (c .lines) (c .cars) (c .aboards) (c .waits) (c .demands) i)
+  the-closed i l =
+      let at = closedStart c i in
+      closed-facts (from s at) s (counts (c .policies) (c .stops) (c .lines) (c .cars) (c .aboards) (c .waits) (c .demands) i)
+      (body-at (h .closures i l) at (omega arith))
 
   abbrev stop-ids : ℕ → ℕ
   stop-ids j = read (from s (stopStart c j)) stop·id
@@ -593,13 +646,16 @@ module _ (s : List ℕ) (c : Counts) (h : Records s c) where
   abbrev demand-ids : ℕ → ℕ
   demand-ids i = read (from s (demandStart c i)) demand·stop
 
+  abbrev closed-ids : ℕ → ℕ
+  closed-ids i = read (from s (closedStart c i)) closed·stop
+
   stops-rise : (i : ℕ) → suc i < c .stops → stop-ids i < stop-ids (suc i)
   unfolding lastStop
   stops-rise i l =
       let f = the-stop (suc i) l .above in
       let e : suc i - 1 ≡ i = omega arith in
       let g : eqb (suc i) 0 ≡ false = ne-eqb (suc i) 0 (λ q. absurd (omega arith)) in
-      let z : lastStop s (counts (c .policies) (suc i) 0 0 0 0 0) ≡ stop-ids i = rw (g, e) in
+      let z : lastStop s (counts (c .policies) (suc i) 0 0 0 0 0 0) ≡ stop-ids i = rw (g, e) in
       omega arith
 
   distinct-lines : Distinct line-ids (c .lines)
@@ -620,6 +676,16 @@ module _ (s : List ℕ) (c : Counts) (h : Records s c) where
   pub few-demands : c .demands ≤ c .stops
   few-demands = no-more demand-ids stop-ids (c .demands) (c .stops) distinct-demands demand-found
 
+  distinct-closures : Distinct closed-ids (c .closures)
+  unfolding seen
+  distinct-closures = distinct closed-ids (c .closures) (λ i l. the-closed i l .fresh)
+
+  closed-found : (i : ℕ) → i < c .closures → Found stop-ids (c .stops) (closed-ids i)
+  closed-found i l = found s (stopsFrom c) (recordLength kind.Stop) (c .stops) (closed-ids i) (the-closed i l .stop)
+
+  pub few-closures : c .closures ≤ c .stops
+  few-closures = no-more closed-ids stop-ids (c .closures) (c .stops) distinct-closures closed-found
+
   pub small : Small c
   small =
       record {
@@ -630,6 +696,7 @@ module _ (s : List ℕ) (c : Counts) (h : Records s c) where
         aboards = up-to (c .aboards) 512 (λ i l. leb-false 512 i (h .aboards i l .has-room));
         waits = up-to (c .waits) 512 (λ i l. leb-false 512 i (h .waits i l .has-room));
         demands = let few = few-demands in let most = up-to (c .stops) 64 (λ i l. leb-false 64 i (h .stops i l .has-room)) in omega arith;
+        closures = let few = few-closures in let most = up-to (c .stops) 64 (λ i l. leb-false 64 i (h .stops i l .has-room)) in omega arith;
       }
 
   sound-line : (i : ℕ) → i < c .lines → SoundLine (sheetOf s c) (sheetOf s c .line i)
@@ -680,6 +747,7 @@ module _ (s : List ℕ) (c : Counts) (h : Records s c) where
         most-aboards = m .aboards;
         most-waits = m .waits;
         most-demands = few-demands;
+        most-closures = few-closures;
         policy = p;
         stop = λ j l. the-stop j l .sound;
         rising = all-rising stop-ids (c .stops) stops-rise;
@@ -691,6 +759,8 @@ module _ (s : List ℕ) (c : Counts) (h : Records s c) where
         waiting = sound-waiting;
         demand = demand-found;
         demand-stops = distinct-demands;
+        closed = closed-found;
+        closed-stops = distinct-closures;
       }
 
 -- the bytes end with the byte where the last record ends
@@ -705,7 +775,7 @@ pub accepted : (s : List ℕ) (c : Counts) → verdict s ≡ Accepted c → Soun
 unfolding limitOf
 accepted s c e =
     let w = whole s c e in
-    let p = sound-policy (from s headLength) s (counts 0 0 0 0 0 0 0) (w .records .policies 0 (w .first) .body) in
+    let p = sound-policy (from s headLength) s (counts 0 0 0 0 0 0 0 0) (w .records .policies 0 (w .first) .body) in
     let m = small s c (w .records) in
     record {
       small = m;

@@ -14,24 +14,24 @@ use Rattle.laws.specs.Bools.{which, less?}
 use Rattle.laws.specs.Folds.{any-cong}
 use Rattle.bits.specs.Field.{fieldAt, field-take, field-lt}
 use Rattle.components.specs.declared.Kind.{Kind}
-use Rattle.components.specs.declared.Kind.the-variants.{Policy, Stop, Line, Car, Aboard, Waiting, Demand, Unknown}
+use Rattle.components.specs.declared.Kind.the-variants.{Policy, Stop, Line, Car, Aboard, Waiting, Demand, Closed, Unknown}
 use Rattle.components.specs.declared.Strategy.{Strategy}
 use Rattle.components.specs.declared.Strategy.the-variants.{Etd, Rsr, Scan}
 use Rattle.components.specs.declared.Strategy.the-variants as strategy
 use Rattle.components.specs.Codes.{kindOf, strategyCode}
 use Rattle.components.specs.declared.Kind.the-variants as kind
 use Rattle.layout.specs.declared.Counts.{Counts}
-use Rattle.layout.specs.Offsets.{headLength, stopStart, recordLength, none, next, endOf, stopsFrom, linesFrom, carsFrom, demandsFrom, bodyFrom}
-use Rattle.layout.specs.Table.{line·id, car·id, car·line, aboard·car, waiting·stop, demand·stop, first, stop·id}
+use Rattle.layout.specs.Offsets.{headLength, stopStart, recordLength, none, next, endOf, stopsFrom, linesFrom, carsFrom, demandsFrom, closuresFrom, bodyFrom}
+use Rattle.layout.specs.Table.{line·id, car·id, car·line, aboard·car, waiting·stop, demand·stop, closed·stop, first, stop·id}
 use Rattle.layout.specs.Records.{Fields, from, read}
 use Rattle.layout.specs.Refusals.{recordCount, kindAt, lengthAt, refusal2Head, refusal3, refusal6Empty, refusal16, tailFits, strategyAt, seen}
-use Rattle.layout.specs.Refusals.{hasStop, hasLine, hasCar, hasDemand, lastStop, unusedWeights, loadWeighed, refusal2, refusal8Policy}
+use Rattle.layout.specs.Refusals.{hasStop, hasLine, hasCar, hasDemand, hasClosed, lastStop, unusedWeights, loadWeighed, refusal2, refusal8Policy}
 use Rattle.layout.specs.Refusals.{refusal11Policy, refusal12, refusal15, refusal9Stop, refusal11Stop, refusal9Line, refusal10Line, refusal8Car}
 use Rattle.layout.specs.Refusals.{refusal9Car, refusal10Car, refusal11Car, refusal13, refusal8Aboard, refusal9Aboard, refusal10Aboard}
-use Rattle.layout.specs.Refusals.{refusal8Waiting, refusal9Waiting, refusal10Waiting, refusal11Waiting, refusal14, refusal9Demand, refusal10Demand}
+use Rattle.layout.specs.Refusals.{refusal8Waiting, refusal9Waiting, refusal10Waiting, refusal11Waiting, refusal14, refusal9Demand, refusal10Demand, refusal9Closed, refusal10Closed}
 use Rattle.layout.specs.Verdict.{pick, bodyRefusal, recordRefusal, tailVerdict, recordsVerdict, verdict, firstOf}
 use Rattle.layout.specs.VerdictLaws.{clean}
-use Rattle.accepted.specs.Accepted.{Records, one-more, small, few-demands, no-records}
+use Rattle.accepted.specs.Accepted.{Records, one-more, small, few-demands, few-closures, no-records}
 
 -- ---- a record is read within the bits of the longest, a car
 
@@ -89,6 +89,10 @@ module _ (s : List ℕ) (c : Counts) (f : Fields) where
   unfolding firstOf refusal9Demand refusal10Demand
   demand-clip = refl
 
+  closed-clip : bodyRefusal s c kind.Closed f ≡ bodyRefusal s c kind.Closed (clip f)
+  unfolding firstOf refusal9Closed refusal10Closed
+  closed-clip = refl
+
   body-clip : (k : Kind) → bodyRefusal s c k f ≡ bodyRefusal s c k (clip f)
   body-clip Policy = policy-clip
   body-clip Stop = stop-clip
@@ -97,6 +101,7 @@ module _ (s : List ℕ) (c : Counts) (f : Fields) where
   body-clip Aboard = aboard-clip
   body-clip Waiting = waiting-clip
   body-clip Demand = demand-clip
+  body-clip Closed = closed-clip
   body-clip Unknown = refl
 
 -- ---- the first 65,536 bytes of a longer list
@@ -122,7 +127,7 @@ module _ (s : List ℕ) (long : 65536 < length s) where
       (λ i l. ap (λ x. eqb x id) (field-same (base + len * i + bodyFrom) 32 (h i l)))
 
   -- what was read so far ends by bit 208,658
-  module _ (c : Counts) (near : endOf c ≤ 208658) where
+  module _ (c : Counts) (near : endOf c ≤ 212114) where
     stops-same : (id : ℕ) → hasStop s c id ≡ hasStop start c id
     stops-same id = seen-same (stopsFrom c) (recordLength kind.Stop) (c .stops) id (λ i l. omega arith)
 
@@ -134,6 +139,9 @@ module _ (s : List ℕ) (long : 65536 < length s) where
 
     demands-same : (id : ℕ) → hasDemand s c id ≡ hasDemand start c id
     demands-same id = seen-same (demandsFrom c) (recordLength kind.Demand) (c .demands) id (λ i l. omega arith)
+
+    closures-same : (id : ℕ) → hasClosed s c id ≡ hasClosed start c id
+    closures-same id = seen-same (closuresFrom c) (recordLength kind.Closed) (c .closures) id (λ i l. omega arith)
 
     last-same : lastStop s c ≡ lastStop start c
     unfolding lastStop
@@ -168,6 +176,10 @@ module _ (s : List ℕ) (long : 65536 < length s) where
       unfolding firstOf refusal9Demand refusal10Demand
       demand-look = rw (demands-same (read f demand·stop), stops-same (read f demand·stop))
 
+      closed-look : bodyRefusal s c kind.Closed f ≡ bodyRefusal start c kind.Closed f
+      unfolding firstOf refusal9Closed refusal10Closed
+      closed-look = rw (closures-same (read f closed·stop), stops-same (read f closed·stop))
+
       body-look : (k : Kind) → bodyRefusal s c k f ≡ bodyRefusal start c k f
       body-look Policy = policy-look
       body-look Stop = stop-look
@@ -176,6 +188,7 @@ module _ (s : List ℕ) (long : 65536 < length s) where
       body-look Aboard = aboard-look
       body-look Waiting = waiting-look
       body-look Demand = demand-look
+      body-look Closed = closed-look
       body-look Unknown = refl
 
     body-same : (k : Kind) → bodyRefusal s c k (from s (endOf c)) ≡ bodyRefusal start c k (from start (endOf c))
@@ -216,8 +229,8 @@ module _ (s : List ℕ) (long : 65536 < length s) where
           le-ltb (8 * length start - endOf c) 8 (omega arith),
         )
 
-  ends-near : (c : Counts) → Records s c → endOf c ≤ 208658
-  ends-near c h = let m = small s c h in let d = few-demands s c h in omega arith
+  ends-near : (c : Counts) → Records s c → endOf c ≤ 212114
+  ends-near c h = let m = small s c h in let d = few-demands s c h in let x = few-closures s c h in omega arith
 
   records-same : (n : ℕ) (c : Counts) → Records s c → recordsVerdict s n c ≡ recordsVerdict start n c
   unfolding recordsVerdict

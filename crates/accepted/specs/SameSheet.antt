@@ -11,9 +11,9 @@ use Rattle.components.specs.Codes.{kindOf}
 use Rattle.layout.specs.declared.Counts.{Counts}
 use Rattle.layout.specs.declared.Reading.the-variants.{Accepted}
 use Rattle.layout.specs.Table.{head·count, policy·strategy, policy·rate, policy·traffic, policy·w0, policy·w1, policy·w2, policy·w3, policy·w4}
-use Rattle.layout.specs.Table.{policy·w5}
-use Rattle.layout.specs.Offsets.{headLength, stopStart, lineStart, carStart, aboardStart, waitingStart, demandStart, none, next, endOf}
-use Rattle.layout.specs.Records.{from, policyOf, stopOf, lineOf, carOf, aboardOf, waitingOf, demandOf, sheetOf}
+use Rattle.layout.specs.Table.{policy·w5, closed·stop}
+use Rattle.layout.specs.Offsets.{headLength, stopStart, lineStart, carStart, aboardStart, waitingStart, demandStart, closedStart, none, next, endOf}
+use Rattle.layout.specs.Records.{from, read, policyOf, stopOf, lineOf, carOf, aboardOf, waitingOf, demandOf, sheetOf}
 use Rattle.layout.specs.Refusals.{recordCount, kindAt}
 use Rattle.layout.specs.Verdict.{recordsVerdict, verdict}
 use Rattle.accepted.specs.Accepted.{on, headed, at-end, accepted}
@@ -38,7 +38,7 @@ module _ (s t : List ℕ) (agree : AgreeButLimit s t) where
       ⊎-elim
       (λ (l : endOf c < 64).
       let p : c .policies ≡ 0 = omega arith in
-      let r : c .stops + c .lines + c .cars + c .aboards + c .waits + c .demands ≡ 0 = omega arith in
+      let r : c .stops + c .lines + c .cars + c .aboards + c .waits + c .demands + c .closures ≡ 0 = omega arith in
       early (endOf c + 0) 6 (omega arith))
       (λ (l : 64 ≤ endOf c). late (endOf c + 0) 6 (omega arith))
       (less? (endOf c) 64)
@@ -86,6 +86,8 @@ module _ (s t : List ℕ) (agree : AgreeButLimit s t) where
         waiting = λ j. waitingOf (past (waitingStart c j) (omega arith) i);
         demands = c .demands;
         demand = λ j. demandOf (past (demandStart c j) (omega arith) i);
+        closures = c .closures;
+        closed = λ j. read (past (closedStart c j) (omega arith) i) closed·stop;
       }
 
   pub sheet-same : (c d : Counts) → verdict s ≡ Accepted c → verdict t ≡ Accepted d → sheetOf s c ≡ sheetOf t d

@@ -88,6 +88,7 @@ pub record SoundSheet (s : Sheet) : Type 0 where
   pub most-waits : s .waits ≤ 512
   -- "one a stop"
   pub most-demands : s .demands ≤ s .stops
+  pub most-closures : s .closures ≤ s .stops
   pub policy : SoundPolicy (s .policy)
   pub stop : (j : ℕ) → j < s .stops → SoundStop (s .stop j)
   pub rising : (a b : ℕ) → a < b → b < s .stops → s .stop a .id < s .stop b .id
@@ -99,6 +100,8 @@ pub record SoundSheet (s : Sheet) : Type 0 where
   pub waiting : (r : ℕ) → r < s .waits → SoundWaiting s (s .waiting r)
   pub demand : (d : ℕ) → d < s .demands → Found (λ j. s .stop j .id) (s .stops) (s .demand d .stop)
   pub demand-stops : Distinct (λ d. s .demand d .stop) (s .demands)
+  pub closed : (x : ℕ) → x < s .closures → Found (λ j. s .stop j .id) (s .stops) (s .closed x)
+  pub closed-stops : Distinct (s .closed) (s .closures)
 
 -- over the bytes and their counts
 pub record Sound (s : List ℕ) (c : Counts) : Type 0 where

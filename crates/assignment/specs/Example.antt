@@ -20,7 +20,7 @@ use Rattle.sweep.specs.Sweeps.{prepared, sweepRank, sweepCode}
 use Rattle.scan.specs.Scan.{rankOf, strictDemandAhead, preparedSweep, scanRank}
 use Rattle.dispatch.specs.Useful.{riderCanBoard, canExitHere, servable, onAboardPath, pairIsUseful}
 use Rattle.assignment_problem.specs.Recursion.{scan, best, chosen, leastTotal}
-use Rattle.assignment.specs.Pending.{serves, lineCapacity, capacityAt, weightAt, lineServed, covered, idle, idleBound, pending, idleCars}
+use Rattle.assignment.specs.Pending.{serves, lineCapacity, capacityAt, weightAt, lineServed, coveredByCars, closedAt, covered, idle, idleBound, pending, idleCars}
 use Rattle.assignment.specs.Pending.{rowCar, pendingStops, columnStop, columns}
 use Rattle.assignment.specs.Candidates.{keeps, precedes, keptOf, lineServesOf, nearerOf, viableOf}
 use Rattle.assignment.specs.Cells.{sweepAfter, rank, cell, matrix, column, answeredTotal, goes, decision}
@@ -41,7 +41,7 @@ bytes =
     12 ∷ 64 ∷ 0 ∷ 0 ∷ 0 ∷ 128 ∷ 0 ∷ 35 ∷ 128 ∷ 24 ∷ 128 ∷ 0 ∷ 0 ∷ 1 ∷ 128 ∷ 0 ∷ 64 ∷ []
 
 unfoldable pub counts : Counts
-counts = record { policies = 1; stops = 3; lines = 1; cars = 2; aboards = 0; waits = 0; demands = 2 }
+counts = record { policies = 1; stops = 3; lines = 1; cars = 2; aboards = 0; waits = 0; demands = 2; closures = 0 }
 
 unfoldable pub sheet : Sheet
 sheet = sheetOf bytes counts
@@ -51,7 +51,7 @@ unfoldable pub everything : ℕ
 unfolding ofBits add sub mul div neg lt le eq round ofInt fold any every count nth lookup tab distance whole scaleCost has sheetOf limitOf
     stopPosition goal inGroup someoneWaits riderlessCall riddenTo hasDemand demandStop prepared sweepRank sweepCode rankOf strictDemandAhead
     preparedSweep riderCanBoard canExitHere servable onAboardPath pairIsUseful scan best chosen leastTotal serves lineCapacity capacityAt weightAt
-    lineServed covered idle idleBound pending idleCars rowCar pendingStops columnStop columns keeps precedes lineServesOf viableOf nearerOf keptOf
+    lineServed coveredByCars closedAt covered idle idleBound pending idleCars rowCar pendingStops columnStop columns keeps precedes lineServesOf viableOf nearerOf keptOf
     sweepAfter scanRank rank cell matrix column answeredTotal goes decision bytes counts sheet reading
 everything = 0
 

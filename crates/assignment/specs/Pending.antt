@@ -33,11 +33,19 @@ module _ (s : Sheet) where
   lineServed j w = eqb (s .waiting w .line) 0 || any (λ i. serves j i && eqb (s .car i .line) (s .waiting w .line)) (s .cars)
 
   -- "Covered: at least one serves it, each waiter's required line, if it has one, is one of theirs, and the waiters' weights, added in record order,
-  -- are at most their remaining capacities". The ONE definition of coverage.
-  unfoldable pub covered : ℕ → Bool
-  covered j =
+  -- are at most their remaining capacities"
+  unfoldable pub coveredByCars : ℕ → Bool
+  coveredByCars j =
       any (serves j) (s .cars)
       && (every (λ w. not (waitsAt s j w) || lineServed j w) (s .waits) && le (weightAt j) (capacityAt j))
+
+  -- request F-2: "A new kind 8 names a stop (32 bits)"
+  unfoldable pub closedAt : ℕ → Bool
+  closedAt j = any (λ x. eqb (s .closed x) (stopId s j)) (s .closures)
+
+  -- and it "counts as covered whoever waits there". The ONE definition of coverage.
+  unfoldable pub covered : ℕ → Bool
+  covered j = closedAt j || coveredByCars j
 
   -- "The idle cars are the idle-listed ones in record order."
   unfoldable pub idle : ℕ → Bool

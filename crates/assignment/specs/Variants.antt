@@ -84,7 +84,7 @@ unfoldable crowdBytes : Bits → List ℕ
 crowdBytes riders = sheet 6 (scan ++ stop 1 ++ line 1 0x8000_0000_0000_0000 ++ opening ++ riders)
 
 unfoldable crowdCounts : Counts
-crowdCounts = record { policies = 1; stops = 1; lines = 1; cars = 1; aboards = 0; waits = 2; demands = 0 }
+crowdCounts = record { policies = 1; stops = 1; lines = 1; cars = 1; aboards = 0; waits = 2; demands = 0; closures = 0 }
 
 unfoldable crowd : Bits → Sheet
 crowd riders = sheetOf (crowdBytes riders) crowdCounts

@@ -18,7 +18,7 @@ use Rattle.components.specs.declared.Mode.the-variants as mode
 use Rattle.components.specs.declared.Threshold.the-variants as threshold
 use Rattle.components.specs.Sheet.{Sheet}
 use Rattle.dispatch.specs.Waits.{waitTicksSum}
-use Rattle.assignment.specs.Pending.{serves, lineCapacity, capacityAt, weightAt, lineServed, covered, idle, idleBound, pending}
+use Rattle.assignment.specs.Pending.{serves, lineCapacity, capacityAt, weightAt, lineServed, coveredByCars, closedAt, covered, idle, idleBound, pending}
 use Rattle.assignment.specs.Candidates.{keeps, precedes, kept, keptOf, lineServesOf, nearerOf, viableOf}
 use Rattle.assignment.specs.Cells.{rank, cell}
 use Rattle.cases.specs.Table.{everything}
@@ -81,6 +81,8 @@ sheetWith ticks =
       waiting = λ w. record { stop = 1; line = 0; destination = 2; weight = natural 50; wait = getD ticks w 0 };
       demands = 3;
       demand = λ d. record { stop = d + 1; riding = 0; call = true };
+      closures = 0;
+      closed = λ x. 0;
     }
 
 unfoldable pub sheet : Sheet
@@ -98,7 +100,7 @@ pub record NearMisses : Type 0 where
   pub covered-to-the-last : (covered (sheetWith (0 ∷ 0 ∷ [])) 0 ≡ true) × (covered (sheetWith (0 ∷ 0 ∷ 0 ∷ [])) 0 ≡ false)
 
 pub near-misses : NearMisses
-unfolding everything serves lineCapacity capacityAt weightAt lineServed covered idle idleBound pending keeps precedes lineServesOf viableOf nearerOf
+unfolding everything serves lineCapacity capacityAt weightAt lineServed coveredByCars closedAt covered idle idleBound pending keeps precedes lineServesOf viableOf nearerOf
     keptOf rank cell policy carOf sheetWith sheet
 near-misses =
     record {

@@ -99,6 +99,8 @@ sheet p q c =
       waiting = λ w. record { stop = 0; line = 0; destination = 0; weight = zero; wait = 0 };
       demands = 1;
       demand = λ d. record { stop = 1; riding = 0; call = true };
+      closures = 0;
+      closed = λ x. 0;
     }
 
 -- one name that opens every definition on the way

@@ -23,6 +23,7 @@ pub record Begun (bytes : List ℕ) (c : Counts) (ids : List ℕ) (xs : List Flo
   pub names : HoldsNames (sheetOf bytes c) ids
   pub boarded : Boarded (sheetOf bytes c)
   pub few-demands : c .demands ≤ 64
+  pub few-closures : c .closures ≤ 64
 
 pub begun : (bytes : List ℕ) (c : Counts) → verdict bytes ≡ Accepted c → (ids : List ℕ) (xs : List Float) (r : List ℕ) (q : List Float)
     → ids ≡ tab (stopId (sheetOf bytes c)) (c .stops) ++ r → xs ≡ tab (stopAt (sheetOf bytes c)) (c .stops) ++ q → Begun bytes c ids xs
@@ -35,6 +36,7 @@ begun bytes c e ids xs r q ei ex =
       names = record { held = held .id-of; above-zero = rising-of bytes c e .above-zero };
       boarded = record { above-zero = λ a l. let (i, b, q) = sound .aboard a l in omega (arith, q, sound .car i b .id) };
       few-demands = omega (arith, sound .most-demands, sound .most-stops);
+      few-closures = omega (arith, sound .most-closures, sound .most-stops);
     }
 
 -- the stops are seen where their ids, positions and masks are at hand

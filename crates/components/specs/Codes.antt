@@ -23,7 +23,7 @@ use Rattle.components.specs.declared.Mode.the-variants as mode
 
 -- ---- the enum of a code; the last case takes what document 01 gives no meaning
 
--- the table's column "Kind"
+-- the table's column "Kind", and request F-2: "A new kind 8"
 unfoldable pub kindOf : ℕ → Kind
 kindOf n =
     cond (eqb n 1) kind.Policy
@@ -33,7 +33,8 @@ kindOf n =
     (cond (eqb n 5) kind.Aboard
     (cond (eqb n 6) kind.Waiting
     (cond (eqb n 7) kind.Demand
-    kind.Unknown))))))
+    (cond (eqb n 8) kind.Closed
+    kind.Unknown)))))))
 
 -- "strategy 2 (0 ETD, 1 RSR, 2 SCAN)"
 unfoldable pub strategyOf : ℕ → Strategy
@@ -73,6 +74,7 @@ kindCode kind.Car = 4
 kindCode kind.Aboard = 5
 kindCode kind.Waiting = 6
 kindCode kind.Demand = 7
+kindCode kind.Closed = 8
 kindCode kind.Unknown = 0
 
 -- "strategy 3" is refused (8)
@@ -123,7 +125,7 @@ has-code {A} {of} {code} {most} {n} {x} all e =
       number = λ l. ap code e ∙ eqb-true (code (of n)) n (every-at (λ m. eqb (code (of m)) m) (suc most) n all (omega arith));
     }
 
-pub kind-codes : every (λ m. eqb (kindCode (kindOf m)) m) 8 ≡ true
+pub kind-codes : every (λ m. eqb (kindCode (kindOf m)) m) 9 ≡ true
 unfolding every kindOf
 kind-codes = refl
 
@@ -147,13 +149,15 @@ by-code P n m k rest here there =
 
 pub by-kind : (P : Kind → Type 0) (n : ℕ) → (n ≡ 1 → P kind.Policy) → (n ≡ 2 → P kind.Stop) → (n ≡ 3 → P kind.Line)
     → (n ≡ 4 → P kind.Car)
-    → (n ≡ 5 → P kind.Aboard) → (n ≡ 6 → P kind.Waiting) → (n ≡ 7 → P kind.Demand) → P kind.Unknown → P (kindOf n)
+    → (n ≡ 5 → P kind.Aboard) → (n ≡ 6 → P kind.Waiting) → (n ≡ 7 → P kind.Demand) → (n ≡ 8 → P kind.Closed) → P kind.Unknown
+    → P (kindOf n)
 unfolding kindOf
-by-kind P n p s l k a w d u =
+by-kind P n p s l k a w d c u =
     by-code P n 1 kind.Policy _ p
     (by-code P n 2 kind.Stop _ s
     (by-code P n 3 kind.Line _ l
     (by-code P n 4 kind.Car _ k
     (by-code P n 5 kind.Aboard _ a
     (by-code P n 6 kind.Waiting _ w
-    (by-code P n 7 kind.Demand _ d u))))))
+    (by-code P n 7 kind.Demand _ d
+    (by-code P n 8 kind.Closed _ c u)))))))

@@ -23,3 +23,6 @@ pub record Sheet : Type 0 where
   pub waiting : ℕ → Waiting
   pub demands : ℕ
   pub demand : ℕ → Demand
+  -- the stops of the records of kind 8
+  pub closures : ℕ
+  pub closed : ℕ → ℕ

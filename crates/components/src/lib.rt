@@ -15,6 +15,7 @@ pub enum Kind {
     Aboard,
     Waiting,
     Demand,
+    Closed,
     Unknown,
 }
 
@@ -146,7 +147,7 @@ pub struct Demand {
 
 impl Kind {
     pub fn of_code(code: u64) -> Self
-        ensures { λ r. ⌜ HasCode kindOf kindCode 7 code r ⌝ }
+        ensures { λ r. ⌜ HasCode kindOf kindCode 8 code r ⌝ }
     {
         match code {
             0 => Kind::Unknown,
@@ -157,7 +158,8 @@ impl Kind {
             5 => Kind::Aboard,
             6 => Kind::Waiting,
             7 => Kind::Demand,
-            8..=0xffff_ffff_ffff_ffff => Kind::Unknown,
+            8 => Kind::Closed,
+            9..=0xffff_ffff_ffff_ffff => Kind::Unknown,
         }
     }
 }

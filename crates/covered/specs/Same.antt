@@ -4,20 +4,21 @@ use mathlib.Core.Path.{_≡_, ap, ap₂, _∙_}
 use mathlib.Core.Bool.{Bool, true, false, not, _&&_, _||_, cond}
 use mathlib.Core.List.{List}
 use mathlib.Core.Logic.{⊎-elim}
-use lib.Dec.{eqb}
+use lib.Dec.{eqb, ltb}
 use lib.ListN.{getD}
+use borrow.Author.Tests.{lt-ltb}
 use lib.Ieee.{Float, nan}
 use Rattle.laws.specs.Bools.{which, kept-id}
 use Rattle.laws.specs.Folds.{any, every, fold-cong, any-cong, every-cong}
 use Rattle.fp.specs.Num.{zero, plus}
 use Rattle.mask.specs.Mask.{has, built}
-use Rattle.mask.specs.MaskLaws.{built-cong}
+use Rattle.mask.specs.MaskLaws.{built-cong, has-built}
 use Rattle.components.specs.Cars.{servicing, remaining}
 use Rattle.components.specs.Sheet.{Sheet}
 use Rattle.manifest.specs.World.{stopId}
 use Rattle.manifest.specs.Manifest.{waitsAt}
-use Rattle.assignment.specs.Pending.{serves, lineCapacity, capacityAt, weightAt, lineServed, covered}
-use Rattle.fields.specs.Named.{contains}
+use Rattle.assignment.specs.Pending.{serves, lineCapacity, capacityAt, weightAt, lineServed, coveredByCars, closedAt, covered}
+use Rattle.fields.specs.Named.{contains, named}
 use Rattle.coverage.specs.Coverage.{servesBy, roomStep, lineRoom, capacityStep, capacityBy, weightStep, weightBy, onServedLine, lineServedBy}
 use Rattle.coverage.specs.Coverage.{waiterServed, linesServed, coveredBy}
 use Rattle.covered.specs.Columns.{servedTarget, HoldsIds}
@@ -81,8 +82,8 @@ module _ (s : Sheet) (targets lines : List ℕ) (rooms : List Float) (ids stops 
       (s .cars)
       (λ i li. rw (serves-same i li, h .line i li, k .required-line w lw)))))
 
-  pub covered-same : coveredBy targets lines rooms (s .cars) ids (s .lines) stops required weights (s .waits) (stopId s j) ≡ covered s j
-  unfolding coveredBy covered
+  pub covered-same : coveredBy targets lines rooms (s .cars) ids (s .lines) stops required weights (s .waits) (stopId s j) ≡ coveredByCars s j
+  unfolding coveredBy coveredByCars
   covered-same = rw (any-same, lines-same, weight-same, capacity-same)
 
 -- the mask of what is asked for and covered
@@ -90,13 +91,46 @@ pub mask-same : (s : Sheet) (targets lines : List ℕ) (rooms : List Float) (ids
     (names : List ℕ)
     → HoldsServing s targets lines rooms ids → HoldsWaits s stops required weights → HoldsIds s asked names
     → built (coveredIn targets lines rooms (s .cars) ids (s .lines) stops required weights (s .waits) asked names) 64 ≡ built
-    (λ j. has asked j && covered s j) 64
+    (λ j. has asked j && coveredByCars s j) 64
 unfolding coveredIn
 mask-same s targets lines rooms ids stops required weights asked names h k names-held =
     built-cong (coveredIn targets lines rooms (s .cars) ids (s .lines) stops required weights (s .waits) asked names)
-    (λ j. has asked j && covered s j) 64
+    (λ j. has asked j && coveredByCars s j) 64
     (λ j l. ⊎-elim
     (λ (t : has asked j ≡ true).
     rw (t, names-held .held j l t) (covered-same s targets lines rooms ids stops required weights h k j (names-held .above-zero j l t)))
     (λ (t : has asked j ≡ false). rw t)
+    (which (has asked j)))
+
+-- ---- closed landings
+
+-- the name of stop j is that of a closed landing
+unfoldable pub closedIn : Sheet → List ℕ → ℕ → Bool
+closedIn s names j = any (λ x. eqb (s .closed x) (getD names j 0)) (s .closures)
+
+-- a column that holds the closed landings' stops names them
+pub closed-named : (s : Sheet) (ids names : List ℕ) → ((x : ℕ) → x < s .closures → getD ids x 0 ≡ s .closed x) → (j : ℕ) → j < 64
+    → named ids (s .closures) names 64 j ≡ closedIn s names j
+unfolding named contains closedIn
+closed-named s ids names h j l =
+    rw (lt-ltb j 64 l)
+    (any-cong (λ x. eqb (getD ids x 0) (getD names j 0)) (λ x. eqb (s .closed x) (getD names j 0)) (s .closures)
+    (λ x lx. ap (λ (z : ℕ). eqb z (getD names j 0)) (h x lx)))
+
+-- covered by cars, or asked for and closed
+pub covered-either : (s : Sheet) (asked cars closed : ℕ) (names : List ℕ) → HoldsIds s asked names
+    → cars ≡ built (λ j. has asked j && coveredByCars s j) 64 → closed ≡ built (closedIn s names) 64
+    → built (λ j. has (built (λ k. has asked k && has closed k) 64) j || has cars j) 64 ≡ built (λ j. has asked j && covered s j) 64
+unfolding covered closedAt closedIn
+covered-either s asked cars closed names h ec ex =
+    built-cong (λ j. has (built (λ k. has asked k && has closed k) 64) j || has cars j) (λ j. has asked j && covered s j) 64
+    (λ j l.
+    let c : has cars j ≡ (has asked j && coveredByCars s j) =
+    ap (λ (m : ℕ). has m j) ec ∙ has-built (λ k. has asked k && coveredByCars s k) j l in
+    let x : has closed j ≡ any (λ x. eqb (s .closed x) (getD names j 0)) (s .closures) =
+    ap (λ (m : ℕ). has m j) ex ∙ has-built (λ k. any (λ x. eqb (s .closed x) (getD names k 0)) (s .closures)) j l in
+    let b = has-built (λ k. has asked k && has closed k) j l in
+    ⊎-elim
+    (λ (t : has asked j ≡ true). rw (b, c, x, t, h .held j l t))
+    (λ (t : has asked j ≡ false). rw (b, c, x, t))
     (which (has asked j)))

@@ -10,13 +10,14 @@ ghost use Rattle.mask.specs.Mask.{has, built};
 ghost use Rattle.components.specs.Cars.{remaining};
 ghost use Rattle.layout.specs.Offsets.{Small, recordLength};
 ghost use Rattle.layout.specs.Records.{from, carOf, sheetOf};
-ghost use Rattle.assignment.specs.Pending.{covered};
+ghost use Rattle.assignment.specs.Pending.{covered, coveredByCars};
 ghost use Rattle.coverage.specs.Coverage.{coveredBy};
 ghost use Rattle.covered.specs.Columns.{servedTarget, HoldsIds};
-ghost use Rattle.covered.specs.Same.{coveredIn, HoldsServing};
+ghost use Rattle.covered.specs.Same.{coveredIn, HoldsServing, closedIn};
 use components::Phase;
 use layout::Counts;
 use layout::car;
+use layout::closed;
 use layout::line;
 use layout::waiting;
 
@@ -168,7 +169,7 @@ fn covered_waits<'a>(
         × (length (now names) ≡ 64) ⌝ }
     requires { ⌜ HoldsServing (sheetOf (now s) c) (now targets) (now lines) (now rooms) (now ids)
         × HoldsIds (sheetOf (now s) c) asked (now names) ⌝ }
-    ensures { λ r. ⌜ r ≡ built (λ j. has asked j && covered (sheetOf (now (s .entry)) c) j) 64 ⌝ }
+    ensures { λ r. ⌜ r ≡ built (λ j. has asked j && coveredByCars (sheetOf (now (s .entry)) c) j) 64 ⌝ }
 {
     let mut stops = [0u32; 512];
     let mut required = [0u32; 512];
@@ -194,10 +195,10 @@ fn covered_waits<'a>(
     )
 }
 
-// The stops of the mask that are covered. The mask has stops with a record only, and names holds their ids.
-pub fn covered_stops<'a>(s: &'a [u8], c: Counts, asked: u64, names: &'a [u32]) -> u64
+// The stops of the mask that are covered by cars. The mask has stops with a record only, and names holds their ids.
+fn covered_by_cars<'a>(s: &'a [u8], c: Counts, asked: u64, names: &'a [u32]) -> u64
     requires { ⌜ Small c × (length (now names) ≡ 64) × HoldsIds (sheetOf (now s) c) asked (now names) ⌝ }
-    ensures { λ r. ⌜ r ≡ built (λ j. has asked j && covered (sheetOf (now (s .entry)) c) j) 64 ⌝ }
+    ensures { λ r. ⌜ r ≡ built (λ j. has asked j && coveredByCars (sheetOf (now (s .entry)) c) j) 64 ⌝ }
 {
     let mut targets = [0u32; 32];
     let mut lines = [0u32; 32];
@@ -217,4 +218,32 @@ pub fn covered_stops<'a>(s: &'a [u8], c: Counts, asked: u64, names: &'a [u32]) -
         &mut ids,
     );
     covered_waits(s, c, &targets, &lines, &rooms, &ids, asked, names)
+}
+
+// The places whose names are those of closed landings.
+fn closed_stops<'a>(s: &'a [u8], c: Counts, names: &'a [u32]) -> u64
+    requires { ⌜ Small c × (c .closures ≤ 64) × (length (now names) ≡ 64) ⌝ }
+    ensures { λ r. ⌜ r ≡ built (closedIn (sheetOf (now (s .entry)) c) (now (names .entry))) 64 ⌝ }
+{
+    let mut ids = [0u32; 64];
+    let n = c.closures as usize;
+    fields::fill32(
+        s,
+        c.closures_from(),
+        closed::BITS,
+        closed::STOP,
+        n,
+        &mut ids,
+    );
+    fields::named_stops(&ids, n, names, 64)
+}
+
+// The stops of the mask that are covered, by cars or since they are closed.
+pub fn covered_stops<'a>(s: &'a [u8], c: Counts, asked: u64, names: &'a [u32]) -> u64
+    requires { ⌜ Small c × (c .closures ≤ 64) × (length (now names) ≡ 64) × HoldsIds (sheetOf (now s) c) asked (now names) ⌝ }
+    ensures { λ r. ⌜ r ≡ built (λ j. has asked j && covered (sheetOf (now (s .entry)) c) j) 64 ⌝ }
+{
+    let cars = covered_by_cars(s, c, asked, names);
+    let closed = closed_stops(s, c, names);
+    mask::either(mask::both(asked, closed), cars)
 }

@@ -4,7 +4,7 @@ use Prim.Native.Nat.{ℕ, _+_, _*_, _≤_}
 use mathlib.Core.Bool.{cond}
 use lib.Dec.{ltb}
 use Rattle.components.specs.declared.Kind.{Kind}
-use Rattle.components.specs.declared.Kind.the-variants.{Policy, Stop, Line, Car, Aboard, Waiting, Demand, Unknown}
+use Rattle.components.specs.declared.Kind.the-variants.{Policy, Stop, Line, Car, Aboard, Waiting, Demand, Closed, Unknown}
 use Rattle.components.specs.Codes.{kindCode}
 use Rattle.layout.specs.declared.Counts.{Counts}
 
@@ -17,9 +17,10 @@ bodyLength Car = 715
 bodyLength Aboard = 65
 bodyLength Waiting = 226
 bodyLength Demand = 49
+bodyLength Closed = 32
 bodyLength Unknown = 0
 
--- the counts within the table; of demands there is one a stop, but a bound by the record count is all that offsets need
+-- the counts within the table; of demands and of closures there is one a stop, but a bound by the record count is all that offsets need
 pub record Small (c : Counts) : Type 0 where
   pub policies : c .policies ≤ 1
   pub stops : c .stops ≤ 64
@@ -28,10 +29,11 @@ pub record Small (c : Counts) : Type 0 where
   pub aboards : c .aboards ≤ 512
   pub waits : c .waits ≤ 512
   pub demands : c .demands ≤ 65535
+  pub closures : c .closures ≤ 65535
 
 -- before the first record
 abbrev pub none : Counts
-none = record { policies = 0; stops = 0; lines = 0; cars = 0; aboards = 0; waits = 0; demands = 0 }
+none = record { policies = 0; stops = 0; lines = 0; cars = 0; aboards = 0; waits = 0; demands = 0; closures = 0 }
 
 -- one record more
 abbrev pub next : Counts → Kind → Counts
@@ -44,6 +46,7 @@ next c Policy =
       aboards = c .aboards;
       waits = c .waits;
       demands = c .demands;
+      closures = c .closures;
     }
 next c Stop =
     record {
@@ -54,6 +57,7 @@ next c Stop =
       aboards = c .aboards;
       waits = c .waits;
       demands = c .demands;
+      closures = c .closures;
     }
 next c Line =
     record {
@@ -64,6 +68,7 @@ next c Line =
       aboards = c .aboards;
       waits = c .waits;
       demands = c .demands;
+      closures = c .closures;
     }
 next c Car =
     record {
@@ -74,6 +79,7 @@ next c Car =
       aboards = c .aboards;
       waits = c .waits;
       demands = c .demands;
+      closures = c .closures;
     }
 next c Aboard =
     record {
@@ -84,6 +90,7 @@ next c Aboard =
       aboards = c .aboards + 1;
       waits = c .waits;
       demands = c .demands;
+      closures = c .closures;
     }
 next c Waiting =
     record {
@@ -94,6 +101,7 @@ next c Waiting =
       aboards = c .aboards;
       waits = c .waits + 1;
       demands = c .demands;
+      closures = c .closures;
     }
 next c Demand =
     record {
@@ -104,6 +112,18 @@ next c Demand =
       aboards = c .aboards;
       waits = c .waits;
       demands = c .demands + 1;
+      closures = c .closures;
+    }
+next c Closed =
+    record {
+      policies = c .policies;
+      stops = c .stops;
+      lines = c .lines;
+      cars = c .cars;
+      aboards = c .aboards;
+      waits = c .waits;
+      demands = c .demands;
+      closures = c .closures + 1;
     }
 next c Unknown = c
 
@@ -138,6 +158,9 @@ waitsFrom c = aboardsFrom c + recordLength Aboard * c .aboards
 abbrev pub demandsFrom : Counts → ℕ
 demandsFrom c = waitsFrom c + recordLength Waiting * c .waits
 
+abbrev pub closuresFrom : Counts → ℕ
+closuresFrom c = demandsFrom c + recordLength Demand * c .demands
+
 -- where the record with index i of each kind starts
 abbrev pub stopStart : Counts → ℕ → ℕ
 stopStart c i = stopsFrom c + recordLength Stop * i
@@ -157,18 +180,22 @@ waitingStart c i = waitsFrom c + recordLength Waiting * i
 abbrev pub demandStart : Counts → ℕ → ℕ
 demandStart c i = demandsFrom c + recordLength Demand * i
 
+abbrev pub closedStart : Counts → ℕ → ℕ
+closedStart c i = closuresFrom c + recordLength Closed * i
+
 -- where the next record starts
 abbrev pub endOf : Counts → ℕ
-endOf c = demandsFrom c + recordLength Demand * c .demands
+endOf c = closuresFrom c + recordLength Closed * c .closures
 
 -- the code of the last record's kind, 0 before the first
 unfoldable pub lastKind : Counts → ℕ
 lastKind c =
-    cond (ltb 0 (c .demands)) (kindCode Demand)
+    cond (ltb 0 (c .closures)) (kindCode Closed)
+    (cond (ltb 0 (c .demands)) (kindCode Demand)
     (cond (ltb 0 (c .waits)) (kindCode Waiting)
     (cond (ltb 0 (c .aboards)) (kindCode Aboard)
     (cond (ltb 0 (c .cars)) (kindCode Car)
     (cond (ltb 0 (c .lines)) (kindCode Line)
     (cond (ltb 0 (c .stops)) (kindCode Stop)
     (cond (ltb 0 (c .policies)) (kindCode Policy)
-    0))))))
+    0)))))))

@@ -12,7 +12,7 @@ use Rattle.layout.specs.Refusals.{refusal2Head, refusal3, refusal6Empty,
 use Rattle.layout.specs.Refusals.{refusal8Policy, refusal11Policy, refusal12, refusal15, refusal9Stop, refusal11Stop, refusal9Line}
 use Rattle.layout.specs.Refusals.{refusal10Line, refusal8Car, refusal9Car, refusal10Car, refusal11Car, refusal13, refusal8Aboard}
 use Rattle.layout.specs.Refusals.{refusal9Aboard, refusal10Aboard, refusal8Waiting, refusal9Waiting, refusal10Waiting, refusal11Waiting}
-use Rattle.layout.specs.Refusals.{refusal14, refusal9Demand, refusal10Demand}
+use Rattle.layout.specs.Refusals.{refusal14, refusal9Demand, refusal10Demand, refusal9Closed, refusal10Closed}
 use Rattle.layout.specs.Verdict.{pick, firstOf, recordRefusal, tailVerdict, recordsVerdict, verdict}
 
 unfoldable pub reading : ℕ
@@ -20,6 +20,6 @@ unfolding ofBits lt le eq neg any isPosition isSpeed isMass isThreshold isTickRa
     directionOf modeOf lastKind policyOf stopOf lineOf carOf aboardOf waitingOf demandOf sheetOf limitOf refusal2Head refusal3 refusal6Empty
     tailFits refusal16 refusal2 refusal5 refusal6 seen lastStop refusal8Policy refusal11Policy refusal12 refusal15 refusal9Stop refusal11Stop
     refusal9Line refusal10Line refusal8Car refusal9Car refusal10Car refusal11Car refusal13 refusal8Aboard refusal9Aboard refusal10Aboard
-    refusal8Waiting refusal9Waiting refusal10Waiting refusal11Waiting refusal14 refusal9Demand refusal10Demand pick firstOf recordRefusal
+    refusal8Waiting refusal9Waiting refusal10Waiting refusal11Waiting refusal14 refusal9Demand refusal10Demand refusal9Closed refusal10Closed pick firstOf recordRefusal
     tailVerdict recordsVerdict verdict
 reading = 0

@@ -24,8 +24,8 @@ use Rattle.layout.specs.Table.{policy·w4, policy·w5, stop·id, stop·p
 use Rattle.layout.specs.Table.{car·target, car·listed, car·up, car·down, car·sweep, car·mode, car·position, car·speed, car·capacity, car·load}
 use Rattle.layout.specs.Table.{car·hasBypassUp, car·bypassUp, car·hasBypassDown, car·bypassDown, car·transition, car·dwell, car·restricted}
 use Rattle.layout.specs.Table.{car·calls, aboard·car, aboard·destination, waiting·stop, waiting·line, waiting·destination, waiting·weight}
-use Rattle.layout.specs.Table.{waiting·wait, demand·stop, demand·riding, demand·call}
-use Rattle.layout.specs.Offsets.{headLength, stopStart, lineStart, carStart, aboardStart, waitingStart, demandStart}
+use Rattle.layout.specs.Table.{waiting·wait, demand·stop, demand·riding, demand·call, closed·stop}
+use Rattle.layout.specs.Offsets.{headLength, stopStart, lineStart, carStart, aboardStart, waitingStart, demandStart, closedStart}
 
 -- what stands at an offset of a record, with a width
 abbrev pub Fields : Type 0
@@ -132,6 +132,8 @@ sheetOf s c =
       waiting = λ i. waitingOf (from s (waitingStart c i));
       demands = c .demands;
       demand = λ i. demandOf (from s (demandStart c i));
+      closures = c .closures;
+      closed = λ i. read (from s (closedStart c i)) closed·stop;
     }
 
 -- the candidate limit: bits 48 to 63, so bytes 6 and 7

@@ -11,7 +11,7 @@ use Rattle.fp.specs.Num.{zero}
 use Rattle.fp.specs.Ranges.{isPosition, isSpeed, isMass, isThreshold, isTickRate}
 use Rattle.mask.specs.Mask.{pastStops}
 use Rattle.components.specs.declared.Kind.{Kind}
-use Rattle.components.specs.declared.Kind.the-variants.{Policy, Stop, Line, Car, Aboard, Waiting, Demand, Unknown}
+use Rattle.components.specs.declared.Kind.the-variants.{Policy, Stop, Line, Car, Aboard, Waiting, Demand, Closed, Unknown}
 use Rattle.components.specs.declared.Strategy.{Strategy}
 use Rattle.components.specs.declared.Strategy.the-variants.{Etd, Rsr, Scan}
 use Rattle.components.specs.declared.Strategy.the-variants as strategy
@@ -21,14 +21,14 @@ use Rattle.components.specs.declared.Phase.the-variants as phase
 use Rattle.components.specs.Codes.{kindCode, strategyOf, strategyCode, phaseOf, phaseCode}
 use Rattle.components.specs.Cars.{isMoving}
 use Rattle.layout.specs.declared.Counts.{Counts}
-use Rattle.layout.specs.Offsets.{headLength, bodyFrom, bodyLength, recordLength, lastKind, stopsFrom, linesFrom, carsFrom, demandsFrom}
+use Rattle.layout.specs.Offsets.{headLength, bodyFrom, bodyLength, recordLength, lastKind, stopsFrom, linesFrom, carsFrom, demandsFrom, closuresFrom}
 use Rattle.layout.specs.Offsets.{stopStart, endOf}
 use Rattle.layout.specs.Table.{Field, head·edition, head·count, record·kind, record·stated, first, policy·strategy, policy·limit, policy·rate}
 use Rattle.layout.specs.Table.{policy·w0, policy·w1, policy·w2, policy·w3, policy·w4, policy·w5, stop·id, stop·position, line·id, line·serves}
 use Rattle.layout.specs.Table.{car·id, car·line, car·phase, car·stop, car·hasTarget, car·target, car·position, car·speed, car·capacity}
 use Rattle.layout.specs.Table.{car·load, car·hasBypassUp, car·bypassUp, car·hasBypassDown, car·bypassDown, car·transition, car·dwell}
 use Rattle.layout.specs.Table.{car·restricted, car·calls, aboard·car, aboard·hasDestination, aboard·destination, waiting·stop, waiting·hasLine}
-use Rattle.layout.specs.Table.{waiting·line, waiting·hasDestination, waiting·destination, waiting·weight, waiting·wait, demand·stop}
+use Rattle.layout.specs.Table.{waiting·line, waiting·hasDestination, waiting·destination, waiting·weight, waiting·wait, demand·stop, closed·stop}
 use Rattle.layout.specs.Records.{Fields, from, read, flag, double}
 
 -- ---- the head
@@ -68,7 +68,7 @@ lengthAt s c = read (from s (endOf c)) record·stated
 unfoldable pub refusal2 : List ℕ → Counts → Bool
 refusal2 s c = pastEnd s (endOf c + bodyFrom + lengthAt s c)
 
--- "4, kind not 1 to 7"
+-- "4, kind not 1 to 7", of request F-2: "4 is now for kinds not 1 to 8"
 abbrev pub refusal4 : Kind → Bool
 refusal4 Policy = false
 refusal4 Stop = false
@@ -77,6 +77,7 @@ refusal4 Car = false
 refusal4 Aboard = false
 refusal4 Waiting = false
 refusal4 Demand = false
+refusal4 Closed = false
 refusal4 Unknown = true
 
 -- "5, length not the kind's"
@@ -96,6 +97,7 @@ refusal7 c Car = leb 32 (c .cars)
 refusal7 c Aboard = leb 512 (c .aboards)
 refusal7 c Waiting = leb 512 (c .waits)
 refusal7 c Demand = false
+refusal7 c Closed = false
 refusal7 c Unknown = false
 
 -- ---- the tail
@@ -125,6 +127,9 @@ hasCar s c id = seen s (carsFrom c) (recordLength Car) (c .cars) id
 
 abbrev pub hasDemand : List ℕ → Counts → ℕ → Bool
 hasDemand s c id = seen s (demandsFrom c) (recordLength Demand) (c .demands) id
+
+abbrev pub hasClosed : List ℕ → Counts → ℕ → Bool
+hasClosed s c id = seen s (closuresFrom c) (recordLength Closed) (c .closures) id
 
 -- the id of the last stop record, 0 before the first
 unfoldable pub lastStop : List ℕ → Counts → ℕ
@@ -304,3 +309,13 @@ refusal9Demand s c f = eqb (read f demand·stop) 0 || hasDemand s c (read f dema
 -- "10, no record for .. the stop of kinds 6 and 7"
 unfoldable pub refusal10Demand : List ℕ → Counts → Fields → Bool
 refusal10Demand s c f = not (hasStop s c (read f demand·stop))
+
+-- ---- kind 8, closed
+
+-- 9, an id is 0, or of request F-2: "A second one for a stop is 9"
+unfoldable pub refusal9Closed : List ℕ → Counts → Fields → Bool
+refusal9Closed s c f = eqb (read f closed·stop) 0 || hasClosed s c (read f closed·stop)
+
+-- "an unlisted stop is 10"
+unfoldable pub refusal10Closed : List ℕ → Counts → Fields → Bool
+refusal10Closed s c f = not (hasStop s c (read f closed·stop))

@@ -6,7 +6,7 @@ use mathlib.Core.Bool.{Bool, cond}
 use mathlib.Core.List.{List, [], _∷_}
 use lib.Dec.{eqb}
 use Rattle.components.specs.declared.Kind.{Kind}
-use Rattle.components.specs.declared.Kind.the-variants.{Policy, Stop, Line, Car, Aboard, Waiting, Demand, Unknown}
+use Rattle.components.specs.declared.Kind.the-variants.{Policy, Stop, Line, Car, Aboard, Waiting, Demand, Closed, Unknown}
 use Rattle.components.specs.Codes.{kindOf}
 use Rattle.layout.specs.declared.Counts.{Counts}
 use Rattle.layout.specs.declared.Reading.{Reading}
@@ -20,7 +20,7 @@ use Rattle.layout.specs.Refusals.{refusal10Line}
 use Rattle.layout.specs.Refusals.{refusal8Car, refusal9Car, refusal10Car, refusal11Car, refusal13, refusal8Aboard, refusal9Aboard}
 use Rattle.layout.specs.Refusals.{refusal10Aboard}
 use Rattle.layout.specs.Refusals.{refusal8Waiting, refusal9Waiting, refusal10Waiting, refusal11Waiting, refusal14, refusal9Demand}
-use Rattle.layout.specs.Refusals.{refusal10Demand}
+use Rattle.layout.specs.Refusals.{refusal10Demand, refusal9Closed, refusal10Closed}
 
 -- ---- the tables of rules
 
@@ -43,17 +43,21 @@ module _ (s : List ℕ) (c : Counts) where
   bodyRules Waiting f =
       (8, refusal8Waiting f) ∷ (9, refusal9Waiting f) ∷ (10, refusal10Waiting s c f) ∷ (11, refusal11Waiting f) ∷ (14, refusal14 f) ∷ []
   bodyRules Demand f = (9, refusal9Demand s c f) ∷ (10, refusal10Demand s c f) ∷ []
+  bodyRules Closed f = (9, refusal9Closed s c f) ∷ (10, refusal10Closed s c f) ∷ []
   bodyRules Unknown f = []
 
-  -- the record after those counted
-  abbrev pub recordRules : List Rule
-  recordRules =
+  -- the record after those counted, of kind k
+  abbrev pub rulesOf : Kind → List Rule
+  rulesOf k =
       (2, refusal2 s c)
-      ∷ (4, refusal4 (kindOf (kindAt s c)))
-      ∷ (5, refusal5 (kindOf (kindAt s c)) (lengthAt s c))
+      ∷ (4, refusal4 k)
+      ∷ (5, refusal5 k (lengthAt s c))
       ∷ (6, refusal6 c (kindAt s c))
-      ∷ (7, refusal7 c (kindOf (kindAt s c)))
-      ∷ bodyRules (kindOf (kindAt s c)) (from s (endOf c))
+      ∷ (7, refusal7 c k)
+      ∷ bodyRules k (from s (endOf c))
+
+  abbrev pub recordRules : List Rule
+  recordRules = rulesOf (kindOf (kindAt s c))
 
   -- the tail, after the last record. Where there is no record at all it starts at 24, and 6 comes first
   abbrev pub tailRules : List Rule

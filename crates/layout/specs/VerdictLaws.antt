@@ -7,7 +7,7 @@ use mathlib.Core.Logic.{_≢_}
 use native.Mathlib.Omega.{arith}
 use borrow.Author.Tests.{eq-eqb, ne-eqb, leb-false}
 use Rattle.components.specs.declared.Kind.{Kind}
-use Rattle.components.specs.declared.Kind.the-variants.{Policy, Stop, Line, Car, Aboard, Waiting, Demand, Unknown}
+use Rattle.components.specs.declared.Kind.the-variants.{Policy, Stop, Line, Car, Aboard, Waiting, Demand, Closed, Unknown}
 use Rattle.components.specs.Codes.{kindOf}
 use Rattle.layout.specs.declared.Counts.{Counts}
 use Rattle.layout.specs.declared.Reading.the-variants.{Refused}
@@ -44,8 +44,9 @@ clean s c e =
 
 -- ---- one record more
 
-pub next-small : (c : Counts) (k : Kind) → Small c → refusal7 c k ≡ false → c .demands < 65535 → Small (next c k)
-next-small c Policy h e d = let l = leb-false 1 (c .policies) e in
+pub next-small : (c : Counts) (k : Kind) → Small c → refusal7 c k ≡ false → c .demands < 65535 → c .closures < 65535
+    → Small (next c k)
+next-small c Policy h e d x = let l = leb-false 1 (c .policies) e in
     record {
       policies = omega arith;
       stops = h .stops;
@@ -54,8 +55,9 @@ next-small c Policy h e d = let l = leb-false 1 (c .policies) e in
       aboards = h .aboards;
       waits = h .waits;
       demands = h .demands;
+      closures = h .closures;
     }
-next-small c Stop h e d = let l = leb-false 64 (c .stops) e in
+next-small c Stop h e d x = let l = leb-false 64 (c .stops) e in
     record {
       policies = h .policies;
       stops = omega arith;
@@ -64,8 +66,9 @@ next-small c Stop h e d = let l = leb-false 64 (c .stops) e in
       aboards = h .aboards;
       waits = h .waits;
       demands = h .demands;
+      closures = h .closures;
     }
-next-small c Line h e d = let l = leb-false 8 (c .lines) e in
+next-small c Line h e d x = let l = leb-false 8 (c .lines) e in
     record {
       policies = h .policies;
       stops = h .stops;
@@ -74,8 +77,9 @@ next-small c Line h e d = let l = leb-false 8 (c .lines) e in
       aboards = h .aboards;
       waits = h .waits;
       demands = h .demands;
+      closures = h .closures;
     }
-next-small c Car h e d = let l = leb-false 32 (c .cars) e in
+next-small c Car h e d x = let l = leb-false 32 (c .cars) e in
     record {
       policies = h .policies;
       stops = h .stops;
@@ -84,8 +88,9 @@ next-small c Car h e d = let l = leb-false 32 (c .cars) e in
       aboards = h .aboards;
       waits = h .waits;
       demands = h .demands;
+      closures = h .closures;
     }
-next-small c Aboard h e d = let l = leb-false 512 (c .aboards) e in
+next-small c Aboard h e d x = let l = leb-false 512 (c .aboards) e in
     record {
       policies = h .policies;
       stops = h .stops;
@@ -94,8 +99,9 @@ next-small c Aboard h e d = let l = leb-false 512 (c .aboards) e in
       aboards = omega arith;
       waits = h .waits;
       demands = h .demands;
+      closures = h .closures;
     }
-next-small c Waiting h e d = let l = leb-false 512 (c .waits) e in
+next-small c Waiting h e d x = let l = leb-false 512 (c .waits) e in
     record {
       policies = h .policies;
       stops = h .stops;
@@ -104,8 +110,9 @@ next-small c Waiting h e d = let l = leb-false 512 (c .waits) e in
       aboards = h .aboards;
       waits = omega arith;
       demands = h .demands;
+      closures = h .closures;
     }
-next-small c Demand h e d =
+next-small c Demand h e d x =
     record {
       policies = h .policies;
       stops = h .stops;
@@ -114,10 +121,22 @@ next-small c Demand h e d =
       aboards = h .aboards;
       waits = h .waits;
       demands = omega arith;
+      closures = h .closures;
     }
-next-small c Unknown h e d = h
+next-small c Closed h e d x =
+    record {
+      policies = h .policies;
+      stops = h .stops;
+      lines = h .lines;
+      cars = h .cars;
+      aboards = h .aboards;
+      waits = h .waits;
+      demands = h .demands;
+      closures = omega arith;
+    }
+next-small c Unknown h e d x = h
 
--- the next record adds at most one demand
+-- the next record adds at most one demand, and at most one closure
 pub next-demands : (c : Counts) (k : Kind) → next c k .demands ≤ c .demands + 1
 next-demands c Policy = omega arith
 next-demands c Stop = omega arith
@@ -126,7 +145,19 @@ next-demands c Car = omega arith
 next-demands c Aboard = omega arith
 next-demands c Waiting = omega arith
 next-demands c Demand = omega arith
+next-demands c Closed = omega arith
 next-demands c Unknown = omega arith
+
+pub next-closures : (c : Counts) (k : Kind) → next c k .closures ≤ c .closures + 1
+next-closures c Policy = omega arith
+next-closures c Stop = omega arith
+next-closures c Line = omega arith
+next-closures c Car = omega arith
+next-closures c Aboard = omega arith
+next-closures c Waiting = omega arith
+next-closures c Demand = omega arith
+next-closures c Closed = omega arith
+next-closures c Unknown = omega arith
 
 -- ---- the records that are left
 

@@ -3,7 +3,7 @@
 
 ghost use mathlib.Core.Path.{_≡_};
 ghost use Prim.Native.Nat.{_<_};
-ghost use Rattle.layout.specs.Offsets.{Small, bodyLength, next, stopsFrom, linesFrom, carsFrom, aboardsFrom, waitsFrom, demandsFrom, endOf};
+ghost use Rattle.layout.specs.Offsets.{Small, bodyLength, next, stopsFrom, linesFrom, carsFrom, aboardsFrom, waitsFrom, demandsFrom, closuresFrom, endOf};
 ghost use Rattle.layout.specs.Offsets.{lastKind};
 ghost use Rattle.layout.specs.Refusals.{refusal6, refusal7};
 use components::Kind;
@@ -11,6 +11,7 @@ use components::Kind;
 // Document 01's table of records: the head, what stands before every body, and a module for each kind.
 pub mod aboard;
 pub mod car;
+pub mod closed;
 pub mod demand;
 pub mod head;
 pub mod line;
@@ -28,6 +29,7 @@ pub struct Counts {
     pub aboards: u32,
     pub waits: u32,
     pub demands: u32,
+    pub closures: u32,
 }
 
 // What reading a sheet finds: a refusal with its number and the bit offset where the record starts, or the counts of an accepted sheet.
@@ -48,6 +50,7 @@ pub fn body_length(kind: Kind) -> u64
         Kind::Aboard => (aboard::BITS - record::BODY) as u64,
         Kind::Waiting => (waiting::BITS - record::BODY) as u64,
         Kind::Demand => (demand::BITS - record::BODY) as u64,
+        Kind::Closed => (closed::BITS - record::BODY) as u64,
         Kind::Unknown => 0,
     }
 }
@@ -102,18 +105,28 @@ impl Counts {
             + waiting::BITS * self.waits
     }
 
+    pub fn closures_from(self) -> u32
+        requires { ⌜ Small self ⌝ }
+        ensures { λ r. ⌜ r ≡ closuresFrom self ⌝ }
+    {
+        self.demands_from() + demand::BITS * self.demands
+    }
+
     // Where the next record starts.
     pub fn end_of(self) -> u32
         requires { ⌜ Small self ⌝ }
         ensures { λ r. ⌜ r ≡ endOf self ⌝ }
     {
-        self.demands_from() + demand::BITS * self.demands
+        self.demands_from() + demand::BITS * self.demands + closed::BITS * self.closures
     }
 
     // The code of the last record's kind, 0 before the first.
     fn last_kind(self) -> u64
         ensures { λ r. ⌜ r ≡ lastKind self ⌝ }
     {
+        if 0 < self.closures {
+            return 8;
+        }
         if 0 < self.demands {
             return 7;
         }
@@ -154,13 +167,14 @@ impl Counts {
             Kind::Aboard => 512 <= self.aboards,
             Kind::Waiting => 512 <= self.waits,
             Kind::Demand => false,
+            Kind::Closed => false,
             Kind::Unknown => false,
         }
     }
 
     // One record more.
     pub fn next(self, kind: Kind) -> Counts
-        requires { ⌜ Small self × (self .demands < 65535) ⌝ }
+        requires { ⌜ Small self × (self .demands < 65535) × (self .closures < 65535) ⌝ }
         ensures { λ r. ⌜ r ≡ next self kind ⌝ }
     {
         let mut c = self;
@@ -172,6 +186,7 @@ impl Counts {
             Kind::Aboard => c.aboards += 1,
             Kind::Waiting => c.waits += 1,
             Kind::Demand => c.demands += 1,
+            Kind::Closed => c.closures += 1,
             Kind::Unknown => {}
         }
         c

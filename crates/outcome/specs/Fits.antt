@@ -45,13 +45,14 @@ fits bytes c e =
       sweeps = s .most-cars;
     }
 
--- and an accepted sheet has at most 26,083 bytes: every table full, one demand a stop
-pub most-bytes : (bytes : List ℕ) (c : Counts) → verdict bytes ≡ Accepted c → length bytes ≤ 26083
+-- and an accepted sheet has at most 26,515 bytes: every table full, one demand and one closure a stop
+pub most-bytes : (bytes : List ℕ) (c : Counts) → verdict bytes ≡ Accepted c → length bytes ≤ 26515
 unfolding sheetOf
 most-bytes bytes c e =
     let a = accepted bytes c e in
     let d : c .demands ≤ c .stops = a .sheet .most-demands in
-    let last : endOf c ≤ 208658 =
+    let x : c .closures ≤ c .stops = a .sheet .most-closures in
+    let last : endOf c ≤ 212114 =
     omega (arith, a .one-policy, a .small .stops, a .small .lines, a .small .cars, a .small .aboards, a .small .waits) in
     omega (arith, a .whole)
 

@@ -162,7 +162,7 @@ fn bound_stops<'a>(s: &'a [u8], c: Counts, names: &'a [u32]) -> u64
 
 // The pending stops.
 fn pending_stops<'a>(s: &'a [u8], c: Counts, demand: u64, names: &'a [u32]) -> u64
-    requires { ⌜ Small c × (length (now names) ≡ 64) × HoldsNames (sheetOf (now s) c) (now names) × Boarded (sheetOf (now s) c) ⌝ }
+    requires { ⌜ Small c × (c .closures ≤ 64) × (length (now names) ≡ 64) × HoldsNames (sheetOf (now s) c) (now names) × Boarded (sheetOf (now s) c) ⌝ }
     requires { ⌜ demand ≡ stopMask (sheetOf (now s) c) (demandStop (sheetOf (now s) c)) ⌝ }
     ensures { λ r. ⌜ r ≡ stopMask (sheetOf (now (s .entry)) c) (pending (sheetOf (now (s .entry)) c)) ⌝ }
 {
@@ -180,7 +180,7 @@ pub struct StopMasks {
 
 // The masks of the stops, whose ids are at hand.
 pub fn stop_masks<'a>(s: &'a [u8], c: Counts, names: &'a [u32]) -> StopMasks
-    requires { ⌜ Small c × (c .demands ≤ 64) × (length (now names) ≡ 64) × HoldsNames (sheetOf (now s) c) (now names)
+    requires { ⌜ Small c × (c .demands ≤ 64) × (c .closures ≤ 64) × (length (now names) ≡ 64) × HoldsNames (sheetOf (now s) c) (now names)
         × Boarded (sheetOf (now s) c) ⌝ }
     ensures { λ r. ⌜ r ≡ masksOf (sheetOf (now (s .entry)) c) ⌝ }
 {

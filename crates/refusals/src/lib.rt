@@ -2,17 +2,20 @@
 // end give 0, so every condition is computed and the first that holds is picked.
 ghost use mathlib.Core.Path.{_≡_};
 ghost use Prim.Native.Nat.{_<_, _≤_, _^_};
+ghost use mathlib.Core.Bool.{not, _||_};
+ghost use lib.Dec.{eqb};
 ghost use Rattle.fp.specs.Ranges.{isMass};
-ghost use Rattle.components.specs.declared.Kind.the-variants.{Stop, Line, Aboard, Waiting, Demand};
+ghost use Rattle.components.specs.declared.Kind.the-variants.{Stop, Line, Aboard, Waiting, Demand, Closed};
 ghost use Rattle.layout.specs.Offsets.{Small, endOf};
 ghost use Rattle.layout.specs.Table.{field};
 ghost use Rattle.layout.specs.Records.{from, double};
-ghost use Rattle.layout.specs.Refusals.{absentSet, presentZero, seen, hasStop, hasLine, hasCar, hasDemand, lastStop, refusal8Waiting};
+ghost use Rattle.layout.specs.Refusals.{absentSet, presentZero, seen, hasStop, hasLine, hasCar, hasDemand, hasClosed, lastStop, refusal8Waiting};
 ghost use Rattle.layout.specs.Refusals.{refusal9Waiting};
 ghost use Rattle.layout.specs.Verdict.{pick, bodyRefusal};
 use layout::Counts;
 use layout::aboard;
 use layout::car;
+use layout::closed;
 use layout::demand;
 use layout::line;
 use layout::record;
@@ -67,6 +70,13 @@ fn has_demand(s: &[u8], c: Counts, id: u32) -> bool
     ensures { λ r. ⌜ r ≡ hasDemand (now (s .entry)) c id ⌝ }
 {
     seen(s, c.demands_from(), demand::BITS, c.demands, id)
+}
+
+fn has_closed(s: &[u8], c: Counts, id: u32) -> bool
+    requires { ⌜ Small c ⌝ }
+    ensures { λ r. ⌜ r ≡ hasClosed (now (s .entry)) c id ⌝ }
+{
+    seen(s, c.closures_from(), closed::BITS, c.closures, id)
 }
 
 // The id of the last stop record, 0 before the first.
@@ -182,6 +192,13 @@ pub fn waiting_refusal(s: &[u8], c: Counts) -> u32
     pick(waiting_unused(s, at), 8, pick(waiting_zero(s, at), 9, late))
 }
 
+// 9 and 10 of a record that a stop has once at most: its id is 0 or was named before, or has no stop record.
+fn one_a_stop(stop: u32, again: bool, known: bool) -> u32
+    ensures { λ r. ⌜ r ≡ pick (eqb stop 0 || again) 9 (pick (not known) 10 0) ⌝ }
+{
+    pick((stop == 0) | again, 9, pick(!known, 10, 0))
+}
+
 // Kind 7: 9, 10.
 pub fn demand_refusal(s: &[u8], c: Counts) -> u32
     requires { ⌜ Small c ⌝ }
@@ -191,5 +208,17 @@ pub fn demand_refusal(s: &[u8], c: Counts) -> u32
     let stop = bits::field32(s, at, demand::STOP);
     let again = has_demand(s, c, stop);
     let known = has_stop(s, c, stop);
-    pick((stop == 0) | again, 9, pick(!known, 10, 0))
+    one_a_stop(stop, again, known)
+}
+
+// 9 and 10 of a closed landing: an id that is 0 or has a closure, an id without a stop.
+pub fn closed_refusal(s: &[u8], c: Counts) -> u32
+    requires { ⌜ Small c ⌝ }
+    ensures { λ r. ⌜ r ≡ bodyRefusal (now (s .entry)) c Closed (from (now (s .entry)) (endOf c)) ⌝ }
+{
+    let at = c.end_of();
+    let stop = bits::field32(s, at, closed::STOP);
+    let again = has_closed(s, c, stop);
+    let known = has_stop(s, c, stop);
+    one_a_stop(stop, again, known)
 }

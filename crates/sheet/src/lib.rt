@@ -39,6 +39,7 @@ fn body_refusal(s: &[u8], c: Counts, kind: Kind) -> u32
         Kind::Aboard => refusals::aboard_refusal(s, c),
         Kind::Waiting => refusals::waiting_refusal(s, c),
         Kind::Demand => refusals::demand_refusal(s, c),
+        Kind::Closed => refusals::closed_refusal(s, c),
         Kind::Unknown => 0,
     }
 }
@@ -55,6 +56,7 @@ fn is_unknown(kind: Kind) -> bool
         Kind::Aboard => false,
         Kind::Waiting => false,
         Kind::Demand => false,
+        Kind::Closed => false,
         Kind::Unknown => true,
     }
 }
@@ -127,6 +129,7 @@ fn records(s: &[u8], count: u32) -> Reading
         aboards: 0,
         waits: 0,
         demands: 0,
+        closures: 0,
     };
     let mut left = count;
     while 0 < left {

@@ -1,11 +1,14 @@
-//! The answer to a sheet as document 01 has it: the refusal, or what a pass writes and answers. Cells and
-//! decisions are the Rust's wherever it builds a matrix; elsewhere they are document 01's own.
+//! The answer to a sheet as documents 01 and 02 have it: the refusal, or what a pass writes and answers. Of a sheet
+//! without closed landings, cells and decisions are the Rust's wherever it builds a matrix; elsewhere they are the
+//! documents' own.
 
+use std::collections::BTreeSet;
 use std::fmt::Write;
 
 use pathfinding::least_choice;
-use sheetgen::{Refusal, Sheet, read};
+use sheetgen::{Car, Line, Refusal, Sheet, read};
 
+use crate::paper;
 use crate::rust_pass::{Rust, RustPass};
 
 pub const SENTINEL: i64 = 1 << 48;
@@ -22,8 +25,18 @@ pub struct Pass {
     pub sweeps: Vec<u8>,
     /// The ids of the pending stops, in column order.
     pub pending: Vec<u32>,
-    /// Whether the Rust built the matrix.
-    pub from_the_rust: bool,
+    pub source: Source,
+}
+
+/// Where the cells come from.
+#[derive(Clone, Copy, Debug, PartialEq)]
+pub enum Source {
+    /// The Rust built the matrix.
+    Rust,
+    /// The Rust builds none: no idle car, or no pending stop.
+    Document,
+    /// The sheet has closed landings, which the Rust does not have: src/paper.rs.
+    Model,
 }
 
 #[derive(Clone, Debug, PartialEq)]
@@ -32,21 +45,64 @@ pub enum Answer {
     Passed(Pass),
 }
 
-/// Document 01's answer to a sheet.
+/// The documents' answer to a sheet: with kind 8, "the definition alone is the measure".
 pub fn answer(rust: &mut Rust, bytes: &[u8]) -> Answer {
     if let Some(refusal) = read(bytes) {
         return Answer::Refused(refusal);
     }
     let sheet = Sheet::of_accepted(bytes);
-    let pass = rust.pass(&sheet, false);
-    Answer::Passed(of_rust(&sheet, &pass))
+    Answer::Passed(match sheet.closed.is_empty() {
+        true => of_rust(&sheet, &rust.pass(&sheet, false)),
+        false => paper::answered(&sheet),
+    })
+}
+
+/// The Rust's answer to an accepted sheet with closed landings: it passes the sheet without them, in which further cars
+/// cover those stops for whoever waits there. They are loading there and not idle, so that they take part in nothing else.
+pub fn by_covering(rust: &mut Rust, sheet: &Sheet) -> Pass {
+    let covering = covering(sheet);
+    let mut pass = of_rust(&covering, &rust.pass(&covering, false));
+    pass.sweeps.truncate(sheet.cars.len());
+    pass
+}
+
+fn covering(sheet: &Sheet) -> Sheet {
+    let mut twin = sheet.clone();
+    let Some(first) = twin.lines.first().map(|l| l.id) else {
+        return Sheet {
+            closed: Vec::new(),
+            ..twin
+        };
+    };
+    for stop in std::mem::take(&mut twin.closed) {
+        let waiting = sheet.waiting.iter().filter(|w| w.stop == stop);
+        let required: BTreeSet<u32> = waiting.filter_map(|w| w.line).collect();
+        for line in required.iter().copied().chain([first]) {
+            if twin.lines.iter().all(|l| l.id != line) {
+                twin.lines.push(Line { id: line, mask: 0 });
+            }
+            let id = (1..).find(|id| twin.cars.iter().all(|c| c.id != *id));
+            twin.cars.push(Car {
+                id: id.unwrap(),
+                phase: 4,
+                target: Some(stop),
+                idle: false,
+                capacity: 1e15,
+                ..Car::parked(line)
+            });
+        }
+    }
+    twin
 }
 
 pub fn of_rust(sheet: &Sheet, pass: &RustPass) -> Pass {
     let n = pass.idle.len();
     let m = pass.pending.len();
     let columns = n.max(m);
-    let from_the_rust = pass.cells.is_some();
+    let source = match pass.cells {
+        Some(_) => Source::Rust,
+        None => Source::Document,
+    };
     let cells = pass
         .cells
         .clone()
@@ -78,7 +134,7 @@ pub fn of_rust(sheet: &Sheet, pass: &RustPass) -> Pass {
         cells: cells.iter().map(|c| *c as u64).collect(),
         sweeps: pass.sweeps.clone(),
         pending: pass.pending.clone(),
-        from_the_rust,
+        source,
     }
 }
 
@@ -113,25 +169,33 @@ pub fn passprint(rust: &mut Rust, bytes: &[u8]) -> String {
     }
 }
 
-/// Everything the Rust gives: pending stops, states, matrix, least total, decisions; ranks if asked for.
+/// Everything the Rust gives: pending stops, states, matrix, least total, decisions; ranks if asked for. Of a sheet with closed
+/// landings it is what the definitions give, and the ranks are those of the Rust without them.
 pub fn details(rust: &mut Rust, bytes: &[u8], with_ranks: bool) -> String {
     if let Some(r) = read(bytes) {
         return format!("refused {} at {}\n", r.number, r.offset);
     }
     let sheet = Sheet::of_accepted(bytes);
     let found = rust.pass(&sheet, with_ranks);
-    let pass = of_rust(&sheet, &found);
+    let pass = match sheet.closed.is_empty() {
+        true => of_rust(&sheet, &found),
+        false => paper::answered(&sheet),
+    };
     let columns = pass.cars.max(pass.stops) as usize;
     let mut out = format!(
-        "cars {} stops {} columns {columns} total {} ranked {}\n",
-        pass.cars, pass.stops, pass.total, found.ranked
+        "cars {} stops {} columns {columns} total {}",
+        pass.cars, pass.stops, pass.total
     );
-    out += if pass.from_the_rust {
-        "matrix rust\n"
-    } else {
-        "matrix document\n"
+    out += &match pass.source {
+        Source::Model => "\n".into(),
+        _ => format!(" ranked {}\n", found.ranked),
     };
-    for stop in &found.pending {
+    out += match pass.source {
+        Source::Rust => "matrix rust\n",
+        Source::Document => "matrix document\n",
+        Source::Model => "matrix definition\n",
+    };
+    for stop in &pass.pending {
         let _ = writeln!(out, "pending {stop}");
     }
     for (car, sweep) in sheet.cars.iter().zip(&pass.sweeps) {
@@ -150,7 +214,11 @@ pub fn details(rust: &mut Rust, bytes: &[u8], with_ranks: bool) -> String {
             id => writeln!(out, "car {car} stop {id}"),
         };
     }
-    for (car, stop, rank) in &found.ranks {
+    for (car, stop, rank) in found
+        .ranks
+        .iter()
+        .filter(|rank| pass.pending.contains(&rank.1))
+    {
         let _ = match rank {
             None => writeln!(out, "rank {car} {stop} none"),
             Some(cost) => writeln!(out, "rank {car} {stop} {:016x}", cost.to_bits()),
@@ -163,7 +231,7 @@ pub fn details(rust: &mut Rust, bytes: &[u8], with_ranks: bool) -> String {
 mod tests {
     use super::*;
     use sheetgen::sheet::{ETD, RSR, SCAN, mask_bit};
-    use sheetgen::{Car, Demand, Line, Stop, Waiting};
+    use sheetgen::{Aboard, Demand, Stop, Waiting};
 
     /// One car at 0 on a line with all stops, a rider-less call at the first.
     fn one_car(strategy: u8, positions: &[f64]) -> Sheet {
@@ -260,5 +328,50 @@ mod tests {
             passprint(&mut Rust::new(), &Sheet::example().write()),
             lines
         );
+    }
+
+    /// A closed landing counts as covered whoever waits there; a stop wanted by an idle car's rider stays pending.
+    #[test]
+    fn closed_landings() {
+        let mut s = one_car(SCAN, &[5.0, 9.0]);
+        let call = Demand {
+            stop: 2,
+            riding: 0,
+            call: true,
+        };
+        s.demands.push(call);
+        let pending = |s: &Sheet| {
+            let bytes = s.write();
+            let Answer::Passed(pass) = answer(&mut Rust::new(), &bytes) else {
+                panic!()
+            };
+            let by_rust = by_covering(&mut Rust::new(), s);
+            assert_eq!(
+                (&pass.pending, &pass.cells),
+                (&by_rust.pending, &by_rust.cells)
+            );
+            pass.pending
+        };
+        assert_eq!(pending(&s), [1, 2]);
+        s.closed = vec![1];
+        assert_eq!(pending(&s), [2]);
+        s.waiting.push(Waiting {
+            stop: 1,
+            line: Some(99),
+            destination: None,
+            weight: 1e9,
+            wait: 0,
+        });
+        assert_eq!(pending(&s), [2]);
+        s.closed = vec![2, 1];
+        assert_eq!(pending(&s), []);
+        let rider = Aboard {
+            car: 1,
+            destination: Some(1),
+        };
+        s.aboard.push(rider);
+        assert_eq!(pending(&s), [1]);
+        s.cars[0].idle = false;
+        assert_eq!(pending(&s), []);
     }
 }

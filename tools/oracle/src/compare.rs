@@ -6,7 +6,7 @@ use sheetgen::generate::{PROFILES, Profile, generate};
 use sheetgen::shrink::shrink;
 use sheetgen::{Refusal, Sheet, describe, read};
 
-use crate::answer::{Answer, Pass, answer};
+use crate::answer::{Answer, Pass, Source, answer, by_covering};
 use crate::bench::{Bench, Has, KEPT, Lent, Places};
 use crate::choice;
 use crate::rust_pass::Rust;
@@ -46,9 +46,11 @@ fn differ<T: std::fmt::Debug>(what: &'static str, expected: T, found: T) -> Opti
 pub struct Tally {
     pub sheets: u64,
     pub refused: u64,
-    /// Passes whose cells and decisions the Rust gave, and those where document 01 alone does.
+    /// Passes whose cells and decisions the Rust gave, those where document 01 alone does, and those of sheets with
+    /// closed landings, by src/paper.rs.
     pub rust_passes: u64,
     pub document_passes: u64,
+    pub closed_passes: u64,
     pub cells: u64,
     /// Pending stops whose ids the Rust gave.
     pub pending: u64,
@@ -61,6 +63,8 @@ pub struct Comparison<'a> {
     pub bench: &'a mut dyn Bench,
     pub has: Has,
     pub tally: Tally,
+    /// Sheets with closed landings are held to the Rust, where cars cover them, and not to src/paper.rs.
+    pub covering: bool,
 }
 
 impl<'a> Comparison<'a> {
@@ -71,6 +75,7 @@ impl<'a> Comparison<'a> {
             bench,
             has,
             tally: Tally::default(),
+            covering: false,
         }
     }
 
@@ -103,7 +108,7 @@ impl<'a> Comparison<'a> {
                 self.tally.numbers[r.number as usize] += 1;
                 Answer::Refused(r)
             }
-            None if self.has.pass || self.has.pending => answer(&mut self.rust, bytes),
+            None if self.has.pass || self.has.pending => self.right(bytes),
             None => return None,
         };
         let mut found = None;
@@ -116,7 +121,16 @@ impl<'a> Comparison<'a> {
         found
     }
 
-    /// The pending stops, which the Rust gives for every accepted sheet. Every sheet is tried with 63 places as well.
+    /// The answer to an accepted sheet.
+    fn right(&mut self, bytes: &[u8]) -> Answer {
+        let sheet = Sheet::of_accepted(bytes);
+        match self.covering && !sheet.closed.is_empty() {
+            true => Answer::Passed(by_covering(&mut self.rust, &sheet)),
+            false => answer(&mut self.rust, bytes),
+        }
+    }
+
+    /// The pending stops, which the Rust gives for every accepted sheet without closed landings. Every sheet is tried with 63 places as well.
     fn pending(&mut self, bytes: &[u8], right: &Answer) -> Option<Difference> {
         let (few, fresh) = (Places::new(63), Places::new(64 + bytes.len() % 3));
         let mut short = few.clone();
@@ -209,11 +223,13 @@ impl<'a> Comparison<'a> {
                     return differ("pass: number", (0, 0), (number, lent.offset));
                 }
                 let found = self.passed(pass, &fresh, &lent);
-                if pass.from_the_rust {
-                    self.tally.rust_passes += 1;
+                match pass.source {
+                    Source::Rust => self.tally.rust_passes += 1,
+                    Source::Document => self.tally.document_passes += 1,
+                    Source::Model => self.tally.closed_passes += 1,
+                }
+                if pass.source != Source::Document {
                     self.tally.cells += pass.cells.len() as u64;
-                } else {
-                    self.tally.document_passes += 1;
                 }
                 found
             }
@@ -403,27 +419,29 @@ pub fn library(bench: &mut dyn Bench, seed: u64, count: u64, only: Option<&str>)
     said("dispatch_bench_pass", has.pass, on_sheets);
     said("dispatch_bench_choose", has.choose, on_matrices);
     said("dispatch_bench_pending", has.pending, on_sheets);
-    (has.read || has.pass || has.choose || has.pending) && run(bench, seed, count, only)
+    let any = has.read || has.pass || has.choose || has.pending;
+    any && run(bench, (seed, count), only, false)
 }
 
-/// Document 01's definitions against the Rust: pending stops, cells and sweeps of accepted sheets. Refusals
-/// and choices come from one source here, so they aren't compared.
+/// The definitions against the Rust: pending stops, cells and sweeps of accepted sheets. Refusals and choices come
+/// from one source here, so they aren't compared. A closed landing is one that further cars cover in the Rust.
 pub fn papers(seed: u64, count: u64, only: Option<&str>) -> bool {
     use crate::paper::{Fault, Paper};
     println!("accepted sheets only: refusals and the choice have one source on both sides here");
-    run(
-        &mut Paper {
-            fault: Fault::None,
-            whole: false,
-        },
-        seed,
-        count,
-        only,
-    )
+    let mut paper = Paper {
+        fault: Fault::None,
+        whole: false,
+    };
+    run(&mut paper, (seed, count), only, true)
 }
 
 /// Both sides on each profile; true where nothing differs.
-fn run(bench: &mut dyn Bench, seed: u64, count: u64, only: Option<&str>) -> bool {
+fn run(
+    bench: &mut dyn Bench,
+    (seed, count): (u64, u64),
+    only: Option<&str>,
+    covering: bool,
+) -> bool {
     let has = bench.has();
     let mut clean = true;
     let (on_sheets, on_matrices) = (
@@ -437,6 +455,7 @@ fn run(bench: &mut dyn Bench, seed: u64, count: u64, only: Option<&str>) -> bool
             }
             let start = Instant::now();
             let mut c = Comparison::new(bench);
+            c.covering = covering;
             // A full sheet is some thirty times the size of an ordinary one.
             let count = if profile == Profile::Full {
                 count.div_ceil(20)
@@ -451,9 +470,10 @@ fn run(bench: &mut dyn Bench, seed: u64, count: u64, only: Option<&str>) -> bool
                 .map(|k| format!("{k}:{}", t.numbers[k]))
                 .collect();
             println!(
-                "{name}: {} sheets, {} with cells of the Rust ({} cells), {} of document 01 alone, {} pending stops, refused {} in {seconds:.1} s",
+                "{name}: {} sheets, {} with cells of the Rust, {} with closed landings by the definitions ({} cells), {} of document 01 alone, {} pending stops, refused {} in {seconds:.1} s",
                 t.sheets,
                 t.rust_passes,
+                t.closed_passes,
                 t.cells,
                 t.document_passes,
                 t.pending,
@@ -523,14 +543,15 @@ pub fn selftest(count: u64, only: Option<&str>) -> bool {
                     None if read(&found.bytes).is_none() => {
                         let s = Sheet::of_accepted(&found.bytes);
                         format!(
-                            "{} bytes: {} stops {} lines {} cars {} aboard {} waiting {} demands",
+                            "{} bytes: {} stops {} lines {} cars {} aboard {} waiting {} demands {} closed",
                             found.bytes.len(),
                             s.stops.len(),
                             s.lines.len(),
                             s.cars.len(),
                             s.aboard.len(),
                             s.waiting.len(),
-                            s.demands.len()
+                            s.demands.len(),
+                            s.closed.len()
                         )
                     }
                     None => format!("{} bytes", found.bytes.len()),
@@ -564,12 +585,17 @@ pub fn survey(seed: u64, count: u64) {
             (0, 0u64, 0u64, 0u64, 0u64, 0u64);
         let (mut ranks, mut ranked, mut minus_zero, mut covered, mut cut) =
             (0u64, 0u64, 0u64, 0u64, 0u64);
+        let mut closed = 0u64;
         for index in 0..count {
             let bytes = generate(profile, seed, index);
             if read(&bytes).is_some() {
                 continue;
             }
             let sheet = Sheet::of_accepted(&bytes);
+            if !sheet.closed.is_empty() {
+                closed += 1;
+                continue;
+            }
             let pass = rust.pass(&sheet, true);
             let demand = sheet.stops.iter().enumerate().filter(|(j, s)| {
                 let bit = sheetgen::sheet::mask_bit(*j);
@@ -603,7 +629,7 @@ pub fn survey(seed: u64, count: u64) {
         println!(
             "{name}: {passes} matrices of {count} sheets, {cells} cells ({zero} zero, {held} at the ceiling), \
              {ranked} of {ranks} pairs have a rank ({minus_zero} minus zero), {sent} cars sent, {idle} idle, \
-             {covered} sheets with covered stops, {cut} with unranked pairs"
+             {covered} sheets with covered stops, {cut} with unranked pairs; {closed} with closed landings are not looked at"
         );
     }
 }
@@ -611,11 +637,20 @@ pub fn survey(seed: u64, count: u64) {
 /// Demand 3 by running: of two sheets that differ in the limit alone, the one with the higher limit has no
 /// higher total. True where that held.
 pub fn limits(seed: u64, count: u64) -> bool {
+    [("limits", Profile::Limits), ("closed", Profile::Closed)]
+        .into_iter()
+        .all(|(name, profile)| limits_of(name, profile, seed, count))
+}
+
+fn limits_of(name: &str, profile: Profile, seed: u64, count: u64) -> bool {
     let mut rust = Rust::new();
     let mut fell = 0u64;
     for index in 0..count {
-        let bytes = generate(Profile::Limits, seed, index);
+        let bytes = generate(profile, seed, index);
         let mut sheet = Sheet::of_accepted(&bytes);
+        if sheet.policy.limit > 64 {
+            sheet.policy.limit = 1 + (index % 4) as u16;
+        }
         let mut total = |sheet: &Sheet| match answer(&mut rust, &sheet.write()) {
             Answer::Passed(pass) => pass.total,
             Answer::Refused(r) => unreachable!("{r:?}"),
@@ -627,12 +662,47 @@ pub fn limits(seed: u64, count: u64) -> bool {
         };
         let high = total(&sheet);
         if high > low {
-            println!("limits, seed {seed}, number {index}: total {low} rose to {high}");
+            println!("{name}, seed {seed}, number {index}: total {low} rose to {high}");
             return false;
         }
         fell += u64::from(high < low);
     }
-    println!("limits: {count} pairs of sheets, the total fell in {fell} and never rose");
+    println!("{name}: {count} pairs of sheets, the total fell in {fell} and never rose");
+    true
+}
+
+/// "A bench of the first release refuses such a sheet, by 4 where nothing earlier is wrong": the reader of that release's
+/// library on sheets with kind 8, and on the others as now. True where that held.
+pub fn first_release(bench: &mut dyn Bench, seed: u64, count: u64) -> bool {
+    use crate::paper::{Fault, Paper};
+    let mut first = Paper {
+        fault: Fault::ClosedUnknown,
+        whole: true,
+    };
+    let (mut closed, mut others) = (0u64, 0u64);
+    for (name, profile) in PROFILES {
+        let count = match profile {
+            Profile::Full => count.div_ceil(20),
+            _ => count,
+        };
+        for index in 0..count {
+            let bytes = generate(profile, seed, index);
+            let (expected, found) = (first.read(&bytes), bench.read(&bytes));
+            if expected != found {
+                println!(
+                    "{name}, seed {seed}, number {index}: expected {expected:?}, found {found:?}"
+                );
+                return false;
+            }
+            match expected.0 == 4 && read(&bytes).is_none_or(|now| now.number != 4) {
+                true => closed += 1,
+                false => others += 1,
+            }
+        }
+    }
+    println!(
+        "{closed} sheets refused by 4 at their first record of kind 8; {others} others answered as now"
+    );
     true
 }
 

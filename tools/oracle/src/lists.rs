@@ -9,7 +9,7 @@ use sheetgen::sheet::{ETD, NO_LIMIT, RSR, SCAN};
 use sheetgen::shrink::shrink;
 use sheetgen::{Aboard, Car, Demand, Line, Sheet, Stop, Waiting, read};
 
-use crate::answer::{Answer, Pass, answer};
+use crate::answer::{Answer, Pass, Source, answer};
 use crate::compare::Comparison;
 use crate::paper::{FAULTS, Fault, Paper};
 use crate::rust_pass::{Rust, RustPass};
@@ -124,6 +124,7 @@ fn edges(cases: &mut Cases) {
         longer.push(more);
         cases.add(longer);
     }
+    closures(cases);
     // The last demand record of 1 to 8 ends at every bit of a byte but for its tail.
     for stops in 1..=8 {
         let mut s = Sheet::new(sheetgen::sheet::SCAN);
@@ -144,6 +145,64 @@ fn edges(cases: &mut Cases) {
     }
 }
 
+/// Closed landings: ids that are listed, unlisted, repeated and 0; cuts of a small sheet from its first closure on; kinds and lengths at both.
+fn closures(cases: &mut Cases) {
+    let mut small = Sheet::new(sheetgen::sheet::SCAN);
+    small.stops = [3, 7].map(|id| Stop { id, position: 0.0 }).to_vec();
+    for closed in [
+        [3, 7],
+        [7, 3],
+        [3, 3],
+        [7, 7],
+        [0, 3],
+        [3, 0],
+        [3, 4],
+        [8, 3],
+    ] {
+        small.closed = closed.to_vec();
+        cases.add(small.write());
+    }
+    small.closed = vec![7, 3];
+    let whole = small.write();
+    let (first, second) = (24 + 490 + 2 * 118, 24 + 490 + 2 * 118 + 54);
+    for length in first / 8..whole.len() {
+        cases.add(whole[..length].to_vec());
+    }
+    for at in [first, second] {
+        for kind in [0, 1, 2, 7, 9, 63] {
+            let mut other = whole.clone();
+            bits::set(&mut other, at, 6, kind);
+            cases.add(other);
+        }
+        for length in [0, 31, 33, 49] {
+            let mut other = whole.clone();
+            bits::set(&mut other, at + 6, 16, length);
+            cases.add(other);
+        }
+    }
+    closed_ends(cases);
+}
+
+/// Each bit of the tail behind 1 to 4 closures; a closure for each of 64 stops.
+fn closed_ends(cases: &mut Cases) {
+    for closed in 1..=4 {
+        let mut s = Sheet::new(sheetgen::sheet::SCAN);
+        s.stops = (1..=4).map(|id| Stop { id, position: 0.0 }).collect();
+        s.closed = (1..=closed).collect();
+        let bytes = s.write();
+        cases.add(bytes.clone());
+        for bit in 24 + 490 + 118 * 4 + 54 * closed as usize..bytes.len() * 8 {
+            let mut set = bytes.clone();
+            set[bit / 8] |= 0x80 >> (bit % 8);
+            cases.add(set);
+        }
+    }
+    let mut s = Sheet::new(sheetgen::sheet::SCAN);
+    s.stops = (1..=64).map(|id| Stop { id, position: 0.0 }).collect();
+    s.closed = (1..=64).rev().collect();
+    cases.add(s.write());
+}
+
 /// The refusal's number and the kind of the record at its offset.
 fn key(sheet: &[u8]) -> (u32, usize) {
     read(sheet).map_or((0, 0), |r| {
@@ -152,7 +211,7 @@ fn key(sheet: &[u8]) -> (u32, usize) {
         (
             r.number,
             if stated {
-                bits::get(sheet, at, 6).min(8) as usize
+                bits::get(sheet, at, 6).min(9) as usize
             } else {
                 0
             },
@@ -206,7 +265,19 @@ pub fn refusals(seed: u64) -> (Vec<u8>, usize) {
         list.push(number as u8);
         list.extend((offset as u32).to_be_bytes());
     }
+    assert!(
+        list.len() <= 204_800,
+        "longer than replay_refusals's buffer"
+    );
     (list, cases.0.len())
+}
+
+/// Whether the pass of an accepted sheet, of this strategy where one is named, differs.
+fn tells(c: &mut Comparison, strategy: Option<u8>, sheet: &[u8]) -> bool {
+    let is = |strategy: u8| Sheet::of_accepted(sheet).policy.strategy == strategy;
+    read(sheet).is_none()
+        && strategy.is_none_or(is)
+        && c.sheet(sheet).is_some_and(|d| d.what.starts_with("pass: "))
 }
 
 /// Sheets that tell a bench with one fault from one without, shrunk, and some of each profile as they are.
@@ -226,15 +297,19 @@ fn telling(seed: u64, count: u64, each: usize) -> Cases {
             ) {
                 continue;
             }
-            let tells = |c: &mut Comparison, b: &[u8]| {
-                read(b).is_none() && c.sheet(b).is_some_and(|d| d.what.starts_with("pass: "))
+            if fault.is_of_closures() != (profile == Profile::Closed) {
+                continue;
+            }
+            // Of closed landings, a sheet of each strategy that shows the fault.
+            let strategies: &[Option<u8>] = match profile {
+                Profile::Closed => &[Some(ETD), Some(RSR), Some(SCAN)],
+                _ => &[None],
             };
-            for index in 0..count {
-                let bytes = generate(profile, seed, index);
-                if tells(&mut c, &bytes) {
-                    cases.add(shrink(&bytes, &mut |b| tells(&mut c, b)));
-                    break;
-                }
+            for strategy in strategies {
+                let mut sheets = (0..count).map(|index| generate(profile, seed, index));
+                let first = sheets.find(|bytes| tells(&mut c, *strategy, bytes));
+                let small = |bytes: Vec<u8>| shrink(&bytes, &mut |b| tells(&mut c, *strategy, b));
+                first.map(small).into_iter().for_each(|s| cases.add(s));
             }
         }
     }
@@ -271,7 +346,7 @@ fn put_pass(list: &mut Vec<u8>, pass: &Pass) {
     }
     list.push(pass.sweeps.len() as u8);
     list.extend(&pass.sweeps);
-    list.push(u8::from(pass.from_the_rust));
+    list.push(u8::from(pass.source == Source::Rust));
 }
 
 /// Accepted sheets with everything that a pass answers and writes.
@@ -384,7 +459,9 @@ fn values(sheet: &Sheet) -> std::collections::BTreeSet<String> {
         .demands
         .iter()
         .map(|d| format!("{:?}", (d.riding, d.call)));
-    cars.chain(stops).chain(waiting).chain(demands).collect()
+    let closed = sheet.closed.iter().map(|_| "closed".into());
+    let all = cars.chain(stops).chain(waiting).chain(demands);
+    all.chain(closed).collect()
 }
 
 /// What is asked of a pair.
@@ -419,7 +496,19 @@ fn limited(rust: &mut Rust, wanted: &Wanted, seed: u64, next: &mut u64) -> Limit
             }
             let pair = Limited::new(rust, &part, first, wanted.raise);
             let pass = &pair.cases[0].1;
-            let good = pass.from_the_rust && pass.cars >= wanted.cars;
+            let open = Sheet {
+                closed: Vec::new(),
+                ..part
+            };
+            let mut matters = |pass: &Pass| {
+                let Answer::Passed(other) = answer(rust, &open.write()) else {
+                    unreachable!()
+                };
+                other.pending != pass.pending
+            };
+            let good = pass.source != Source::Document
+                && pass.cars >= wanted.cars
+                && (wanted.profile != Profile::Closed || matters(pass));
             (good && pair.uncut() && pair.falls() == wanted.falls).then_some(pair)
         };
         if pair(&bytes).is_some() {
@@ -474,6 +563,16 @@ pub fn pairs(seed: u64) -> (Vec<u8>, usize) {
                 }
             }
         }
+        // Closed landings without which other stops were pending.
+        let wanted = Wanted {
+            strategy,
+            profile: Profile::Closed,
+            raise: usize::from(strategy),
+            falls: true,
+            cars: 1,
+            length: 700,
+        };
+        pairs.push(limited(&mut rust, &wanted, seed, &mut 0));
         // A limit that cuts nothing, lifted.
         let sheet = Sheet::of_accepted(&pairs[pairs.len() - 1].cases[0].0);
         pairs.push(Limited::new(&mut rust, &sheet, NO_LIMIT - 1, 2));
@@ -776,7 +875,7 @@ pub fn ranks(seed: u64) -> (Vec<u8>, usize) {
     let mut cases: Vec<Ranked> = small
         .into_iter()
         .map(|bytes| Ranked::new(&mut rust, bytes))
-        .filter(|ranked| !ranked.pass.ranks.is_empty())
+        .filter(|ranked| !ranked.pass.ranks.is_empty() && ranked.sheet.closed.is_empty())
         .collect();
     for strategy in [ETD, RSR, SCAN] {
         cases.extend(crowds(&mut rust, strategy, seed));

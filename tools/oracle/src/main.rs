@@ -22,11 +22,13 @@ oracle compare LIBRARY SEED COUNT [PROFILE]
 oracle program PROGRAM SEED COUNT
                                the program passprint, built, against `oracle passprint`
 oracle papers SEED COUNT [PROFILE]
-                               document 01's definitions against the Rust, with no library
+                               the definitions against the Rust, with no library
 oracle selftest [COUNT [FAULT]]
                                benches that are wrong on purpose must be found out
 oracle time LIBRARY [ROUNDS]   from bytes to decisions, the bench beside the Rust, in microseconds a sheet
-oracle limits SEED COUNT       a higher limit never raises the total, by the Rust
+oracle limits SEED COUNT       a higher limit never raises the total, by the Rust, and with closed landings by the definitions
+oracle first LIBRARY SEED COUNT
+                               the first release refuses closed landings by 4; LIBRARY is its shared object
 oracle survey SEED COUNT       what the sheets of each profile are like
 oracle list refusals|passes|pairs|ranks SEED FILE
                                writes a fixed list
@@ -87,6 +89,11 @@ fn run(args: &[&str]) -> Result<(), String> {
             let rounds = rest.first().map_or(Ok(9), |word| number(word))?;
             timing::table(&mut bench::Linked::load(library)?, rounds.max(1) as usize);
             return Ok(());
+        }
+        ["first", library, seed, count] => {
+            let mut bench = bench::Linked::load(library)?;
+            let held = compare::first_release(&mut bench, number(seed)?, number(count)?);
+            return clean(held);
         }
         ["limits", seed, count] => return clean(compare::limits(number(seed)?, number(count)?)),
         ["survey", seed, count] => {

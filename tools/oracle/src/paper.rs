@@ -1,11 +1,12 @@
 //! The pass as document 01 defines it, apart from the published Rust: group, demand, coverage, the candidate
-//! cut by counting, ranks, cells. Compared with the Rust it shows that document 01 says what the Rust does.
+//! cut by counting, ranks, cells. Compared with the Rust it shows that document 01 says what the Rust does. With
+//! document 02's closed landings, which the Rust does not have, it is what a bench is held to.
 //! Each fault below changes one place of it; the comparison must find every one of them out.
 
 use sheetgen::sheet::{ETD, NO_LIMIT, RSR, SCAN, mask_bit};
 use sheetgen::{Car, Sheet, Waiting, bits, read};
 
-use crate::answer::SENTINEL;
+use crate::answer::{self, SENTINEL};
 use crate::bench::{Bench, Has, KEPT, Lent, Places};
 use crate::choice;
 
@@ -138,6 +139,42 @@ faults! {
     FewPlacesTaken
     /// One place past the pending stops is cleared.
     OnePlaceMore
+    /// Kind 8 is unknown, as in the first release.
+    ClosedUnknown
+    /// A second closure of a stop passes.
+    SecondClosure
+    /// A closed stop is like any other.
+    ClosureIgnored
+    /// A closed stop where somebody waits is not covered.
+    ClosedUnlessWaited
+    /// A closed stop is covered only where a car serves it.
+    ClosedIfServed
+    /// A closed stop is never pending.
+    ClosedFirst
+    /// Closed stops don't intervene.
+    ClosedNotCounted
+    /// SCAN doesn't look ahead to closed stops.
+    ClosedNotAhead
+    /// A closed stop is the one at its id's place.
+    ClosedByPlace
+}
+
+impl Fault {
+    /// Only a sheet with closed landings shows it.
+    pub fn is_of_closures(self) -> bool {
+        matches!(
+            self,
+            Fault::ClosedUnknown
+                | Fault::SecondClosure
+                | Fault::ClosureIgnored
+                | Fault::ClosedUnlessWaited
+                | Fault::ClosedIfServed
+                | Fault::ClosedFirst
+                | Fault::ClosedNotCounted
+                | Fault::ClosedNotAhead
+                | Fault::ClosedByPlace
+        )
+    }
 }
 
 pub struct Paper {
@@ -154,12 +191,19 @@ impl Paper {
         match (self.fault, right) {
             (Fault::TailOffset, Some((16, at))) => Some((16, at - at.min(49))),
             (Fault::SecondDemand, Some((9, at))) if kind(at) == 7 => None,
+            (Fault::SecondClosure, Some((9, at))) if kind(at) == 8 => None,
+            (Fault::ClosedUnknown, _) => {
+                let found = sheetgen::generate::records(sheet).into_iter();
+                let mut closed = found.filter(|r| r.1 == 8).map(|r| r.0 as u64);
+                let first = closed.find(|at| right.is_none_or(|r| r.1 >= *at));
+                first.map(|at| (4, at)).or(right)
+            }
             (Fault::EmptyCount, Some((6, 24))) if bits::get(sheet, 8, 16) == 0 => Some((2, 24)),
             (Fault::SecondPolicy, Some((7, at))) if kind(at) == 1 => Some((6, at)),
             (Fault::UnknownKindFirst, Some((2, at)))
                 if at as usize + 22 <= sheet.len() * 8
                     && at > 0
-                    && !(1..=7).contains(&kind(at)) =>
+                    && !(1..=8).contains(&kind(at)) =>
             {
                 Some((4, at))
             }
@@ -264,10 +308,10 @@ impl<'a> Pass<'a> {
             })
         };
         for j in 0..sheet.stops.len() {
-            if nth(group, j)
-                && nth(pass.demand, j)
-                && (bound(j) && !pass.is(Fault::BoundForDropped) || !pass.covered(j))
-            {
+            let wanted = bound(j)
+                && !pass.is(Fault::BoundForDropped)
+                && !(pass.is(Fault::ClosedFirst) && pass.closed(j));
+            if nth(group, j) && nth(pass.demand, j) && (wanted || !pass.covered(j)) {
                 pass.pending |= mask_bit(j);
             }
         }
@@ -314,7 +358,37 @@ impl<'a> Pass<'a> {
         self.sheet.lines.iter().flat_map(|l| on(l.id)).collect()
     }
 
+    /// A record of kind 8 names the stop.
+    fn closed(&self, j: usize) -> bool {
+        let id = match self.fault {
+            Fault::ClosedByPlace => j as u32,
+            _ => self.sheet.stops[j].id,
+        };
+        self.sheet.closed.contains(&id)
+    }
+
+    /// Whether a closure covers a stop, "whoever waits there".
+    fn covered_by_closure(&self, j: usize) -> bool {
+        let id = self.sheet.stops[j].id;
+        match self.fault {
+            Fault::ClosureIgnored => false,
+            Fault::ClosedUnlessWaited => self.closed(j) && self.waiters(j).next().is_none(),
+            Fault::ClosedIfServed => {
+                self.closed(j) && self.sheet.cars.iter().any(|c| c.target == Some(id))
+            }
+            _ => self.closed(j),
+        }
+    }
+
+    fn closed_mask(&self) -> u64 {
+        let stops = (0..self.sheet.stops.len()).filter(|j| self.closed(*j));
+        stops.fold(0, |mask, j| mask | mask_bit(j))
+    }
+
     fn covered(&self, j: usize) -> bool {
+        if self.covered_by_closure(j) {
+            return true;
+        }
         let id = self.sheet.stops[j].id;
         let serves = |c: &Car| {
             let target = if self.is(Fault::CoverByPhaseStop) {
@@ -369,6 +443,8 @@ impl<'a> Pass<'a> {
             self.pending
         } else if self.is(Fault::AheadOnLineOnly) {
             self.demand & self.line_mask(c)
+        } else if self.is(Fault::ClosedNotAhead) {
+            self.demand & self.group & !self.closed_mask()
         } else {
             self.demand & self.group
         };
@@ -584,6 +660,8 @@ impl<'a> Pass<'a> {
         };
         let among = if self.is(Fault::CoveredNotCounted) {
             self.pending
+        } else if self.is(Fault::ClosedNotCounted) {
+            self.demand & self.group & !self.closed_mask()
         } else {
             self.demand & self.group
         };
@@ -722,6 +800,33 @@ impl<'a> Pass<'a> {
             _ => self.scan(c, self.sweeps[i], j),
         };
         rank.map_or(SENTINEL as u64, |cost| self.scale(cost))
+    }
+}
+
+/// What a pass of an accepted sheet writes and answers, by the definitions alone.
+pub fn answered(sheet: &Sheet) -> answer::Pass {
+    let mut paper = Paper {
+        fault: Fault::None,
+        whole: true,
+    };
+    let bytes = sheet.write();
+    let (mut lent, mut places) = (Lent::new(32, 2048, 32), Places::new(64));
+    let numbers = (
+        paper.pass(&bytes, &mut lent),
+        paper.pending(&bytes, &mut places),
+    );
+    assert_eq!(numbers, (0, 0), "an accepted sheet is refused");
+    let (n, m) = (lent.cars as usize, lent.stops as usize);
+    answer::Pass {
+        cars: lent.cars,
+        stops: lent.stops,
+        total: lent.total,
+        rank_bound: (n * m.min(usize::from(sheet.policy.limit))) as u64,
+        decisions: lent.decisions[..n].to_vec(),
+        cells: lent.matrix[..n * n.max(m)].to_vec(),
+        sweeps: lent.sweeps[..sheet.cars.len()].to_vec(),
+        pending: places.stops[..m].to_vec(),
+        source: answer::Source::Model,
     }
 }
 

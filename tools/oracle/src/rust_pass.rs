@@ -329,8 +329,8 @@ struct Probe {
 impl Probe {
     fn new() -> Self {
         let mut world = World::new();
-        // Room for every entity of a sheet's stops, lines and cars.
-        let entities: Vec<EntityId> = (0..128).map(|_| world.spawn()).collect();
+        // Room for every entity of a sheet's stops, lines and cars, and of those that cover closed landings.
+        let entities: Vec<EntityId> = (0..2048).map(|_| world.spawn()).collect();
         for entity in &entities {
             world.set_elevator(*entity, plain_car(entities[0]));
             world.set_position(*entity, Position::from(0.0));

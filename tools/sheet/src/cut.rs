@@ -29,7 +29,8 @@ impl Record {
 
     /// Its kind is known and its length is the kind's, so that it has fields.
     pub fn has_fields(&self) -> bool {
-        (1..=7).contains(&self.kind) && BODY_BITS[self.kind] == self.length
+        let bits = BODY_BITS.get(self.kind);
+        self.kind > 0 && bits == Some(&self.length)
     }
 }
 

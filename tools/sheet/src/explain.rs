@@ -49,10 +49,17 @@ pub fn explain(bytes: &[u8]) -> String {
 /// An accepted sheet, and what to ask where a host does not accept it.
 fn accepted(cut: &Cut) -> String {
     let bytes = number_of(cut.bytes.len(), "byte");
-    format!(
-        "accepted\n{}\nto do: Nothing for this bench. If a host refuses the sheet, ask for the number that it gave (1: the host's own buffers are too short) and for the length of its file: here it is {bytes}.\n",
+    let mut lines = format!(
+        "accepted\n{}\nto do: Nothing for this bench. If a host refuses the sheet, ask for the number that it gave (1: the host's own buffers are too short) and for the length of its file: here it is {bytes}.",
         show::counts(cut)
-    )
+    );
+    if let Some(closed) = cut.records.iter().find(|record| record.kind == 8) {
+        let at = closed.at;
+        lines += &format!(
+            " If it is 4 at {at}, the host has a bench of the first release, which takes no closed landings: renew it, or write the sheet without them."
+        );
+    }
+    lines + "\n"
 }
 
 /// The record's line of text, and how to put it right there; bits without fields are nothing to edit where they are many.

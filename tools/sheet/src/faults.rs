@@ -26,7 +26,7 @@ pub fn find(cut: &Cut, record: &Record, number: u32) -> Option<Fault> {
         let mut fields = cut.fields(record).iter();
         fields.find_map(|f| test(f, cut.value(record, f)).map(|says| of(f.name, says)))
     };
-    let kinds = || format!("kind is {}, but kinds are 1 to 7", record.kind);
+    let kinds = || format!("kind is {}, but kinds are 1 to 8", record.kind);
     let limit = || "limit is 0, but it must be 1 or more".to_string();
     match number {
         4 => Some(of("kind", kinds())),
@@ -139,7 +139,7 @@ fn zero(cut: &Cut, record: &Record, field: &Field, held: Value) -> Option<String
 
 /// 9: an id that an earlier record has, or a stop's that does not rise.
 fn repeated(cut: &Cut, record: &Record) -> Option<Fault> {
-    let field = if record.kind == 7 { "stop" } else { "id" };
+    let field = if record.kind >= 7 { "stop" } else { "id" };
     let id = cut.named(record, field)?;
     let earlier = || {
         cut.of_kind(record.kind)

@@ -1,4 +1,4 @@
-//! The fields of each kind of record, in document 01's order: name, place in the body, form.
+//! The fields of each kind of record, in document 01's order, and document 02's kind 8: name, place in the body, form.
 
 use sheetgen::sheet::{ETD, RSR};
 
@@ -80,8 +80,8 @@ impl Form {
 }
 
 /// The word that begins a record's line, by kind; index 0 is unused.
-pub const KINDS: [&str; 8] = [
-    "", "policy", "stop", "line", "car", "aboard", "waiting", "demand",
+pub const KINDS: [&str; 9] = [
+    "", "policy", "stop", "line", "car", "aboard", "waiting", "demand", "closed",
 ];
 pub const STRATEGIES: &[&str] = &["ETD", "RSR", "SCAN"];
 const TRAFFIC: &[&str] = &["idle", "up_peak", "inter_floor", "down_peak"];
@@ -234,6 +234,8 @@ static DEMAND: [Field; 3] = [
     always("riderless_call", 48, Form::Code(NO_YES, 1)),
 ];
 
+static CLOSED: [Field; 1] = [always("stop", 0, Form::Id(Names::Record(2)))];
+
 /// The fields of a policy, whose weights have the names of its strategy.
 pub fn policy_fields(strategy: u64) -> &'static [Field] {
     if strategy == u64::from(ETD) {
@@ -255,7 +257,7 @@ pub fn store_fields(strategy: Option<u64>) -> &'static [Field; 4] {
     }
 }
 
-/// The fields of a record of kind 2 to 7; a policy's depend on its strategy.
+/// The fields of a record of kind 2 to 8; a policy's depend on its strategy.
 pub fn fields(kind: usize) -> &'static [Field] {
     match kind {
         2 => &STOP,
@@ -264,6 +266,7 @@ pub fn fields(kind: usize) -> &'static [Field] {
         5 => &ABOARD,
         6 => &WAITING,
         7 => &DEMAND,
+        8 => &CLOSED,
         _ => &[],
     }
 }
@@ -289,6 +292,7 @@ mod tests {
         for strategy in 0..4 {
             fill(policy_fields(strategy), BODY_BITS[1]);
         }
+        assert_eq!(KINDS.len(), BODY_BITS.len());
         for (kind, bits) in BODY_BITS.iter().enumerate().skip(2) {
             fill(fields(kind), *bits);
         }

@@ -5,6 +5,9 @@ use crate::fields::{Absence, Field, Form, KINDS, Names, STRATEGIES};
 use crate::rules;
 use crate::value::{self, Value};
 
+/// The kind of a closed landing.
+const CLOSED: usize = 8;
+
 /// Words in the place of a rule's; what the rule says of a file that was changed on its way stays.
 pub fn instead(number: u32, words: &str) -> String {
     let remedy = rules::rule(number).map_or("", |rule| rule.remedy);
@@ -28,7 +31,7 @@ pub fn find(cut: &Cut, record: &Record, number: u32, name: &str) -> Option<Strin
         7 if record.kind == 1 => Some("Leave this policy out; a sheet has one.".into()),
         8 => field().map(|field| unused(cut, record, field, held(field))),
         9 => field().map(|field| id(record, field, held(field))),
-        10 => field().and_then(|field| missing(cut, field, held(field))),
+        10 => field().and_then(|field| missing(cut, record, field, held(field))),
         11 => Some(format!("Give {name} a value inside of its range.")),
         _ => None,
     }
@@ -89,6 +92,12 @@ fn id(record: &Record, field: &Field, held: Value) -> String {
         (Form::Id(Names::Record(other)), _) if held.bits == 0 => {
             format!("Give {name}= the id of a {} record.", KINDS[other])
         }
+        _ if record.kind == CLOSED => {
+            format!(
+                "Leave this record out; the landing of stop {} is closed already.",
+                held.bits
+            )
+        }
         (Form::Id(Names::Record(_)), _) => {
             format!("Make one {kind} of the records that name this {name}.")
         }
@@ -100,7 +109,7 @@ fn id(record: &Record, field: &Field, held: Value) -> String {
 }
 
 /// 10: an id without its record, or a mask bit without a stop.
-fn missing(cut: &Cut, field: &Field, held: Value) -> Option<String> {
+fn missing(cut: &Cut, record: &Record, field: &Field, held: Value) -> Option<String> {
     let name = field.name;
     let Form::Id(Names::Record(kind)) = field.form else {
         let words = || format!("Give {name}= stops that have a record: their ids, all, or none.");
@@ -109,6 +118,10 @@ fn missing(cut: &Cut, field: &Field, held: Value) -> Option<String> {
     let (noun, id, ids) = (KINDS[kind], held.bits, cut.ids(kind));
     Some(if ids.contains(&id) {
         format!("Put {noun} {id} in front of the records that name it.")
+    } else if record.kind == CLOSED && ids.is_empty() {
+        format!("Leave the closure out, or add {noun} {id}.")
+    } else if record.kind == CLOSED {
+        format!("Give {name}= the id of a {noun} that is there, or leave the closure out.")
     } else if ids.is_empty() {
         format!("Add {noun} {id}.")
     } else {

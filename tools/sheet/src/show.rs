@@ -42,7 +42,10 @@ pub fn counts(cut: &Cut) -> String {
     let of = |kind: usize| cut.of_kind(kind).count();
     let mut parts: Vec<String> = Vec::new();
     for (kind, name) in KINDS.iter().enumerate().skip(1) {
-        parts.push(number_of(of(kind), name));
+        // Most sheets have no closed landing.
+        if of(kind) > 0 || *name != "closed" {
+            parts.push(number_of(of(kind), name));
+        }
     }
     let raw = cut.records.iter().filter(|r| !r.has_fields()).count();
     if raw > 0 {
@@ -53,11 +56,11 @@ pub fn counts(cut: &Cut) -> String {
     format!("{bytes}, {records}: {}", parts.join(", "))
 }
 
-/// A number and its noun: `1 stop`, `2 stops`, `2 policies`, `2 aboard`.
+/// A number and its noun: `1 stop`, `2 stops`, `2 policies`, `2 aboard`, `2 closed`.
 pub fn number_of(number: usize, noun: &str) -> String {
     let said = grouped(number as u64);
     match (number, noun) {
-        (1, _) | (_, "aboard" | "waiting") => format!("{said} {noun}"),
+        (1, _) | (_, "aboard" | "waiting" | "closed") => format!("{said} {noun}"),
         (_, "policy") => format!("{said} policies"),
         _ => format!("{said} {noun}s"),
     }

@@ -318,3 +318,74 @@ fn refused_examples() {
     }
     assert!(refused > 25, "{refused}");
 }
+
+/// Each closed landing has its word, whatever else is to be said of the stop, and its mark in each shaft of a line that serves it;
+/// no other landing has.
+#[test]
+fn closed_landings_are_marked() {
+    let mut said = [0; 3];
+    for index in 0..300 {
+        let bytes = generate::generate(Profile::Closed, 13, index);
+        let sheet = Sheet::of_accepted(&bytes);
+        let svg = without_legends(&draw(&bytes));
+        is_well_formed(&svg);
+        let words: Vec<&str> = svg
+            .split("<text class=\"shut halo\"")
+            .skip(1)
+            .map(|part| part.split_once('>').unwrap().1.split_once('<').unwrap().0)
+            .collect();
+        assert_eq!(words.len(), sheet.closed.len(), "{index}");
+        assert!(words.iter().all(|words| words.starts_with("closed")));
+        for (often, end) in said
+            .iter_mut()
+            .zip(["closed", "not pending", "for a rider aboard"])
+        {
+            *often += words.iter().filter(|words| words.ends_with(end)).count();
+        }
+        let shafts = sheet.lines.iter().map(|line| {
+            let cars = sheet.cars.iter().filter(|car| car.line == line.id);
+            let stops = sheet.stops.iter().enumerate();
+            let closed = stops.filter(|(k, stop)| {
+                line.mask & mask_bit(*k) != 0 && sheet.closed.contains(&stop.id)
+            });
+            cars.count().max(1) * closed.count()
+        });
+        let marks = count(&svg, "<rect class=\"closed\"");
+        assert_eq!(marks, shafts.sum::<usize>(), "{index}");
+    }
+    assert!(said.iter().all(|often| *often > 20), "{said:?}");
+    let open = draw(&Sheet::example().write());
+    assert_eq!(count(&open, "shut halo"), 0);
+    assert_eq!(
+        count(&open, "<rect class=\"closed\""),
+        1,
+        "that of the legend"
+    );
+}
+
+/// A closed landing where somebody waits, one that a rider aboard is bound for, and one where nobody is.
+#[test]
+fn closed_examples() {
+    for (example, words) in [
+        ("closed_landing", &[">closed, not pending<"][..]),
+        (
+            "closed_bound",
+            &[
+                ">closed, not pending<",
+                ">closed, 1 riding, pending for a rider aboard<",
+            ],
+        ),
+    ] {
+        let path = here(&format!("examples/{example}.txt"));
+        let written = run(&["write", path.to_str().unwrap()], b"");
+        let svg = text(&run(&["draw", "-"], &written.stdout).stdout);
+        for words in words {
+            assert!(svg.contains(words), "{example}: {words}");
+        }
+        let stored = std::fs::read(path.with_extension("svg")).unwrap();
+        assert_eq!(svg, text(&stored), "{example}");
+    }
+    let mut sheet = Sheet::example();
+    sheet.closed = vec![1];
+    assert!(draw(&sheet.write()).contains(">closed<"));
+}

@@ -91,10 +91,26 @@ fn passes_as_stored() {
             assert_eq!(lines.lines().count(), 1);
         }
     }
-    assert_eq!(passes, 5);
+    assert_eq!(passes, 7);
     let example = run(&["pass", "-"], &sheetgen::Sheet::example().write());
     let stored = std::fs::read(here("../../crates/passprint/stdout")).unwrap();
     assert_eq!(example.stdout, stored);
+}
+
+/// An accepted sheet with closed landings is explained with what a host of the first release says of it; one without is not.
+#[test]
+fn a_first_release_is_named() {
+    for index in 0..200 {
+        let bytes = generate(Profile::Closed, 11, index);
+        let records = sheetgen::generate::records(&bytes);
+        let first = records.iter().find(|record| record.1 == 8).unwrap().0;
+        let said = explain::explain(&bytes);
+        assert!(said.starts_with("accepted\n"), "{said}");
+        let words = format!(" If it is 4 at {first}, the host has a bench of the first release,");
+        assert!(said.contains(&words), "{said}");
+    }
+    let example = explain::explain(&sheetgen::Sheet::example().write());
+    assert!(!example.contains("first release"), "{example}");
 }
 
 /// The number of the line that `explain` says is to be put right.
@@ -131,10 +147,12 @@ fn the_line_to_repair_is_the_record() {
 #[test]
 fn a_repaired_line_is_enough() {
     for (example, wrong, right) in [
-        ("refusal_04_kind", "record kind=8", "# record kind=8"),
+        ("refusal_04_kind", "record kind=9", "# record kind=9"),
         ("refusal_07_lines", "line id=9", "# line id=9"),
         ("refusal_08_phase", "phase=7", "phase=idle"),
         ("refusal_10_line", "line=2", "line=1"),
+        ("refusal_09_closed_twice", "closed stop=2", ""),
+        ("refusal_10_closed_stop", "stop=5", "stop=1"),
         ("refusal_11_speed", "max_speed=0.0005", "max_speed=1"),
         ("refusal_12_limit", "limit=0", "limit=5"),
     ] {

@@ -28,7 +28,8 @@ fn stored_refusals() {
         left = &case.after[5..];
         sheets += 1;
     }
-    assert_eq!(sheets, 689);
+    let said = std::fs::read(common::here("../../crates/replay_refusals/stdout")).unwrap();
+    assert!(common::text(&said).contains(&format!("{sheets} sheets compared")));
 }
 
 #[test]
@@ -57,6 +58,18 @@ fn numbers_and_long_lines() {
     assert_eq!(shown.lines().next(), Some(counts));
     let car = shown.lines().last().unwrap();
     assert!(car.contains(" position=2000000 ") && car.ends_with(",4000000062 car_calls=none"));
+}
+
+/// A closed landing is a line of its own; the comment counts them where there are some.
+#[test]
+fn closed_landings() {
+    let mut sheet = sheetgen::Sheet::example();
+    sheet.closed = vec![3, 1];
+    let shown = show::show(&sheet.write());
+    let counts = "# 339 bytes, 11 records: 1 policy, 3 stops, 1 line, 2 cars, 0 aboard, 0 waiting, 2 demands, 2 closed";
+    assert_eq!(shown.lines().next(), Some(counts));
+    assert!(shown.ends_with("\nclosed stop=3\nclosed stop=1\n"));
+    assert_eq!(again(&sheet.write()), sheet.write());
 }
 
 #[test]

@@ -88,6 +88,9 @@ pub fn describe(sheet: &Sheet) -> String {
             u8::from(d.call)
         );
     }
+    for stop in &sheet.closed {
+        let _ = writeln!(out, "closed {stop}");
+    }
     out
 }
 

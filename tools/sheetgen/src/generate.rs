@@ -5,8 +5,8 @@ use crate::bits;
 use crate::provoke;
 use crate::rng::Rng;
 use crate::sheet::{
-    Aboard, BODY_BITS, Car, Demand, ETD, HEAD_BITS, Line, NO_LIMIT, Policy, RECORD_HEAD_BITS, RSR,
-    SCAN, Sheet, Stop, Waiting, mask_bit,
+    Aboard, BODY_BITS, Car, Demand, ETD, HEAD_BITS, KINDS, Line, NO_LIMIT, Policy,
+    RECORD_HEAD_BITS, RSR, SCAN, Sheet, Stop, Waiting, mask_bit,
 };
 
 #[derive(Clone, Copy, Debug, PartialEq, Eq)]
@@ -33,9 +33,11 @@ pub enum Profile {
     Provoked,
     /// Bytes without a plan, some with a plausible head.
     Garbage,
+    /// Accepted, of the other accepted profiles, with closed landings.
+    Closed,
 }
 
-pub const PROFILES: [(&str, Profile); 11] = [
+pub const PROFILES: [(&str, Profile); 12] = [
     ("valid", Profile::Valid),
     ("full", Profile::Full),
     ("ties", Profile::Ties),
@@ -44,6 +46,7 @@ pub const PROFILES: [(&str, Profile); 11] = [
     ("limits", Profile::Limits),
     ("fine", Profile::Fine),
     ("cover", Profile::Cover),
+    ("closed", Profile::Closed),
     ("damaged", Profile::Damaged),
     ("provoked", Profile::Provoked),
     ("garbage", Profile::Garbage),
@@ -66,6 +69,7 @@ pub fn generate(profile: Profile, seed: u64, index: u64) -> Vec<u8> {
         }
         Profile::Provoked => provoke::provoke(rng, index).bytes,
         Profile::Garbage => garbage(rng),
+        Profile::Closed => with_closures(rng).write(),
         _ => accepted(profile, rng).write(),
     }
 }
@@ -132,6 +136,58 @@ pub fn accepted(profile: Profile, rng: &mut Rng) -> Sheet {
         _ => {}
     }
     sheet
+}
+
+/// A sheet of another accepted profile, some of its landings closed; riders of idle cars are bound for some of these.
+fn with_closures(rng: &mut Rng) -> Sheet {
+    let profile = rng.pick(&[
+        Profile::Valid,
+        Profile::Ties,
+        Profile::Near,
+        Profile::Extreme,
+        Profile::Limits,
+        Profile::Fine,
+        Profile::Cover,
+    ]);
+    let full = rng.one_in(200);
+    let mut sheet = loop {
+        let sheet = accepted(if full { Profile::Full } else { profile }, rng);
+        if !sheet.stops.is_empty() {
+            break sheet;
+        }
+    };
+    close(rng, &mut sheet);
+    sheet
+}
+
+/// Closes at least one landing of a sheet with stops, those where somebody waits or calls more often than others.
+pub fn close(rng: &mut Rng, sheet: &mut Sheet) {
+    let waiting = sheet.waiting.iter().map(|w| w.stop);
+    let mut wanted: Vec<u32> = waiting
+        .chain(sheet.demands.iter().map(|d| d.stop))
+        .collect();
+    let mut left: Vec<u32> = sheet.stops.iter().map(|s| s.id).collect();
+    let many = match rng.below(8) {
+        0 => left.len(),
+        1..=4 => 1,
+        _ => 1 + rng.below(left.len()),
+    };
+    for _ in 0..many {
+        let stop = match wanted.is_empty() || rng.one_in(4) {
+            true => left[rng.below(left.len())],
+            false => wanted[rng.below(wanted.len())],
+        };
+        left.retain(|id| *id != stop);
+        wanted.retain(|id| *id != stop);
+        sheet.closed.push(stop);
+    }
+    let idle: Vec<u32> = sheet.cars.iter().filter(|c| c.idle).map(|c| c.id).collect();
+    let riders = sheet.aboard.iter_mut().filter(|a| idle.contains(&a.car));
+    for rider in riders {
+        if rng.one_in(4) {
+            rider.destination = Some(rng.pick(&sheet.closed));
+        }
+    }
 }
 
 /// Sets the weights so that the wait terms take nearly all of some car's travel term away.
@@ -237,7 +293,7 @@ fn cover(rng: &mut Rng, sheet: &mut Sheet) {
     }
 }
 
-/// A small accepted sheet with at least one record of each kind.
+/// A small accepted sheet with at least one record of each kind but 8, which one in two has.
 pub fn any_small(rng: &mut Rng) -> Sheet {
     let profile = rng.pick(&[
         Profile::Valid,
@@ -253,7 +309,11 @@ pub fn any_small(rng: &mut Rng) -> Sheet {
         waiting: 1 + rng.below(4),
         demands: 1 + rng.below(3),
     };
-    Maker { rng, profile }.sheet(&size)
+    let mut sheet = Maker { rng, profile }.sheet(&size);
+    if rng.flag() {
+        close(rng, &mut sheet);
+    }
+    sheet
 }
 
 struct Size {
@@ -755,7 +815,7 @@ pub fn records(bytes: &[u8]) -> Vec<(usize, usize)> {
 }
 
 /// Starts and widths of the fields of a body, optional ones with their present bit apart.
-pub const FIELDS: [&[(usize, usize)]; 8] = [
+pub const FIELDS: [&[(usize, usize)]; KINDS + 1] = [
     &[],
     &[
         (0, 2),
@@ -807,6 +867,7 @@ pub const FIELDS: [&[(usize, usize)]; 8] = [
         (162, 64),
     ],
     &[(0, 32), (32, 16), (48, 1)],
+    &[(0, 32)],
 ];
 
 /// One damage.
@@ -847,9 +908,9 @@ fn damage(rng: &mut Rng, bytes: &mut Vec<u8>) {
             if !found.is_empty() {
                 let (at, kind) = found[rng.below(found.len())];
                 if rng.flag() {
-                    bits::set(bytes, at, 6, rng.next() % 10);
+                    bits::set(bytes, at, 6, rng.next() % 11);
                 } else {
-                    let near = BODY_BITS[kind.min(7)] as u64;
+                    let near = BODY_BITS[kind.min(KINDS)] as u64;
                     let length =
                         rng.pick(&[near + 1, near.wrapping_sub(1) & 0xffff, 0, 65_535, 96, 65]);
                     bits::set(bytes, at + 6, 16, length);
@@ -860,7 +921,7 @@ fn damage(rng: &mut Rng, bytes: &mut Vec<u8>) {
             // A field of a record gets a value that some rule may refuse.
             let found: Vec<_> = records(bytes)
                 .into_iter()
-                .filter(|(_, kind)| (1..=7).contains(kind))
+                .filter(|(_, kind)| (1..=KINDS).contains(kind))
                 .collect();
             if !found.is_empty() {
                 let (at, kind) = found[rng.below(found.len())];
@@ -917,10 +978,10 @@ fn garbage(rng: &mut Rng) -> Vec<u8> {
         bits::set(&mut bytes, 0, 8, 1);
         bits::set(&mut bytes, 8, 16, rng.next() % 5);
         if size >= 6 && !rng.one_in(4) {
-            let kind = rng.below(9);
+            let kind = rng.below(10);
             bits::set(&mut bytes, 24, 6, kind as u64);
             if !rng.one_in(4) {
-                bits::set(&mut bytes, 30, 16, BODY_BITS[kind.min(7)] as u64);
+                bits::set(&mut bytes, 30, 16, BODY_BITS[kind.min(KINDS)] as u64);
             }
         }
     }
@@ -955,7 +1016,8 @@ mod tests {
 
     #[test]
     fn crowded_sheets_are_accepted_and_of_their_strategy() {
-        for (name, profile) in &PROFILES[..8] {
+        let but_closed = PROFILES.iter().filter(|p| p.1 != Profile::Closed);
+        for (name, profile) in but_closed.take(8) {
             for strategy in [ETD, RSR, SCAN] {
                 for index in 0..1000 {
                     let sheet = crowded(*profile, strategy, 3, index);
@@ -964,6 +1026,65 @@ mod tests {
                 }
             }
         }
+    }
+
+    /// Every sheet has a closure, and those that matter are there: of stops with demand, and of ones an idle car's rider wants.
+    #[test]
+    fn closed_sheets_have_closures() {
+        let (mut demanded, mut wanted) = (0, 0);
+        for index in 0..2_000 {
+            let sheet = Sheet::of_accepted(&generate(Profile::Closed, 3, index));
+            assert!(!sheet.closed.is_empty(), "{index}");
+            let has_demand = |stop: &u32| {
+                let called = |d: &Demand| d.stop == *stop && (d.call || d.riding > 0);
+                sheet.waiting.iter().any(|w| w.stop == *stop) || sheet.demands.iter().any(called)
+            };
+            let is_wanted = |stop: &u32| {
+                let idle = |id: u32| sheet.cars.iter().any(|c| c.id == id && c.idle);
+                let mut riders = sheet.aboard.iter();
+                riders.any(|a| a.destination == Some(*stop) && idle(a.car))
+            };
+            demanded += usize::from(sheet.closed.iter().any(has_demand));
+            let both = |stop: &&u32| has_demand(stop) && is_wanted(stop);
+            wanted += usize::from(sheet.closed.iter().any(|stop| both(&stop)));
+        }
+        assert!(demanded > 1_500 && wanted > 500, "{demanded} {wanted}");
+    }
+
+    /// The most that a sheet can hold: each kind at its most, a demand and a closure for each stop.
+    #[test]
+    fn the_longest_sheet_has_26_515_bytes() {
+        let mut sheet = Sheet::new(SCAN);
+        sheet.stops = (1..=64).map(|id| Stop { id, position: 0.0 }).collect();
+        sheet.lines = (1..=8).map(|id| Line { id, mask: 0 }).collect();
+        let car = |id| Car {
+            id,
+            ..Car::parked(1)
+        };
+        sheet.cars = (1..=32).map(car).collect();
+        let rider = Aboard {
+            car: 1,
+            destination: None,
+        };
+        sheet.aboard = vec![rider; 512];
+        let rider = Waiting {
+            stop: 1,
+            line: None,
+            destination: None,
+            weight: 0.0,
+            wait: 0,
+        };
+        sheet.waiting = vec![rider; 512];
+        let demand = |stop| Demand {
+            stop,
+            riding: 1,
+            call: true,
+        };
+        sheet.demands = (1..=64).map(demand).collect();
+        assert_eq!(sheet.write().len(), 26_083);
+        sheet.closed = (1..=64).collect();
+        let bytes = sheet.write();
+        assert_eq!((bytes.len(), read(&bytes)), (26_515, None));
     }
 
     #[test]

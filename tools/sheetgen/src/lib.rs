@@ -1,4 +1,4 @@
-//! The sheet of the dispatch bench, written from document 01 alone: its records and their bits, a reader
+//! The sheet of the dispatch bench, written from documents 01 and 02 alone: its records and their bits, a reader
 //! that gives each byte string its refusal, generators of sheets from a seed, and a shrinker. The store of
 //! weights, written from document 02 alone: the same of it, and the look-up for a day.
 

@@ -1,15 +1,15 @@
 //! Each refusal on purpose: a small accepted sheet, one record spoilt in one way, and the number and
-//! place that document 01 then gives. The expectation is stated here by the way of spoiling and not by
+//! place that document 01, or for kind 8 document 02, then gives. The expectation is stated here by the way of spoiling and not by
 //! the reader, so that the two check each other. Some ways change a value to one just inside its range;
 //! there the sheet stays accepted.
 
 use crate::bits::{self, Writer};
-use crate::generate::{any_small, records};
+use crate::generate::{any_small, close, records};
 use crate::reader::Refusal;
 use crate::rng::Rng;
 use crate::sheet::{
-    Aboard, BODY_BITS, Car, ETD, HEAD_BITS, Line, MOST, NO_LIMIT, RECORD_HEAD_BITS, RSR, SCAN,
-    Sheet, Stop, Waiting,
+    Aboard, BODY_BITS, Car, ETD, HEAD_BITS, KINDS, Line, MOST, NO_LIMIT, RECORD_HEAD_BITS, RSR,
+    SCAN, Sheet, Stop, Waiting,
 };
 
 pub struct Provoked {
@@ -74,6 +74,9 @@ const WAYS: &[Way] = &[
     several_in_a_record,
     several_records,
     fault_before_the_cut,
+    repeated_closed,
+    behind_the_closed,
+    every_landing_closed,
 ];
 
 fn refused(name: &'static str, bytes: Vec<u8>, number: u32, offset: usize) -> Provoked {
@@ -93,6 +96,15 @@ fn accepted(name: &'static str, bytes: Vec<u8>) -> Provoked {
         expected: None,
         name,
     }
+}
+
+/// A small accepted sheet with at least one record of each kind.
+fn with_closed(rng: &mut Rng) -> Sheet {
+    let mut sheet = any_small(rng);
+    if sheet.closed.is_empty() {
+        close(rng, &mut sheet);
+    }
+    sheet
 }
 
 /// Where record `nth` of a kind starts in a written sheet.
@@ -207,7 +219,7 @@ fn other_edition(rng: &mut Rng) -> Provoked {
 fn unknown_kind(rng: &mut Rng) -> Provoked {
     let mut bytes = any_small(rng).write();
     let (at, _) = pick_record(rng, &bytes);
-    let kind = if rng.one_in(3) { 0 } else { 8 + rng.below(56) };
+    let kind = if rng.one_in(3) { 0 } else { 9 + rng.below(55) };
     bits::set(&mut bytes, at, 6, kind as u64);
     if rng.flag() {
         let room = bytes.len() * 8 - body(at);
@@ -225,7 +237,7 @@ fn wrong_length(rng: &mut Rng) -> Provoked {
         0 => right - 1,
         1 => right + 1,
         2 => 0,
-        3 => BODY_BITS[1 + rng.below(7)],
+        3 => BODY_BITS[1 + rng.below(KINDS)],
         _ => rng.below(room + 1),
     };
     let length = if length > room || length == right {
@@ -235,7 +247,7 @@ fn wrong_length(rng: &mut Rng) -> Provoked {
     };
     bits::set(&mut bytes, at + 6, 16, length as u64);
     // A wrong length is 5 whatever the order.
-    let other = 1 + rng.below(7);
+    let other = 1 + rng.below(KINDS);
     if rng.one_in(3) && BODY_BITS[other] != length {
         bits::set(&mut bytes, at, 6, other as u64);
     }
@@ -443,8 +455,18 @@ fn absent_with_bits(rng: &mut Rng) -> Provoked {
 }
 
 fn zero_id(rng: &mut Rng) -> Provoked {
-    let mut bytes = any_small(rng).write();
-    let (kind, from) = rng.pick(&[(2, 0), (3, 0), (4, 0), (4, 32), (5, 0), (6, 0), (7, 0)]);
+    let mut bytes = with_closed(rng).write();
+    let ids = [
+        (2, 0),
+        (3, 0),
+        (4, 0),
+        (4, 32),
+        (5, 0),
+        (6, 0),
+        (7, 0),
+        (8, 0),
+    ];
+    let (kind, from) = rng.pick(&ids);
     let found: Vec<_> = records(&bytes)
         .into_iter()
         .filter(|r| r.1 == kind)
@@ -526,13 +548,47 @@ fn repeated_demand(rng: &mut Rng) -> Provoked {
     refused("second demand for a stop", bytes, 9, at)
 }
 
-fn no_such_record(rng: &mut Rng) -> Provoked {
+fn repeated_closed(rng: &mut Rng) -> Provoked {
+    let mut sheet = with_closed(rng);
+    let stop = sheet.closed[rng.below(sheet.closed.len())];
+    let k = sheet.closed.len();
+    sheet.closed.push(stop);
+    let bytes = sheet.write();
+    let at = start(&bytes, 8, k);
+    refused("second closure of a stop", bytes, 9, at)
+}
+
+/// A record of a lower kind stands behind a closure.
+fn behind_the_closed(rng: &mut Rng) -> Provoked {
+    let mut rows = rows(&with_closed(rng).write());
+    let first = rows.iter().position(|row| kind_of(row) == 8).unwrap();
+    let copy = rows[rng.below(first)].clone();
+    let to = first + 1 + rng.below(rows.len() - first);
+    rows.insert(to, copy);
+    let (bytes, starts) = assemble(&rows, rows.len());
+    refused("a lower kind behind a closure", bytes, 6, starts[to])
+}
+
+/// One a stop, in any order, and whether a line serves it or not.
+fn every_landing_closed(rng: &mut Rng) -> Provoked {
     let mut sheet = any_small(rng);
+    sheet.closed = sheet.stops.iter().map(|s| s.id).collect();
+    if rng.flag() {
+        sheet.closed.reverse();
+    }
+    if rng.flag() {
+        sheet.lines.iter_mut().for_each(|l| l.mask = 0);
+    }
+    accepted("every landing closed", sheet.write())
+}
+
+fn no_such_record(rng: &mut Rng) -> Provoked {
+    let mut sheet = with_closed(rng);
     let lines: Vec<u32> = sheet.lines.iter().map(|l| l.id).collect();
     let cars: Vec<u32> = sheet.cars.iter().map(|c| c.id).collect();
     let stops: Vec<u32> = sheet.stops.iter().map(|s| s.id).collect();
     let other = |taken: &[u32]| (1..).find(|id| !taken.contains(id)).unwrap();
-    let (kind, k) = match rng.below(4) {
+    let (kind, k) = match rng.below(5) {
         0 => {
             let k = a_car(rng, &sheet);
             sheet.cars[k].line = other(&lines);
@@ -551,10 +607,15 @@ fn no_such_record(rng: &mut Rng) -> Provoked {
             }
             (6, k)
         }
-        _ => {
+        3 => {
             let k = rng.below(sheet.demands.len());
             sheet.demands[k].stop = other(&stops);
             (7, k)
+        }
+        _ => {
+            let k = rng.below(sheet.closed.len());
+            sheet.closed[k] = other(&stops);
+            (8, k)
         }
     };
     let bytes = sheet.write();
@@ -803,7 +864,7 @@ fn fewer_stated_than_there(rng: &mut Rng) -> Provoked {
 }
 
 /// The numbers from 8 on that a record of a kind can cause.
-const NUMBERS: [&[u32]; 8] = [
+const NUMBERS: [&[u32]; KINDS + 1] = [
     &[],
     &[8, 11, 12, 15],
     &[9, 11],
@@ -811,6 +872,7 @@ const NUMBERS: [&[u32]; 8] = [
     &[8, 9, 10, 11, 13],
     &[8, 9, 10],
     &[8, 9, 10, 11, 14],
+    &[9, 10],
     &[9, 10],
 ];
 
@@ -826,6 +888,7 @@ fn count(sheet: &Sheet, kind: usize) -> usize {
         s.aboard.len(),
         s.waiting.len(),
         s.demands.len(),
+        s.closed.len(),
     ];
     counts[kind]
 }
@@ -887,8 +950,11 @@ fn spoil(rng: &mut Rng, sheet: &mut Sheet, kind: usize, k: usize, number: u32, p
         (6, 10) => sheet.waiting[k].stop = no_stop,
         (6, 11) => sheet.waiting[k].weight = f64::NEG_INFINITY,
         (6, _) => sheet.waiting[k].wait = u64::MAX,
-        (_, 9) => sheet.demands[k].stop = 0,
-        _ => sheet.demands[k].stop = no_stop,
+        (7, 9) => sheet.demands[k].stop = 0,
+        (7, _) => sheet.demands[k].stop = no_stop,
+        (_, 9) if k > 0 && rng.flag() => sheet.closed[k] = sheet.closed[0],
+        (_, 9) => sheet.closed[k] = 0,
+        _ => sheet.closed[k] = no_stop,
     }
 }
 
@@ -916,9 +982,9 @@ fn poked(sheet: &Sheet, pokes: &Pokes) -> Vec<u8> {
 }
 
 fn several_in_a_record(rng: &mut Rng) -> Provoked {
-    let mut sheet = any_small(rng);
+    let mut sheet = with_closed(rng);
     let mut pokes = Pokes::new();
-    let kind = 1 + rng.below(7);
+    let kind = 1 + rng.below(KINDS);
     let k = rng.below(count(&sheet, kind));
     let number = spoil_often(rng, &mut sheet, kind, k, &mut pokes);
     let bytes = poked(&sheet, &pokes);
@@ -928,11 +994,11 @@ fn several_in_a_record(rng: &mut Rng) -> Provoked {
 
 /// The first record is given, whatever the numbers.
 fn several_records(rng: &mut Rng) -> Provoked {
-    let mut sheet = any_small(rng);
+    let mut sheet = with_closed(rng);
     let mut pokes = Pokes::new();
-    let kind = 1 + rng.below(6);
+    let kind = 1 + rng.below(KINDS - 1);
     let k = rng.below(count(&sheet, kind));
-    let later = kind + 1 + rng.below(7 - kind);
+    let later = kind + 1 + rng.below(KINDS - kind);
     let j = rng.below(count(&sheet, later));
     spoil_often(rng, &mut sheet, later, j, &mut pokes);
     let number = NUMBERS[kind][rng.below(NUMBERS[kind].len())];
@@ -947,9 +1013,9 @@ fn several_records(rng: &mut Rng) -> Provoked {
 
 /// Bytes that end too early, or a wrong kind later on, come after a faulty record.
 fn fault_before_the_cut(rng: &mut Rng) -> Provoked {
-    let mut sheet = any_small(rng);
+    let mut sheet = with_closed(rng);
     let mut pokes = Pokes::new();
-    let kind = 1 + rng.below(6);
+    let kind = 1 + rng.below(KINDS - 1);
     let k = rng.below(count(&sheet, kind));
     let number = NUMBERS[kind][rng.below(NUMBERS[kind].len())];
     spoil(rng, &mut sheet, kind, k, number, &mut pokes);

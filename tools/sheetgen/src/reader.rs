@@ -1,8 +1,8 @@
-//! The refusal of a byte string, by document 01's numbers and order: the head, each record in turn,
-//! within it by rising number, the tail last. Refusal 1 is the host's and needs no bytes.
+//! The refusal of a byte string, by document 01's numbers and order: the head, each record in turn, within
+//! it by rising number, the tail last. Kind 8 is document 02's. Refusal 1 is the host's and needs no bytes.
 
 use crate::bits::get;
-use crate::sheet::{BODY_BITS, EDITION, ETD, HEAD_BITS, MOST, RECORD_HEAD_BITS, RSR, SCAN};
+use crate::sheet::{BODY_BITS, EDITION, ETD, HEAD_BITS, KINDS, MOST, RECORD_HEAD_BITS, RSR, SCAN};
 
 #[derive(Clone, Copy, Debug, PartialEq, Eq, PartialOrd, Ord)]
 pub struct Refusal {
@@ -14,11 +14,12 @@ pub struct Refusal {
 #[derive(Default)]
 struct Seen {
     kind: usize,
-    counts: [usize; 8],
+    counts: [usize; KINDS + 1],
     stops: Vec<u64>,
     lines: Vec<u64>,
     cars: Vec<u64>,
     demanded: Vec<u64>,
+    closed: Vec<u64>,
 }
 
 /// `None` where the bytes are an accepted sheet.
@@ -73,7 +74,7 @@ fn record(bytes: &[u8], end: usize, at: usize, seen: &mut Seen) -> Option<u32> {
     if at + RECORD_HEAD_BITS + length > end {
         return Some(2);
     }
-    if !(1..=7).contains(&kind) {
+    if !(1..=KINDS).contains(&kind) {
         return Some(4);
     }
     if length != BODY_BITS[kind] {
@@ -94,7 +95,8 @@ fn record(bytes: &[u8], end: usize, at: usize, seen: &mut Seen) -> Option<u32> {
         4 => car(&field, seen),
         5 => aboard(&field, seen),
         6 => waiting(&field, seen),
-        _ => demand(&field, seen),
+        7 => demand(&field, seen),
+        _ => closed(&field, seen),
     };
     if number.is_none() {
         seen.kind = kind;
@@ -105,6 +107,7 @@ fn record(bytes: &[u8], end: usize, at: usize, seen: &mut Seen) -> Option<u32> {
             3 => seen.lines.push(id),
             4 => seen.cars.push(id),
             7 => seen.demanded.push(id),
+            8 => seen.closed.push(id),
             _ => {}
         }
     }
@@ -283,6 +286,18 @@ fn waiting(f: Field, seen: &Seen) -> Option<u32> {
 fn demand(f: Field, seen: &Seen) -> Option<u32> {
     let stop = f(0, 32);
     if stop == 0 || seen.demanded.contains(&stop) {
+        return Some(9);
+    }
+    if !seen.stops.contains(&stop) {
+        return Some(10);
+    }
+    None
+}
+
+/// "A second one for a stop is 9, an unlisted stop is 10".
+fn closed(f: Field, seen: &Seen) -> Option<u32> {
+    let stop = f(0, 32);
+    if stop == 0 || seen.closed.contains(&stop) {
         return Some(9);
     }
     if !seen.stops.contains(&stop) {

@@ -8,7 +8,9 @@ pub const HEAD_BITS: usize = 24;
 /// Kind and length stand before each body.
 pub const RECORD_HEAD_BITS: usize = 22;
 /// Body length by kind; index 0 is unused.
-pub const BODY_BITS: [usize; 8] = [0, 468, 96, 96, 715, 65, 226, 49];
+pub const BODY_BITS: [usize; 9] = [0, 468, 96, 96, 715, 65, 226, 49, 32];
+/// The highest kind.
+pub const KINDS: usize = BODY_BITS.len() - 1;
 /// The most records of kinds 1 to 6; index 0 is unused.
 pub const MOST: [usize; 7] = [0, 1, 64, 8, 32, 512, 512];
 
@@ -95,6 +97,8 @@ pub struct Sheet {
     pub aboard: Vec<Aboard>,
     pub waiting: Vec<Waiting>,
     pub demands: Vec<Demand>,
+    /// The stops whose landings are closed.
+    pub closed: Vec<u32>,
 }
 
 /// The bit of stop `index` in a mask: the highest bit is the first stop record.
@@ -119,6 +123,7 @@ impl Sheet {
             aboard: Vec::new(),
             waiting: Vec::new(),
             demands: Vec::new(),
+            closed: Vec::new(),
         }
     }
 
@@ -129,6 +134,7 @@ impl Sheet {
             + self.aboard.len()
             + self.waiting.len()
             + self.demands.len()
+            + self.closed.len()
     }
 
     /// The sheet's bytes.
@@ -178,6 +184,10 @@ impl Sheet {
             w.put(16, d.riding.into());
             w.put(1, d.call.into());
         }
+        for stop in &self.closed {
+            head(&mut w, 8);
+            w.put(32, (*stop).into());
+        }
         w.finish()
     }
 
@@ -222,11 +232,12 @@ impl Sheet {
                     weight: f.double(),
                     wait: f.next(64),
                 }),
-                _ => sheet.demands.push(Demand {
+                7 => sheet.demands.push(Demand {
                     stop: f.id(),
                     riding: f.next(16) as u16,
                     call: f.flag(),
                 }),
+                _ => sheet.closed.push(f.id()),
             }
             at += RECORD_HEAD_BITS + BODY_BITS[kind];
         }

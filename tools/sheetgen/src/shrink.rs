@@ -70,7 +70,7 @@ impl Accepted<'_> {
     fn drop_records(&mut self) {
         type Count = fn(&Sheet) -> usize;
         type Drop = fn(&mut Sheet, usize, usize);
-        let kinds: [(Count, Drop); 6] = [
+        let kinds: [(Count, Drop); 7] = [
             (|s| s.lines.len(), drop_lines),
             (|s| s.stops.len(), drop_stops),
             (|s| s.cars.len(), drop_cars),
@@ -85,6 +85,10 @@ impl Accepted<'_> {
             (
                 |s| s.demands.len(),
                 |s, from, to| drop(s.demands.drain(from..to)),
+            ),
+            (
+                |s| s.closed.len(),
+                |s, from, to| drop(s.closed.drain(from..to)),
             ),
         ];
         for (count, remove) in kinds {
@@ -234,6 +238,9 @@ impl Accepted<'_> {
         s.demands
             .iter_mut()
             .for_each(|d| d.stop = to(&stops, d.stop));
+        s.closed
+            .iter_mut()
+            .for_each(|stop| *stop = to(&stops, *stop));
         self.attempt(s);
     }
 }
@@ -256,11 +263,12 @@ fn drop_lines(s: &mut Sheet, from: usize, to: usize) {
     }
 }
 
-/// With what waits or is demanded there; the masks close up.
+/// With what waits or is demanded there, and its closure; the masks close up.
 fn drop_stops(s: &mut Sheet, from: usize, to: usize) {
     let gone: Vec<u32> = s.stops.drain(from..to).map(|x| x.id).collect();
     s.waiting.retain(|w| !gone.contains(&w.stop));
     s.demands.retain(|d| !gone.contains(&d.stop));
+    s.closed.retain(|stop| !gone.contains(stop));
     let old = s.stops.len() + gone.len();
     let close = |mask: &mut u64| {
         let mut packed = 0;

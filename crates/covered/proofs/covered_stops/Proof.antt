@@ -1,59 +1,23 @@
 -- covered::covered_stops meets its contract.
-use Rattle.layout.specs.Table.{car·line, line·id}
-use Rattle.layout.specs.Offsets.{recordLength}
-use Rattle.components.specs.declared.Kind.the-variants.{Line, Car}
-use Prim.Native.Nat.{ℕ, _+_, _*_}
-use Rattle.bits.specs.Field.{fieldAt}
-use Rattle.fields.specs.Held.{held}
-use Rattle.components.specs.Cars.{remaining}
-use Rattle.covered.specs.Columns.{servedTarget}
-use Rattle.covered.specs.Same.{HoldsServing}
-use Rattle.layout.specs.Records.{from, carOf, lineOf, sheetOf, read}
+use Prim.Native.Nat.{ℕ}
+use Rattle.covered.specs.Same.{covered-either}
+use Rattle.layout.specs.Records.{sheetOf}
+use Rattle.mask.specs.Mask.{has, built}
 use borrow.Author.Needs.{needs}
-use lib.Ieee.{nan}
+use mathlib.Core.Bool.{_||_}
 use mathlib.Core.Path.{_≡_, ap, _∙_}
-use native.Mathlib.Omega.{arith}
 use Rattle.covered.proofs.covered_stops.Statement.{statement}
 use Rattle.covered.proofs.covered_stops.Tie as tie
 
--- the columns hold the cars' and the lines' fields
-held-cars : (c : tie.After-ids3) → HoldsServing (sheetOf (c .before .before .before .before .before .before .before .before .before .before .before
-    .before .before .before .before .before .before .before .before .before .before .before .args .s .now)
-    (c .before .before .before .before .before .before .before .before .before .before .before .before .before .before .before .before .before .before
-    .before .before .before .before .args .c)) (c .before .before .before .before .before .before .before .before .before .before .before .before
-    .before .before .before .before .fill-targets .last .1 .1 .1 .0) (c .before .before .before .before .before .before .before .before .before
-    .before .before .before .before .fill32 .last .1 .1 .1 .1 .1 .0) (c .before .before .before .before .before .before .before .before .before
-    .before .fill-rooms .last .1 .1 .1 .0) (c .before .before .before .before .before .fill322 .last .1 .1 .1 .1 .1 .0)
-unfolding sheetOf carOf lineOf
-held-cars c =
-    let a = c .before .before .before .before .before .before .before .before .before .before .before .before .before .before .before .before .before .before .before .before .before .before .args in
-    let b = a .s .now in
-    let at = c .before .before .before .before .before .before .before .before .before .before .before .before .before .before .before .before .before .before .cars-from in
-    let lines = c .before .before .before .before .before .before .before .before .lines-from in
-    record {
-      target = λ i l. held (λ k. servedTarget (carOf (from b (at .result + recordLength Car * k)))) (a .c .cars) _ _ (c .before .before .before .before .before .before .before .before .before .before .before .before .before .before .before .before .fill-targets .ensures .1) 0 i l ∙ ap (λ (x : ℕ). servedTarget (carOf (from b (x + recordLength Car * i)))) (at .ensures);
-      line = λ i l. held (λ k. read (from b (at .result + recordLength Car * k)) car·line) (a .c .cars) _ _ (c .before .before .before .before .before .before .before .before .before .before .before .before .before .fill32 .ensures .1) 0 i l ∙ ap (λ (x : ℕ). read (from b (x + recordLength Car * i)) car·line) (at .ensures);
-      room = λ i l. held (λ k. remaining (carOf (from b (at .result + recordLength Car * k)))) (a .c .cars) _ _ (c .before .before .before .before .before .before .before .before .before .before .fill-rooms .ensures .1) nan i l ∙ ap (λ (x : ℕ). remaining (carOf (from b (x + recordLength Car * i)))) (at .ensures);
-      line-id = λ l k. held (λ k. read (from b (lines .result + recordLength Line * k)) line·id) (a .c .lines) _ _ (c .before .before .before .before .before .fill322 .ensures .1) 0 l k ∙ ap (λ (x : ℕ). read (from b (x + recordLength Line * l)) line·id) (lines .ensures);
-    }
-
-covered-waits-requires : tie.Need-covered-waits-requires
-unfolding sheetOf
-covered-waits-requires c κs =
-    let p = c .before .before .before .before .before .before .before .before .before .before .before .before .before .before .before .before .before .before .before .before .before .before .pre in
-    let a = c .before .before .before .before .before .before .before .before .before .before .before .before .before .before .before .before .before .before .before .before .before .before .args in
-    let b = a .s .now in
-    let at = c .before .before .before .before .before .before .before .before .before .before .before .before .before .before .before .before .before .before .cars-from in (
-      (p .0, omega (arith, c .before .before .before .before .before .before .before .before .before .before .before .before .before .before .before .before .fill-targets .ensures .0), omega (arith, c .before .before .before .before .before .before .before .before .before .before .before .before .before .fill32 .ensures .0), omega (arith, c .before .before .before .before .before .before .before .before .before .before .fill-rooms .ensures .0), omega (arith, c .before .before .before .before .before .fill322 .ensures .0), p .1),
-      (held-cars c, p .2),
-    )
-
 returns : tie.Need-returns
-returns c = c .covered-waits .ensures
+returns c =
+    let a = c .before .before .before .before .before .before .args in
+    let cars = c .before .before .before .covered-by-cars in
+    let closed = c .before .before .closed-stops in
+    c .either .ensures
+    ∙ ap (λ (x : ℕ). built (λ j. has x j || has (cars .result) j) 64) (c .before .both .ensures)
+    ∙ covered-either (sheetOf (a .s .now) (a .c)) (a .asked) (cars .result) (closed .result) (a .names .now)
+    (c .before .before .before .before .before .before .pre .3) (cars .ensures) (closed .ensures)
 
 pub covered-stops-spec : {M : Type 1} → statement M
-covered-stops-spec =
-    tie.close
-    (tie.spec (λ c. search needs) (λ c κs. search needs) (λ c. search needs) (λ c κs. search needs) (λ c. search needs)
-    (λ c κs. search needs) (λ c. search needs) (λ c κs. search needs) (λ c κs. search needs) (λ c. search needs) (λ c. search needs)
-    (λ c κs. search needs) (λ c. search needs) (λ c. search needs) (λ c. search needs) (λ c. search needs) covered-waits-requires returns)
+covered-stops-spec = tie.close (tie.spec (λ c κs. search needs) (λ c κs. search needs) (λ c κs. search needs) (λ c κs. search needs) returns)

@@ -14,7 +14,7 @@ covered-stops-requires : tie.Need-covered-stops-requires
 covered-stops-requires c κs =
     let a = c .before .before .before .args in
     let p = c .before .before .before .pre in
-    (p .0 .0, p .0 .1, asked-ids (sheetOf (a .s .now) (a .c)) (a .names .now) (a .demand) (demandStop (sheetOf (a .s .now) (a .c))) (p .0 .2) (p .1))
+    (p .0 .0, p .0 .1, p .0 .2, asked-ids (sheetOf (a .s .now) (a .c)) (a .names .now) (a .demand) (demandStop (sheetOf (a .s .now) (a .c))) (p .0 .3) (p .1))
 
 returns : tie.Need-returns
 returns c =

@@ -26,13 +26,16 @@ returns-7 : tie.Need-returns-7
 returns-7 c = rw (c .before .enum-told7 .given .1) (c .demand-refusal .ensures)
 
 returns-8 : tie.Need-returns-8
+returns-8 c = rw (c .before .enum-told8 .given .1) (c .closed-refusal .ensures)
+
+returns-9 : tie.Need-returns-9
 unfolding firstOf
-returns-8 c = rw (c .enum-told8 .given .1)
+returns-9 c = rw (c .enum-told9 .given .1)
 
 pub body-refusal-spec : {M : Type 1} → statement M
 body-refusal-spec =
     tie.close
-    (tie.spec (λ c. search needs) (λ c κs. search needs) (λ c. search needs) (λ c κs. search needs) (λ c. search needs)
+    (tie.spec (λ c. search needs) (λ c κs. search needs) (λ c. search needs) (λ c κs. search needs) (λ c. search needs) (λ c κs. search needs) (λ c. search needs)
     (λ c κs. search needs) (λ c. search needs) (λ c κs. search needs) (λ c. search needs) (λ c κs. search needs) (λ c. search needs)
     (λ c κs. search needs) (λ c. search needs) (λ c κs. search needs) (λ c. search needs) returns returns-2 returns-3 returns-4 returns-5
-    returns-6 returns-7 returns-8)
+    returns-6 returns-7 returns-8 returns-9)

@@ -5,7 +5,7 @@ use Rattle.components.specs.Codes.{kindOf}
 use Rattle.layout.specs.Offsets.{Small, none, next}
 use Rattle.layout.specs.Refusals.{kindAt}
 use Rattle.layout.specs.Verdict.{recordRefusal, recordsVerdict}
-use Rattle.layout.specs.VerdictLaws.{clean, next-small, next-demands, verdict-on, verdict-stop, verdict-end}
+use Rattle.layout.specs.VerdictLaws.{clean, next-small, next-demands, next-closures, verdict-on, verdict-stop, verdict-end}
 use Rattle.layout.specs.declared.Reading.the-variants.{Refused}
 use borrow.Author.Needs.{needs}
 use mathlib.Core.Logic.{_≢_}
@@ -15,13 +15,13 @@ use Rattle.sheet.proofs.records.Statement.{statement}
 use Rattle.sheet.proofs.records.Tie as tie
 
 abbrev Inv-loop : tie.InvT-loop
-Inv-loop s count c₀ left₀ c left = Small c × (c .demands + left ≤ 65535) × (recordsVerdict s count none ≡ recordsVerdict s left c)
+Inv-loop s count c₀ left₀ c left = Small c × (c .demands + left ≤ 65535) × (c .closures + left ≤ 65535) × (recordsVerdict s count none ≡ recordsVerdict s left c)
 
 abbrev μ-loop : tie.MeasureT-loop
 μ-loop s count c₀ left₀ c left = left
 
 loop-holds : tie.Need-loop-holds Inv-loop μ-loop
-loop-holds c = (search needs, search needs, refl)
+loop-holds c = (search needs, search needs, search needs, refl)
 
 returns : tie.Need-returns Inv-loop μ-loop
 returns c =
@@ -29,7 +29,7 @@ returns c =
     let s = c .before .before .before .before .before .before .args .s .now in
     let n = c .before .before .record-refusal in
     let f : recordRefusal s (l .c) ≢ 0 = λ e. c .if1 .taken (n .ensures ∙ e) in
-    sym (l .inv .2 ∙ verdict-stop s (l .left) (l .c) (c .before .before .before .loop-test .taken) f ∙ ap₂ Refused (sym (n .ensures)) (sym (c .before .end-of .ensures)))
+    sym (l .inv .3 ∙ verdict-stop s (l .left) (l .c) (c .before .before .before .loop-test .taken) f ∙ ap₂ Refused (sym (n .ensures)) (sym (c .before .end-of .ensures)))
 
 loop-again : tie.Need-loop-again Inv-loop μ-loop
 loop-again c =
@@ -44,13 +44,14 @@ loop-again c =
     (c .before .of-code .ensures .is
     ∙ ap kindOf (code ∙ ap (λ (x : ℕ). fieldAt s (x + 0) 6) (d .end-of .ensures))) in
     rw k (
-      next-small (l .c) (kindOf (kindAt s (l .c))) (l .inv .0) (clean s (l .c) f .has-room) (omega arith),
+      next-small (l .c) (kindOf (kindAt s (l .c))) (l .inv .0) (clean s (l .c) f .has-room) (omega arith) (omega arith),
       omega (arith, next-demands (l .c) (kindOf (kindAt s (l .c)))),
-      l .inv .2 ∙ verdict-on s (l .left) (l .c) (d .before .before .loop-test .taken) f,
+      omega (arith, next-closures (l .c) (kindOf (kindAt s (l .c)))),
+      l .inv .3 ∙ verdict-on s (l .left) (l .c) (d .before .before .loop-test .taken) f,
     )
 
 returns-2 : tie.Need-returns-2 Inv-loop μ-loop
-returns-2 c = c .tail .ensures ∙ sym (c .before .before .loop .inv .2 ∙ verdict-end _ _ _ (c .before .loop-test .left))
+returns-2 c = c .tail .ensures ∙ sym (c .before .before .loop .inv .3 ∙ verdict-end _ _ _ (c .before .loop-test .left))
 
 pub records-spec : {M : Type 1} → statement M
 records-spec =

@@ -5,7 +5,7 @@ use sheetgen::{Aboard, Car, Demand, Line, Sheet, Stop, Waiting};
 use std::hint::black_box;
 use std::time::Instant;
 
-/// 64 stops, 8 lines, 32 cars, 512 aboard, 512 waiting, 64 demands: 26,083 bytes.
+/// 64 stops, 8 lines, 32 cars, 512 aboard, 512 waiting, 64 demands, 64 closed landings: 26,515 bytes.
 fn full() -> Vec<u8> {
     let mut s = Sheet::new(sheetgen::sheet::SCAN);
     s.stops = (0..64)
@@ -49,6 +49,7 @@ fn full() -> Vec<u8> {
             call: false,
         })
         .collect();
+    s.closed = (0..64).map(|k| 7 * (k * 37 % 64) + 5).collect();
     s.write()
 }
 

@@ -61,7 +61,7 @@ impl Columns {
         let (call, waiting) = (names + 10.0, names + 22.0);
         let width = |l: &Label| match l.more.as_str() {
             "" => l.riders.width(in_words),
-            more => l.more_at(in_words) + svg::width("small", more),
+            more => l.more_at(in_words) + svg::width(l.class(), more),
         };
         let end = waiting + widest(&width) + 22.0;
         Self {
@@ -78,13 +78,23 @@ struct Label {
     name: String,
     has_call: bool,
     riders: Riders,
-    /// The riders bound for the stop, and whether it is no pending one.
+    /// Its landing is closed.
+    is_closed: bool,
+    /// The riders bound for the stop, and whether it is closed or no pending one.
     more: String,
     height: f64,
     position: f64,
 }
 
 impl Label {
+    /// How its words stand out.
+    fn class(&self) -> &'static str {
+        match self.is_closed {
+            true => "shut",
+            false => "small",
+        }
+    }
+
     /// Where `more` begins, after the riders.
     fn more_at(&self, in_words: bool) -> f64 {
         match self.riders.is_empty() {
@@ -106,17 +116,25 @@ fn labels(sheet: &Sheet, chosen: &Chosen, heights: &Heights) -> Vec<Label> {
         let riding = demand.map_or(0, |d| d.riding);
         let has_call = demand.is_some_and(|d| d.call);
         let has_demand = !riders.is_empty() || riding > 0 || has_call;
+        let is_closed = sheet.closed.contains(&stop.id);
+        let is_pending = chosen.pending.contains(&stop.id);
         let mut more = Vec::new();
+        if is_closed {
+            more.push("closed".into());
+        }
         if riding > 0 {
             more.push(format!("{riding} riding"));
         }
-        if has_demand && !chosen.pending.contains(&stop.id) {
-            more.push("not pending".into());
+        match (has_demand, is_pending, is_closed) {
+            (true, false, _) => more.push("not pending".into()),
+            (_, true, true) => more.push("pending for a rider aboard".into()),
+            _ => {}
         }
         Label {
             name: format!("{} at {}", stop.id, short(stop.position)),
             has_call,
             riders,
+            is_closed,
             more: more.join(", "),
             height,
             position: stop.position,
@@ -192,7 +210,8 @@ impl Building<'_> {
         stop.riders.draw(svg, at.waiting, label, self.in_words);
         if !stop.more.is_empty() {
             let (x, y) = (at.waiting + stop.more_at(self.in_words), label + 3.0);
-            svg.text("small halo", x, y, Anchor::Start, &stop.more);
+            let class = format!("{} halo", stop.class());
+            svg.text(&class, x, y, Anchor::Start, &stop.more);
         }
     }
 
@@ -224,6 +243,13 @@ impl Building<'_> {
         inside.map(|(_, stop)| self.y(stop.position))
     }
 
+    /// The mask of the closed landings.
+    fn closed(&self) -> u64 {
+        let stops = self.sheet.stops.iter().enumerate();
+        let closed = stops.filter(|(_, stop)| self.sheet.closed.contains(&stop.id));
+        closed.fold(0, |mask, (k, _)| mask | mask_bit(k))
+    }
+
     fn shaft(&self, svg: &mut Svg, line: &Line, car: Option<(usize, &Car)>, x: f64) {
         let (middle, top) = (x + SHAFT / 2.0, self.top - 24.0);
         svg.rect("shaft", middle - 17.0, top, 34.0, self.bottom() - top);
@@ -232,6 +258,9 @@ impl Building<'_> {
         }
         for y in self.heights_in(line.mask) {
             svg.line("floor", (middle - 17.0, y), (middle + 17.0, y));
+        }
+        for y in self.heights_in(line.mask & self.closed()) {
+            svg.rect("closed", middle - 17.0, y - 2.0, 34.0, 4.0);
         }
         if let Some((k, car)) = car {
             for y in self.heights_in(car.calls) {
@@ -389,7 +418,7 @@ impl Building<'_> {
         legend.sentence(svg, riders);
         legend.sentence(
             svg,
-            "N riding: so many riders are on their way to the stop in cars. Not pending: the stop has demand, but this pass sends no car to it; cars on their way cover it, or no line serves it.",
+            "N riding: so many riders are on their way to the stop in cars. Not pending: the stop has demand, but this pass sends no car to it; it is closed, cars on their way cover it, or no line serves it. Closed: whoever waits there, the stop is pending only for a rider of an idle-listed car who is bound for it.",
         );
     }
 }
@@ -401,6 +430,9 @@ fn shaft_entries(svg: &mut Svg, legend: &mut Legend) {
     });
     legend.entry(svg, "a stop that the line skips", |svg, x, y| {
         svg.rect("hatched", x - 8.0, y - 3.5, 16.0, 7.0);
+    });
+    legend.entry(svg, "a closed landing", |svg, x, y| {
+        svg.rect("closed", x - 8.0, y - 2.0, 16.0, 4.0);
     });
     legend.entry(svg, "a stop barred to the car", |svg, x, y| {
         svg.cross("barred", x, y, 3.0);

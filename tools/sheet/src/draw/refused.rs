@@ -15,9 +15,12 @@ use super::svg::{self, Anchor, Svg};
 /// The width of the strip, and what is left beside it.
 const WIDTH: f64 = 1000.0;
 const BESIDE: f64 = 120.0;
+/// From one kind of the legend to the next.
+const STEP: f64 = 88.0;
 /// By kind; 0 is for what has no known kind.
-const COLOURS: [&str; 8] = [
+const COLOURS: [&str; 9] = [
     "#999999", "#6a3d9a", "#1f78b4", "#33a02c", "#ff7f00", "#b2df8a", "#a6cee3", "#fdbf6f",
+    "#7a1f1f",
 ];
 
 pub fn draw(bytes: &[u8], refusal: Refusal) -> String {
@@ -107,12 +110,12 @@ fn mark(svg: &mut Svg, cut: &Cut, reason: &Reason, offset: u64, y: f64) {
 
 fn legend(svg: &mut Svg, y: f64) {
     for (kind, colour) in COLOURS.iter().enumerate() {
-        let x = EDGE + 100.0 * kind as f64;
+        let x = EDGE + STEP * kind as f64;
         svg.tile((x, y - 9.0), (12.0, 11.0), colour, "cell", "");
         let name = if kind == 0 { "other kind" } else { KINDS[kind] };
         svg.text("small", x + 16.0, y, Anchor::Start, name);
     }
-    let x = EDGE + 100.0 * COLOURS.len() as f64;
+    let x = EDGE + STEP * COLOURS.len() as f64;
     for (x, class, words) in [
         (x, "field", "head, or no record"),
         (x + 130.0, "hatched", "record that passes the end"),

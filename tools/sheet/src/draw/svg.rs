@@ -53,6 +53,8 @@ text{font-family:DejaVu Sans,Verdana,sans-serif;font-size:10px;fill:#222}\
 .floor{stroke:#bbb;stroke-width:1}\
 .guide{stroke:#dcdcdc;stroke-width:0.8}\
 .served{fill:#777}\
+.closed{fill:#7a1f1f;stroke:none}\
+.shut{font-size:9px;font-weight:bold;fill:#7a1f1f}\
 .barred{stroke:#b00020;stroke-width:1.6}\
 .cut{stroke:#222;stroke-width:1.8}\
 .dash{stroke:#777;stroke-width:1.6}\
@@ -182,7 +184,7 @@ pub fn width(class: &str, text: &str) -> f64 {
     let digit = match class {
         "title" => 10.5,
         "name" | "cost" | "fault" => 7.0,
-        "" => 6.4,
+        "" | "shut" => 6.4,
         _ => 5.8,
     };
     digit * text.chars().map(in_digits).sum::<f64>()

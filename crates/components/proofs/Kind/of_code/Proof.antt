@@ -39,7 +39,23 @@ returns-8 c = has-code kind-codes (rw (c .match .keys8) refl)
 
 returns-9 : tie.Need-returns-9
 unfolding kindOf
-returns-9 c = let r = c .match .rest in has-code kind-codes (rw (ne-eqb _ _ (r .0 .0 .0 .0 .0 .0 .1), ne-eqb _ _ (r .0 .0 .0 .0 .0 .1), ne-eqb _ _ (r .0 .0 .0 .0 .1), ne-eqb _ _ (r .0 .0 .0 .1), ne-eqb _ _ (r .0 .0 .1), ne-eqb _ _ (r .0 .1), ne-eqb _ _ (r .1)))
+returns-9 c = has-code kind-codes (rw (c .match .keys9) refl)
+
+returns-10 : tie.Need-returns-10
+unfolding kindOf
+returns-10 c =
+    let r = c .match .rest in
+    has-code kind-codes
+    (rw (
+      ne-eqb _ _ (r .0 .0 .0 .0 .0 .0 .0 .1),
+      ne-eqb _ _ (r .0 .0 .0 .0 .0 .0 .1),
+      ne-eqb _ _ (r .0 .0 .0 .0 .0 .1),
+      ne-eqb _ _ (r .0 .0 .0 .0 .1),
+      ne-eqb _ _ (r .0 .0 .0 .1),
+      ne-eqb _ _ (r .0 .0 .1),
+      ne-eqb _ _ (r .0 .1),
+      ne-eqb _ _ (r .1),
+    ))
 
 pub of-code-spec : {M : Type 1} → statement M
-of-code-spec = tie.close (tie.spec returns returns-2 returns-3 returns-4 returns-5 returns-6 returns-7 returns-8 returns-9)
+of-code-spec = tie.close (tie.spec returns returns-2 returns-3 returns-4 returns-5 returns-6 returns-7 returns-8 returns-9 returns-10)

@@ -1,0 +1,34 @@
+-- covered::closed_stops meets its contract.
+use Prim.Native.Nat.{ℕ, _+_, _*_}
+use Rattle.components.specs.declared.Kind.the-variants.{Closed}
+use Rattle.covered.specs.Same.{closedIn, closed-named}
+use Rattle.fields.specs.Held.{held}
+use Rattle.fields.specs.Named.{named}
+use Rattle.layout.specs.Offsets.{recordLength}
+use Rattle.layout.specs.Records.{from, read, sheetOf}
+use Rattle.layout.specs.Table.{closed·stop}
+use Rattle.mask.specs.MaskLaws.{built-cong}
+use borrow.Author.Needs.{needs}
+use mathlib.Core.Path.{_≡_, ap, _∙_}
+use Rattle.covered.proofs.closed_stops.Statement.{statement}
+use Rattle.covered.proofs.closed_stops.Tie as tie
+
+returns : tie.Need-returns
+unfolding sheetOf
+returns c =
+    let a = c .before .before .before .before .before .before .before .before .before .args in
+    let b = a .s .now in
+    let at = c .before .before .before .before .before .closures-from in
+    let filled = c .before .before .before .fill32 in
+    c .named-stops .ensures
+    ∙ built-cong (named _ (a .c .closures) (a .names .now) 64) (closedIn (sheetOf b (a .c)) (a .names .now)) 64
+    (closed-named (sheetOf b (a .c)) _ (a .names .now)
+    (λ x l.
+    held (λ k. read (from b (at .result + recordLength Closed * k)) closed·stop) (a .c .closures) _ _ (filled .ensures .1) 0 x l
+    ∙ ap (λ (z : ℕ). read (from b (z + recordLength Closed * x)) closed·stop) (at .ensures)))
+
+pub closed-stops-spec : {M : Type 1} → statement M
+closed-stops-spec =
+    tie.close
+    (tie.spec (λ c. search needs) (λ c κs. search needs) (λ c. search needs) (λ c κs. search needs) (λ c. search needs) (λ c κs. search needs)
+    returns)
