@@ -5,7 +5,15 @@
 #include "sheet.h"
 
 /* Where a field stands in its record, the 22 bits in front counted. */
-enum { ID = 22, SECOND = 54, CAR_IDLE = 154, CAR_SWEEP = 157, CAR_RESTRICTED = 609, LIMIT = 24, DESTINATION = 55 };
+enum { ID = 22, SECOND = 54, LIMIT = 24, DESTINATION = 55 };
+enum { CAR_PHASE = 86, CAR_IDLE = 154, CAR_SWEEP = 157, CAR_CAPACITY = 287, CAR_LOAD = 351, CAR_RESTRICTED = 609 };
+
+static double get_double(const uint8_t *bytes, size_t size, size_t at) {
+    uint64_t bits = get_bits(bytes, size, at, 64);
+    double value;
+    memcpy(&value, &bits, sizeof value);
+    return value;
+}
 
 static void read_car(struct facts *f, const uint8_t *bytes, size_t size, size_t at) {
     size_t i = f->cars++;
@@ -13,6 +21,8 @@ static void read_car(struct facts *f, const uint8_t *bytes, size_t size, size_t 
     f->car_line[i] = (uint32_t)get_bits(bytes, size, at + SECOND, 32);
     f->car_restricted[i] = get_bits(bytes, size, at + CAR_RESTRICTED, 64);
     f->car_sweep[i] = (uint8_t)get_bits(bytes, size, at + CAR_SWEEP, 2);
+    f->car_laden[i] = get_bits(bytes, size, at + CAR_PHASE, 3) != 0 && get_double(bytes, size, at + CAR_CAPACITY) > 0 &&
+                      get_double(bytes, size, at + CAR_LOAD) > 0;
     if (get_bits(bytes, size, at + CAR_IDLE, 1)) {
         f->idle_car[f->idle++] = i;
     }
@@ -42,6 +52,7 @@ void read_facts(struct facts *f, const uint8_t *bytes, size_t size) {
         size_t at = records[i].start;
         if (records[i].kind == POLICY) {
             f->strategy = (unsigned)get_bits(bytes, size, at + ID, 2);
+            f->weighs_loads = f->strategy == 1 && get_double(bytes, size, LOAD_WEIGHT) > 0;
             f->limit = get_bits(bytes, size, at + LIMIT, 16);
         } else if (records[i].kind == STOP && f->stops < 64) {
             f->stop_id[f->stops++] = (uint32_t)get_bits(bytes, size, at + ID, 32);

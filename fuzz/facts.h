@@ -7,6 +7,8 @@
 
 struct facts {
     unsigned strategy;
+    /* RSR with a load weight above 0. */
+    int weighs_loads;
     uint64_t limit;
     size_t stops, lines, cars, idle;
     uint32_t stop_id[64];
@@ -15,6 +17,8 @@ struct facts {
     uint32_t car_id[32];
     uint32_t car_line[32];
     uint64_t car_restricted[32];
+    /* RSR's load term counts for the car, should there be a weight: it is not in phase idle, and has a capacity and a load. */
+    uint8_t car_laden[32];
     /* 2 * sweep + mode before the pass. */
     uint8_t car_sweep[32];
     /* The car records that are idle-listed, in record order. */

@@ -22,8 +22,27 @@ static int is(const char *fault) {
     return named != NULL && strcmp(named, fault) == 0;
 }
 
+/* Up to 64 bits of a sheet. */
+static uint64_t bits_at(const uint8_t *sheet, size_t length, size_t at, size_t width) {
+    uint64_t value = 0;
+    for (size_t bit = at; bit < at + width; bit++) {
+        value = value << 1 | (bit / 8 < length ? sheet[bit / 8] >> (7 - bit % 8) & 1 : 0);
+    }
+    return value;
+}
+
+/* RSR with a load weight above 0: a double's bits rise with it, and minus zero is no weight. */
+static int weighs_loads(const uint8_t *sheet, size_t length) {
+    uint64_t load = bits_at(sheet, length, 24 + 22 + 84 + 3 * 64, 64);
+    return bits_at(sheet, length, 24 + 22, 2) == 1 && load > 0 && load >> 63 == 0;
+}
+
 uint32_t __wrap_dispatch_bench_read(const uint8_t *sheet, size_t length, uint64_t *offset) {
     uint32_t number = __real_dispatch_bench_read(sheet, length, offset);
+    if (is("read_load_weight") && number == 0 && weighs_loads(sheet, length)) {
+        *offset = 24;
+        return DISPATCH_BENCH_LOAD_WEIGHT;
+    }
     *offset += is("read_offset") && number == 11;
     *offset += is("read_writes_offset") && number == 0;
     *offset += is("read_long") && length > 65536;
@@ -55,6 +74,16 @@ uint32_t __wrap_dispatch_bench_choose(size_t cars, size_t columns, const uint64_
     return answer;
 }
 
+/* The faults of RSR's load term: each cell with a rank is another. */
+static void spoil_loads(uint64_t *matrix, uint64_t n, uint64_t columns) {
+    for (uint64_t i = 0; i < n * columns; i++) {
+        int ranked = 0 < matrix[i] && matrix[i] < DISPATCH_BENCH_SENTINEL;
+        matrix[i] += is("load_of_all") && ranked;
+        matrix[i] -= is("load_less") && ranked;
+        matrix[i] = is("load_no_rank") && ranked ? DISPATCH_BENCH_SENTINEL : matrix[i];
+    }
+}
+
 /* The faults of a pass that was made. */
 static void spoil_pass(uint32_t *decisions, size_t decision_count, uint64_t *matrix, uint8_t *sweeps, size_t sweep_count, uint64_t n, uint64_t m,
                        uint64_t *total, uint64_t *ranked, uint64_t *offset) {
@@ -82,6 +111,9 @@ uint32_t __wrap_dispatch_bench_pass(const uint8_t *sheet, size_t length, uint32_
                                                  ranked, offset);
     if (number == 0) {
         spoil_pass(decisions, decision_count, matrix, sweeps, sweep_count, *cars, *stops, total, ranked, offset);
+        if (weighs_loads(sheet, length)) {
+            spoil_loads(matrix, *cars, *cars < *stops ? *stops : *cars);
+        }
         *ranked -= is("held_before") && *ranked > 0 ? held & 1 : 0;
     } else if (decision_count > 0 && sweep_count > 0 && cell_count > 0) {
         decisions[0] ^= is("refusal_writes_decision");
@@ -103,15 +135,6 @@ uint32_t __wrap_dispatch_bench_pass(const uint8_t *sheet, size_t length, uint32_
 }
 
 #define MOST_PLACES 128
-
-/* Up to 64 bits of a sheet. */
-static uint64_t bits_at(const uint8_t *sheet, size_t length, size_t at, size_t width) {
-    uint64_t value = 0;
-    for (size_t bit = at; bit < at + width; bit++) {
-        value = value << 1 | (bit / 8 < length ? sheet[bit / 8] >> (7 - bit % 8) & 1 : 0);
-    }
-    return value;
-}
 
 /* The id of a stop record, 0 where there is none. Stop records follow the policy's. */
 static uint32_t stop_at(const uint8_t *sheet, size_t length, size_t place) {

@@ -120,15 +120,13 @@ static uint64_t any_value(enum sort sort, uint64_t now) {
     }
 }
 
-/* The weights that a strategy leaves unused, or must have at 0, are set to it. */
+/* The weights that a strategy leaves unused are set to 0. */
 static void set_strategy(size_t at) {
     uint64_t strategy = any(any(32) == 0 ? 4 : 3);
     size_t weights = at + FRONT + 84;
     put_bits(bytes, at + FRONT, 2, strategy);
     if (strategy == 0) {
         put_bits(bytes, weights + 5 * 64, 64, 0);
-    } else if (strategy == 1) {
-        put_bits(bytes, weights + 3 * 64, 64, 0);
     }
     for (size_t i = 0; strategy == 2 && i < 6; i++) {
         put_bits(bytes, weights + i * 64, 64, 0);

@@ -41,13 +41,16 @@ static uint64_t unwritten(uint8_t pattern) {
     return pattern * UINT64_C(0x0101010101010101);
 }
 
-/* How many inputs had which answer: passes by strategy, those with closed landings among them, refusals by number. */
-static unsigned long passes[3], closed_passes, refusals[17];
+/* How many inputs had which answer: passes by strategy, those with closed landings and load weights among them, refusals by number. */
+static unsigned long passes[3], closed_passes, load_passes, refusals[17];
 
 static void print_counts(void) {
-    fprintf(stderr, "answers: passes %lu ETD, %lu RSR, %lu SCAN, %lu with closed landings; refusals", passes[0], passes[1], passes[2], closed_passes);
+    fprintf(stderr, "answers: passes %lu ETD, %lu RSR, %lu SCAN, %lu with closed landings, %lu with a load weight; refusals", passes[0], passes[1],
+            passes[2], closed_passes, load_passes);
     for (int number = 2; number <= 16; number++) {
-        fprintf(stderr, " %d: %lu", number, refusals[number]);
+        if (number != DISPATCH_BENCH_LOAD_WEIGHT) {
+            fprintf(stderr, " %d: %lu", number, refusals[number]);
+        }
     }
     fprintf(stderr, "\n");
 }
@@ -106,6 +109,7 @@ static void run_read(struct answer *a, const uint8_t *data, size_t size, int at_
     a->value[OFFSET] = words()[OFFSET];
     check_refused(data, size);
     require(a->number == 0 || (2 <= a->number && a->number <= 16), "the reader answers 0 or 2 to 16");
+    require(a->number != DISPATCH_BENCH_LOAD_WEIGHT, "no sheet is refused by 15");
     if (a->number == 0) {
         require(a->value[OFFSET] == unwritten(pattern), "an accepted sheet keeps the offset");
     } else {
@@ -266,6 +270,29 @@ static void check_lists(const struct answer *a, const struct facts *f) {
     }
 }
 
+/* RSR's load term, beside the same sheet without its load weight: the same pairs have a rank, none costs less with the weight, and a car for which
+   no load counts costs the same. */
+static void check_loads(const struct answer *a, const struct facts *f, const uint8_t *data, size_t size) {
+    static uint8_t weightless[MOST_BYTES + 4096];
+    static struct answer without;
+    struct lengths least = {DISPATCH_BENCH_DECISIONS, DISPATCH_BENCH_CELLS, DISPATCH_BENCH_SWEEPS};
+    if (!f->weighs_loads) {
+        return;
+    }
+    memcpy(weightless, data, size);
+    put_bits(weightless, LOAD_WEIGHT, 64, 0);
+    run_pass(&without, f, weightless, size, least, 1, 0xa5);
+    require(without.number == 0 && without.value[CARS] == a->value[CARS] && without.value[STOPS] == a->value[STOPS],
+            "the load weight changes neither cars nor stops");
+    size_t cars = a->value[CARS], stops = a->value[STOPS], columns = cars < stops ? stops : cars;
+    for (size_t i = 0; i < cars * columns; i++) {
+        uint64_t cell = a->matrix[i], other = without.matrix[i];
+        require((cell == SENTINEL) == (other == SENTINEL), "the load weight gives and takes no rank");
+        require(cell >= other, "no pair costs less for the load weight");
+        require(cell == other || f->car_laden[f->idle_car[i / columns]], "only the load of a car that is not in phase idle counts");
+    }
+}
+
 /* Each buffer too short by itself: refusal 1 at 0, whatever the sheet, and nothing else written. */
 static void check_short(const uint8_t *data, size_t size, unsigned by) {
     struct lengths full = {DISPATCH_BENCH_DECISIONS, DISPATCH_BENCH_CELLS, DISPATCH_BENCH_SWEEPS};
@@ -376,10 +403,12 @@ int LLVMFuzzerTestOneInput(const uint8_t *data, size_t size) {
         return 0;
     }
     check_lists(&first, &facts);
+    check_loads(&first, &facts, data, size);
     check_pending(&pending, &first, &facts);
     check_decisions(&first, &pending, &facts);
     passes[facts.strategy]++;
     tell_pass(&first, &pending, &facts);
     closed_passes += facts.closed != 0;
+    load_passes += facts.weighs_loads;
     return 0;
 }

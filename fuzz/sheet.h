@@ -9,6 +9,8 @@ enum { POLICY = 1, STOP, LINE, CAR, ABOARD, WAITING, DEMAND, CLOSED };
 
 #define FIRST_RECORD 24
 #define FRONT 22
+/* Where the fourth weight stands, RSR's of the load. */
+#define LOAD_WEIGHT (FIRST_RECORD + FRONT + 84 + 3 * 64)
 #define MOST_RECORDS 1257
 #define MOST_BYTES 65536
 

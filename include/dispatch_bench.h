@@ -18,7 +18,7 @@ extern "C" {
 /* The number of the library's interface: DISPATCH_BENCH_VERSION of the header that it was built with. */
 uint32_t dispatch_bench_version(void);
 
-/* Reads a sheet. 0: accepted, and *offset keeps its contents. Otherwise the refusal's number, 2 to 16, and in *offset the bit offset where the
+/* Reads a sheet. 0: accepted, and *offset keeps its contents. Otherwise the refusal's number, 2 to 14 or 16, and in *offset the bit offset where the
    refused record starts (docs/manual/desk.md). Every byte string has an answer; bytes past the first 65,536 change none. */
 uint32_t dispatch_bench_read(const uint8_t *sheet, size_t length, uint64_t *offset);
 
@@ -44,7 +44,7 @@ enum dispatch_bench_refusal {
     DISPATCH_BENCH_LIMIT = 12,          /* a candidate limit of 0 */
     DISPATCH_BENCH_TICKS = 13,          /* door ticks that pass 32 bits */
     DISPATCH_BENCH_WAIT = 14,           /* wait ticks above 2^53 */
-    DISPATCH_BENCH_LOAD_WEIGHT = 15,    /* RSR with a load weight above 0 */
+    DISPATCH_BENCH_LOAD_WEIGHT = 15,    /* not given any more: RSR with a load weight above 0, which the first release refused */
     DISPATCH_BENCH_TAIL = 16,           /* what follows the last record */
     DISPATCH_BENCH_TWO_VALUES = 17,     /* records of a store that agree in setting, start day and issue, but not in value */
     DISPATCH_BENCH_NO_WEIGHT = 18       /* a slot without a record for the day */
@@ -76,7 +76,8 @@ enum dispatch_bench_refusal {
 /* A pass over a sheet. 0: *cars idle cars, *stops pending stops, *total the least total; in decisions the stop id of each idle car in record order (0 for
    idle), in matrix the cells row by row, a row of max(*cars, *stops) columns for each idle car, in sweeps 2 * sweep + mode of each car record; what
    stands past these is left, and so is *offset. *ranked is the number of pairs ranked: at most *cars times the sheet's limit (*cars * *stops with
-   none). Otherwise the refusal's number, 1 to 16, with the bit offset where the refused record starts in *offset (0 for 1); nothing else is written.
+   none). Otherwise the refusal's number, 1 to 14 or 16, with the bit offset where the refused record starts in *offset (0 for 1); nothing else is
+   written.
 
    A cell is the cost times 1,000,000, rounded, or DISPATCH_BENCH_SENTINEL where there is no rank, and in spare columns; the first *stops columns are
    the pending stops by rising id, which dispatch_bench_pending gives. *total is the sum of a cell for each idle car: that of the stop where it is

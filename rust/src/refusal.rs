@@ -15,7 +15,7 @@ use crate::rules;
 /// ```
 #[derive(Clone, Copy, Debug, PartialEq, Eq, Hash)]
 pub struct Refusal {
-    /// 1 to 16; 1 is given for short buffers alone.
+    /// 1 to 16; 1 is given for short buffers alone, and 15 not any more.
     pub number: u32,
     /// In bits from the sheet's start; 0 for 1, for 3, and for a sheet that ends within its head.
     pub offset: u64,

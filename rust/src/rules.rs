@@ -91,9 +91,10 @@ pub const RULES: [Rule; 16] = [
         says: "A waiting rider's wait ticks are above 9,007,199,254,740,992.",
         remedy: "Give the ticks since the rider came to the stop; so many suggest a negative number.",
     },
+    // Hosts hold on to the number, which is given to no other fault.
     Rule {
-        says: "The strategy is RSR and its load weight is above 0.",
-        remedy: "Set load to 0; the bench does not carry RSR's load term.",
+        says: "The strategy is RSR and its load weight is above 0: the first release gave this number, and it is not given any more.",
+        remedy: "Renew the bench that gave it, which then carries RSR's load term; until then set load to 0.",
     },
     Rule {
         says: "What follows the last record is not 0 to 7 zero bits up to the byte's end.",

@@ -62,8 +62,8 @@ fn refused_sheets_get_their_numbers() {
     let unseen: Vec<usize> = (0..17).filter(|n| !seen[*n]).collect();
     assert_eq!(
         unseen,
-        [1],
-        "no sheet is refused by 1, every other number has one"
+        [1, 15],
+        "no sheet is refused by 1 or 15, every other number has one"
     );
 }
 

@@ -1,19 +1,22 @@
-/* The reader of the first release on sheets of today: "A bench of the first release refuses such a sheet, by 4 where nothing earlier is wrong."
-   libdispatch_bench.a is that release's library.
+/* The reader of the first release on sheets of today: "A bench of the first release refuses such a sheet, by 4 where nothing earlier is wrong", of
+   closed landings; and by 15, at the policy, where RSR has a load weight above 0. libdispatch_bench.a is that release's library.
 
        main LIST SHEET ..
 
    LIST is crates/replay_refusals/stdin: each case is a sheet's length in 16 bits, its bytes, the number of its refusal today in 8 bits and the offset
-   in 32, both 0 where it is accepted. Of the sheets named after it only those with a closed landing are looked at, and they are accepted today or
-   refused at one. */
+   in 32, both 0 where it is accepted. Of the sheets named after it only those with a closed landing or a load weight are looked at, and they are
+   accepted today or refused at a closed landing. */
 #include <stdint.h>
 #include <stdio.h>
 #include <stdlib.h>
+#include <string.h>
 
 #include "dispatch_bench.h"
 
 #define MOST (1 << 20)
+#define FIRST_RECORD 24
 #define CLOSED 8
+#define RSR 1
 
 static uint8_t bytes[MOST];
 
@@ -27,7 +30,7 @@ static uint64_t field(const uint8_t *sheet, size_t length, size_t at, size_t wid
 
 /* Where the first record of kind 8 starts whose stated body is there; 0 where there is none. */
 static size_t first_closed(const uint8_t *sheet, size_t length) {
-    size_t at = 24;
+    size_t at = FIRST_RECORD;
     for (uint64_t left = field(sheet, length, 8, 16); left > 0; left--) {
         size_t end = at + 22 + field(sheet, length, at + 6, 16);
         if (end > 8 * length) {
@@ -39,6 +42,15 @@ static size_t first_closed(const uint8_t *sheet, size_t length) {
         at = end;
     }
     return 0;
+}
+
+/* The policy, which must be whole, is RSR's and has a load weight above 0. */
+static int weighs_loads(const uint8_t *sheet, size_t length) {
+    const size_t body = FIRST_RECORD + 22;
+    uint64_t bits = field(sheet, length, body + 84 + 3 * 64, 64);
+    double load;
+    memcpy(&load, &bits, sizeof load);
+    return field(sheet, length, body, 2) == RSR && load > 0;
 }
 
 static size_t file(const char *name) {
@@ -63,7 +75,7 @@ static void answers(const char *name, unsigned nth, const uint8_t *sheet, size_t
 }
 
 int main(int count, char **names) {
-    unsigned cases = 0, closed = 0, sheets = 0;
+    unsigned cases = 0, closed = 0, loads = 0, closed_sheets = 0, load_sheets = 0;
     if (count < 3) {
         fprintf(stderr, "usage: main LIST SHEET ..\n");
         return 2;
@@ -73,24 +85,33 @@ int main(int count, char **names) {
         size_t size = (size_t)bytes[at] << 8 | bytes[at + 1];
         const uint8_t *sheet = bytes + at + 2;
         uint64_t number = sheet[size], offset = field(sheet + size + 1, 4, 0, 32), first = first_closed(sheet, size);
-        int is_first = first > 0 && (number == 0 || first <= offset);
-        answers(names[1], cases, sheet, size, is_first ? 4 : (uint32_t)number, is_first ? first : offset);
-        closed += is_first && number != 4;
+        if ((number == 0 || offset > FIRST_RECORD) && weighs_loads(sheet, size)) {
+            answers(names[1], cases, sheet, size, DISPATCH_BENCH_LOAD_WEIGHT, FIRST_RECORD);
+            loads++;
+        } else {
+            int is_first = first > 0 && (number == 0 || first <= offset);
+            answers(names[1], cases, sheet, size, is_first ? 4 : (uint32_t)number, is_first ? first : offset);
+            closed += is_first && number != 4;
+        }
         at += 2 + size + 5;
     }
     for (int k = 2; k < count; k++) {
         length = file(names[k]);
         size_t first = first_closed(bytes, length);
-        if (first > 0) {
+        if (weighs_loads(bytes, length)) {
+            answers(names[k], 0, bytes, length, DISPATCH_BENCH_LOAD_WEIGHT, FIRST_RECORD);
+            load_sheets++;
+        } else if (first > 0) {
             answers(names[k], 0, bytes, length, 4, first);
-            sheets++;
+            closed_sheets++;
         }
     }
-    if (sheets == 0) {
-        fprintf(stderr, "no sheet has a closed landing\n");
+    if (closed_sheets == 0 || load_sheets == 0) {
+        fprintf(stderr, "no sheet has a closed landing, or none a load weight\n");
         return 1;
     }
-    printf("the first release refuses %u sheets and %u of %u stored cases by 4 at their first closed landing, and answers the others as today\n",
-           sheets, closed, cases);
+    printf("the first release refuses %u sheets and %u of %u stored cases by 4 at their first closed landing, %u sheets and %u cases by 15 for their "
+           "load weight, and answers the others as today\n",
+           closed_sheets, closed, cases, load_sheets, loads);
     return 0;
 }

@@ -34,8 +34,8 @@ use Rattle.layout.specs.Table.{car·position, car·speed, car·capacity, car·l
 use Rattle.layout.specs.Table.{car·restricted, car·calls, aboard·car, waiting·stop, waiting·weight, waiting·wait, demand·stop, first, closed·stop}
 use Rattle.layout.specs.Records.{Fields, from, flag, double, policyOf, stopOf, lineOf, carOf, aboardOf, waitingOf, demandOf, sheetOf, limitOf, read}
 use Rattle.layout.specs.Refusals.{recordCount, kindAt, pastEnd, refusal2Head, refusal6Empty, refusal16, tailFits, refusal6, refusal4, refusal7, seen}
-use Rattle.layout.specs.Refusals.{hasStop, hasLine, hasCar, hasDemand, hasClosed, lastStop, presentZero, strategyAt, loadWeighed, phaseAt, refusal8Policy}
-use Rattle.layout.specs.Refusals.{refusal11Policy, refusal12, refusal15, refusal9Stop, refusal11Stop, refusal9Line, refusal10Line, refusal8Car}
+use Rattle.layout.specs.Refusals.{hasStop, hasLine, hasCar, hasDemand, hasClosed, lastStop, presentZero, strategyAt, phaseAt, refusal8Policy}
+use Rattle.layout.specs.Refusals.{refusal11Policy, refusal12, refusal9Stop, refusal11Stop, refusal9Line, refusal10Line, refusal8Car}
 use Rattle.layout.specs.Refusals.{refusal9Car, refusal10Car, refusal11Car, refusal13, refusal8Aboard, refusal9Aboard, refusal10Aboard}
 use Rattle.layout.specs.Refusals.{refusal8Waiting, refusal9Waiting, refusal10Waiting, refusal11Waiting, refusal14, refusal9Demand, refusal10Demand, refusal9Closed, refusal10Closed}
 use Rattle.layout.specs.Verdict.{bodyRefusal, recordRefusal, headRules, tailRules, given, tailVerdict, recordsVerdict, verdict, firstOf}
@@ -372,12 +372,11 @@ whole s c e = let h = headed s c e in from-here s (recordCount s) none c (no-rec
 
 module _ (f : Fields) where
   sound-policy : (s : List ℕ) (c : Counts) → bodyRefusal s c kind.Policy f ≡ 0 → SoundPolicy (policyOf f) × (0 < read f policy·limit)
-  unfolding firstOf refusal8Policy refusal11Policy refusal12 refusal15 policyOf
+  unfolding firstOf refusal8Policy refusal11Policy refusal12 policyOf
   sound-policy s c e =
       let a = pick-none (refusal8Policy f) 8 _ (omega arith) e in
       let b = pick-none (refusal11Policy f) 11 _ (omega arith) (a .1) in
-      let d = pick-none (refusal12 f) 12 _ (omega arith) (b .1) in
-      let g = pick-none (refusal15 f) 15 0 (omega arith) (d .1) in
+      let d = pick-none (refusal12 f) 12 0 (omega arith) (b .1) in
       let r0 = not-false _ (b .0) in
       let r1 = both-right (isTickRate (double f policy·rate)) _ r0 in
       let r2 = both-right (isMass (double f policy·w0)) _ r1 in
@@ -393,7 +392,6 @@ module _ (f : Fields) where
           w3 = both-left (isMass (double f policy·w3)) _ r4;
           w4 = both-left (isMass (double f policy·w4)) _ r5;
           w5 = both-right (isMass (double f policy·w4)) _ r5;
-          unloaded = λ q. sym (ap (λ k. loadWeighed k f) q) ∙ g .0;
         },
         above-zero (read f policy·limit) (d .0),
       )

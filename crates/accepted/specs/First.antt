@@ -1,7 +1,7 @@
 -- A byte list has the verdict of its first 65,536 bytes, so a program with a buffer of that size answers for every input: what was read without a
 -- refusal ends by bit 208,658, and a record has at most 65,557 bits. Assumes nothing.
 use Prim.Native.Nat.{ℕ, zero, suc, _+_, _-_, _*_, _≤_, _<_}
-use mathlib.Core.Path.{_≡_, refl, sym, ap, ap₂, _∙_, fun-ext}
+use mathlib.Core.Path.{_≡_, refl, sym, ap, _∙_, fun-ext}
 use mathlib.Core.Bool.{Bool, true, false, _||_, cond}
 use mathlib.Core.List.{List}
 use mathlib.Core.Logic.{⊎-elim}
@@ -25,8 +25,8 @@ use Rattle.layout.specs.Offsets.{headLength, stopStart, recordLength, none, nex
 use Rattle.layout.specs.Table.{line·id, car·id, car·line, aboard·car, waiting·stop, demand·stop, closed·stop, first, stop·id}
 use Rattle.layout.specs.Records.{Fields, from, read}
 use Rattle.layout.specs.Refusals.{recordCount, kindAt, lengthAt, refusal2Head, refusal3, refusal6Empty, refusal16, tailFits, strategyAt, seen}
-use Rattle.layout.specs.Refusals.{hasStop, hasLine, hasCar, hasDemand, hasClosed, lastStop, unusedWeights, loadWeighed, refusal2, refusal8Policy}
-use Rattle.layout.specs.Refusals.{refusal11Policy, refusal12, refusal15, refusal9Stop, refusal11Stop, refusal9Line, refusal10Line, refusal8Car}
+use Rattle.layout.specs.Refusals.{hasStop, hasLine, hasCar, hasDemand, hasClosed, lastStop, unusedWeights, refusal2, refusal8Policy}
+use Rattle.layout.specs.Refusals.{refusal11Policy, refusal12, refusal9Stop, refusal11Stop, refusal9Line, refusal10Line, refusal8Car}
 use Rattle.layout.specs.Refusals.{refusal9Car, refusal10Car, refusal11Car, refusal13, refusal8Aboard, refusal9Aboard, refusal10Aboard}
 use Rattle.layout.specs.Refusals.{refusal8Waiting, refusal9Waiting, refusal10Waiting, refusal11Waiting, refusal14, refusal9Demand, refusal10Demand, refusal9Closed, refusal10Closed}
 use Rattle.layout.specs.Verdict.{pick, bodyRefusal, recordRefusal, tailVerdict, recordsVerdict, verdict, firstOf}
@@ -53,17 +53,11 @@ module _ (s : List ℕ) (c : Counts) (f : Fields) where
   unused-clip Scan = refl
   unused-clip strategy.Unknown = refl
 
-  load-clip : (k : Strategy) → loadWeighed k f ≡ loadWeighed k (clip f)
-  load-clip Etd = refl
-  load-clip Rsr = refl
-  load-clip Scan = refl
-  load-clip strategy.Unknown = refl
-
   policy-clip : bodyRefusal s c kind.Policy f ≡ bodyRefusal s c kind.Policy (clip f)
-  unfolding firstOf refusal8Policy refusal11Policy refusal12 refusal15
+  unfolding firstOf refusal8Policy refusal11Policy refusal12
   policy-clip =
-      ap₂ (λ (a b : Bool). pick (eqb (strategyCode (strategyAt f)) 3 || a) 8 (pick (refusal11Policy f) 11 (pick (refusal12 f) 12 (pick b 15 0))))
-      (unused-clip (strategyAt f)) (load-clip (strategyAt f))
+      ap (λ (a : Bool). pick (eqb (strategyCode (strategyAt f)) 3 || a) 8 (pick (refusal11Policy f) 11 (pick (refusal12 f) 12 0)))
+      (unused-clip (strategyAt f))
 
   stop-clip : bodyRefusal s c kind.Stop f ≡ bodyRefusal s c kind.Stop (clip f)
   unfolding firstOf refusal9Stop refusal11Stop

@@ -5,9 +5,7 @@ use mathlib.Core.Path.{_≡_}
 use mathlib.Core.Bool.{Bool, true, false}
 use mathlib.Core.List.{List}
 use mathlib.Core.Logic.{_≢_}
-use lib.Ieee.{lt}
 use lib.ListN.{length}
-use Rattle.fp.specs.Num.{zero}
 use Rattle.fp.specs.Ranges.{isPosition, isSpeed, isMass, isThreshold, isTickRate}
 use Rattle.mask.specs.Mask.{pastStops}
 use Rattle.components.specs.declared.Policy.{Policy}
@@ -48,7 +46,6 @@ pub record SoundPolicy (p : Policy) : Type 0 where
   pub w4 : isMass (p .w4) ≡ true
   pub w5 : isMass (p .w5) ≡ true
   -- RSR's load weight is not above 0
-  pub unloaded : p .strategy ≡ strategies.Rsr → lt zero (p .w3) ≡ false
 
 pub record SoundStop (p : Stop) : Type 0 where
   pub id : 0 < p .id

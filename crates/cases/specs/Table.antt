@@ -34,7 +34,7 @@ use Rattle.dispatch.specs.Waits.{fairnessBonus, withBonus, sumAt, waitTicksSum,
 use Rattle.etd.specs.Etd.{intervenes, doorCost, extraDelay, isAhead, directionBonus, weighted, travelTime, interveningStops, riderDelay, computeCost}
 use Rattle.etd.specs.Etd.{etdRank}
 use Rattle.dispatch.specs.FiniteRank.{finiteRank}
-use Rattle.rsr.specs.Rsr.{withPenalty, withCoincidentCall, rsrCostOf, rsrRank}
+use Rattle.rsr.specs.Rsr.{withPenalty, withCoincidentCall, withLoad, rsrCostOf, rsrRank}
 use Rattle.assignment_problem.specs.Choice.{cellAt}
 use Rattle.assignment_problem.specs.Recursion.{scan, best, chosen, leastTotal}
 use Rattle.assignment.specs.Pending.{pendingStops}
@@ -108,7 +108,7 @@ unfoldable pub everything : ℕ
 unfolding ofBits add sub mul div neg lt le eq round ofInt fold any every count nth lookup distance whole scaleCost has stopPosition goal inGroup
     someoneWaits riderlessCall riddenTo hasDemand demandStop sweepRank riderCanBoard canExitHere servable onAboardPath pairIsUseful fairnessBonus
     withBonus sumAt waitTicksSum waitTicksSquaredSum intervenes doorCost extraDelay isAhead directionBonus weighted finiteRank travelTime
-    interveningStops riderDelay computeCost etdRank withPenalty withCoincidentCall rsrCostOf rsrRank scan best chosen leastTotal policy car sheet
+    interveningStops riderDelay computeCost etdRank withPenalty withCoincidentCall withLoad rsrCostOf rsrRank scan best chosen leastTotal policy car sheet
 everything = 0
 
 -- a car at 0 that sweeps up, and a stop at 1e-9

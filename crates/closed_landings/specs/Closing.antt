@@ -11,9 +11,10 @@ use Rattle.laws.specs.Folds.{any, any-next, any-cong}
 use Rattle.components.specs.Sheet.{Sheet}
 use Rattle.manifest.specs.World.{stopId, inGroup}
 use Rattle.manifest.specs.Manifest.{someoneWaits, riddenTo, riderlessCall, hasDemand, demandStop}
-use Rattle.assignment.specs.Pending.{serves, lineCapacity, capacityAt, weightAt, lineServed, coveredByCars, closedAt, covered, idle, idleBound, pending}
+use Rattle.assignment.specs.Pending.{serves, lineCapacity, capacityAt, weightAt, lineServed, coveredByCars, closedAt, covered, idle, idleBound}
+use Rattle.assignment.specs.Pending.{pending}
 
--- the rule of the first release, which knows of no closed landing
+-- the rule of a bench that knows of no closed landing
 unfoldable pub pendingOpen : Sheet → ℕ → Bool
 pendingOpen s j = demandStop s j && (idleBound s j || not (coveredByCars s j))
 

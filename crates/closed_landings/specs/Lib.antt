@@ -1,7 +1,7 @@
--- Theorems of request F-2, closed landings. Closing: what closing one landing more does. FirstReading: a byte string is read as before, or by the first
--- release refused with 4 at a record of kind 8. Under: a pass with another rule for the pending stops. AsBefore: so a sheet without kind 8 has the
--- answer and the buffers of before.
+-- Theorems of request F-2, closed landings. Closing: what closing one landing more does. SevenKinds: a bench of seven
+-- kinds reads a byte string as this one does, or refuses it with 4 at a record of kind 8. Under: a pass with another rule for the pending stops.
+-- AsBefore: so a sheet without kind 8 has the answer and the buffers of a bench of seven kinds.
 pub mod Closing
-pub mod FirstReading
+pub mod SevenKinds
 pub mod Under
 pub mod AsBefore

@@ -7,7 +7,7 @@ use Rattle.dispatch.specs.Waits.{fairnessBonus, withBonus, sumAt, waitTicksSum,
 use Rattle.etd.specs.Etd.{intervenes, doorCost, extraDelay, isAhead, directionBonus, weighted, travelTime, interveningStops, riderDelay, computeCost}
 use Rattle.etd.specs.Etd.{etdRank}
 use Rattle.dispatch.specs.FiniteRank.{finiteRank}
-use Rattle.rsr.specs.Rsr.{withPenalty, withCoincidentCall, rsrCostOf, rsrRank}
+use Rattle.rsr.specs.Rsr.{withPenalty, withCoincidentCall, withLoad, rsrCostOf, rsrRank}
 use Rattle.components.specs.Sheet.{Sheet}
 use Rattle.sweep.specs.Sweeps.{sweepCode}
 use Rattle.assignment.specs.Pending.{idleCars, pendingStops, columns}
@@ -25,5 +25,5 @@ pub record Passes (s : Sheet) (limit n m : ℕ) (cells : List ℕ) (total : ℕ)
 
 unfoldable pub pass : ℕ
 unfolding everything tabs fairnessBonus withBonus sumAt waitTicksSum waitTicksSquaredSum intervenes doorCost extraDelay isAhead directionBonus
-    weighted finiteRank travelTime interveningStops riderDelay computeCost etdRank withPenalty withCoincidentCall rsrCostOf rsrRank
+    weighted finiteRank travelTime interveningStops riderDelay computeCost etdRank withPenalty withCoincidentCall withLoad rsrCostOf rsrRank
 pass = 0

@@ -101,6 +101,15 @@ maxZero-size k x p = by (lt Num.zero x)
 side : (k m u d e : ℕ) → m * u ≤ k * d → m * u * e ≤ k * (d * e)
 side k m u d e h = le-trans (mul-le-mul-right e h) (le-of-eq (mul-assoc k d e))
 
+-- a sum that is rounded once
+pub sum-size : (k : ℕ) (s : Bool) (a : ℕ) (t : Bool) (b c : ℕ) → k < 1023 → 0 < c → a ≤ 2 ^ k * c → b ≤ 2 ^ k * c
+    → AtMost (2 ^ (k + 1)) (sum binary64 s a t b c)
+sum-size k s a t b c l pos h g =
+    let w : 2 ^ (k + 1) * c ≡ 2 ^ k * c + 2 ^ k * c = rw (pow-add 2 k 1) (omega (arith, mul-right-comm (2 ^ k) 2 c)) in
+    of-abs (2 ^ (k + 1)) (sum binary64 s a t b c)
+    (subst (λ (x : Float). AtMost (2 ^ (k + 1)) x) (sym (abs-sum s a t b c))
+    (round-size (k + 1) false (size (Bool·beq s t) a b) c (omega arith) pos (omega (arith, size-le (Bool·beq s t) a b))))
+
 pub plus-size : (k : ℕ) (x y : Float) → k < 1023 → AtMost (2 ^ k) x → AtMost (2 ^ k) y → AtMost (2 ^ (k + 1)) (plus x y)
 unfolding add
 plus-size k nan y l p q = absurd p
@@ -108,17 +117,9 @@ plus-size k (inf s) y l p q = absurd p
 plus-size k (fin s m e) nan l p q = absurd q
 plus-size k (fin s m e) (inf t) l p q = absurd q
 plus-size k (fin s m e) (fin t n d) l p q =
-    let a = m * up e * down d in
-    let b = n * up d * down e in
-    let c = down e * down d in
-    let h : a ≤ 2 ^ k * c = side (2 ^ k) m (up e) (down e) (down d) p in
-    let g : b ≤ 2 ^ k * c =
-    le-trans (side (2 ^ k) n (up d) (down d) (down e) q) (le-of-eq (ap (λ (j : ℕ). 2 ^ k * j) (mul-comm (down d) (down e)))) in
-    let w : 2 ^ (k + 1) * c ≡ 2 ^ k * c + 2 ^ k * c = rw (pow-add 2 k 1) (omega (arith, mul-right-comm (2 ^ k) 2 c)) in
-    of-abs (2 ^ (k + 1)) (sum binary64 s a t b c)
-    (subst (λ (x : Float). AtMost (2 ^ (k + 1)) x) (sym (abs-sum s a t b c))
-    (round-size (k + 1) false (size (Bool·beq s t) a b) c (omega arith) (mul-pos (down-pos e) (down-pos d))
-    (omega (arith, size-le (Bool·beq s t) a b))))
+    sum-size k s (m * up e * down d) t (n * up d * down e) (down e * down d) l (mul-pos (down-pos e) (down-pos d))
+    (side (2 ^ k) m (up e) (down e) (down d) p)
+    (le-trans (side (2 ^ k) n (up d) (down d) (down e) q) (le-of-eq (ap (λ (j : ℕ). 2 ^ k * j) (mul-comm (down d) (down e)))))
 
 pub minus-size : (k : ℕ) (x y : Float) → k < 1023 → AtMost (2 ^ k) x → AtMost (2 ^ k) y → AtMost (2 ^ (k + 1)) (minus x y)
 unfolding sub

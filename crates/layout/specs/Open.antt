@@ -9,7 +9,7 @@ use Rattle.components.specs.Codes.{kindOf, strategyOf, trafficOf, phaseOf, dire
 use Rattle.layout.specs.Offsets.{lastKind}
 use Rattle.layout.specs.Records.{policyOf, stopOf, lineOf, carOf, aboardOf, waitingOf, demandOf, sheetOf, limitOf}
 use Rattle.layout.specs.Refusals.{refusal2Head, refusal3, refusal6Empty, tailFits, refusal16, refusal2, refusal5, refusal6, seen, lastStop}
-use Rattle.layout.specs.Refusals.{refusal8Policy, refusal11Policy, refusal12, refusal15, refusal9Stop, refusal11Stop, refusal9Line}
+use Rattle.layout.specs.Refusals.{refusal8Policy, refusal11Policy, refusal12, refusal9Stop, refusal11Stop, refusal9Line}
 use Rattle.layout.specs.Refusals.{refusal10Line, refusal8Car, refusal9Car, refusal10Car, refusal11Car, refusal13, refusal8Aboard}
 use Rattle.layout.specs.Refusals.{refusal9Aboard, refusal10Aboard, refusal8Waiting, refusal9Waiting, refusal10Waiting, refusal11Waiting}
 use Rattle.layout.specs.Refusals.{refusal14, refusal9Demand, refusal10Demand, refusal9Closed, refusal10Closed}
@@ -18,7 +18,7 @@ use Rattle.layout.specs.Verdict.{pick, firstOf, recordRefusal, tailVerdi
 unfoldable pub reading : ℕ
 unfolding ofBits lt le eq neg any isPosition isSpeed isMass isThreshold isTickRate bitAt fieldAt has pastStops kindOf strategyOf trafficOf phaseOf
     directionOf modeOf lastKind policyOf stopOf lineOf carOf aboardOf waitingOf demandOf sheetOf limitOf refusal2Head refusal3 refusal6Empty
-    tailFits refusal16 refusal2 refusal5 refusal6 seen lastStop refusal8Policy refusal11Policy refusal12 refusal15 refusal9Stop refusal11Stop
+    tailFits refusal16 refusal2 refusal5 refusal6 seen lastStop refusal8Policy refusal11Policy refusal12 refusal9Stop refusal11Stop
     refusal9Line refusal10Line refusal8Car refusal9Car refusal10Car refusal11Car refusal13 refusal8Aboard refusal9Aboard refusal10Aboard
     refusal8Waiting refusal9Waiting refusal10Waiting refusal11Waiting refusal14 refusal9Demand refusal10Demand refusal9Closed refusal10Closed pick firstOf recordRefusal
     tailVerdict recordsVerdict verdict

@@ -4,10 +4,8 @@ use Prim.Native.Nat.{ℕ, _+_, _-_, _*_}
 use mathlib.Core.Bool.{Bool, true, false, not, _&&_, _||_, cond}
 use mathlib.Core.List.{List}
 use lib.Dec.{eqb, ltb, leb}
-use lib.Ieee.{lt}
 use lib.ListN.{length}
 use Rattle.laws.specs.Folds.{any}
-use Rattle.fp.specs.Num.{zero}
 use Rattle.fp.specs.Ranges.{isPosition, isSpeed, isMass, isThreshold, isTickRate}
 use Rattle.mask.specs.Mask.{pastStops}
 use Rattle.components.specs.declared.Kind.{Kind}
@@ -179,16 +177,6 @@ refusal11Policy f =
 -- "12, limit 0"
 unfoldable pub refusal12 : Fields → Bool
 refusal12 f = eqb (read f policy·limit) 0
-
--- "15, RSR with a load weight above 0"
-abbrev pub loadWeighed : Strategy → Fields → Bool
-loadWeighed Etd f = false
-loadWeighed Rsr f = lt zero (double f policy·w3)
-loadWeighed Scan f = false
-loadWeighed strategy.Unknown f = false
-
-unfoldable pub refusal15 : Fields → Bool
-refusal15 f = loadWeighed (strategyAt f) f
 
 -- ---- kind 2, stop
 

@@ -15,7 +15,7 @@ use Rattle.layout.specs.Offsets.{none, next, endOf}
 use Rattle.layout.specs.Records.{Fields, from}
 use Rattle.layout.specs.Refusals.{recordCount, kindAt, lengthAt, refusal2Head, refusal3, refusal6Empty, refusal16}
 use Rattle.layout.specs.Refusals.{refusal2, refusal4, refusal5, refusal6, refusal7}
-use Rattle.layout.specs.Refusals.{refusal8Policy, refusal11Policy, refusal12, refusal15, refusal9Stop, refusal11Stop, refusal9Line}
+use Rattle.layout.specs.Refusals.{refusal8Policy, refusal11Policy, refusal12, refusal9Stop, refusal11Stop, refusal9Line}
 use Rattle.layout.specs.Refusals.{refusal10Line}
 use Rattle.layout.specs.Refusals.{refusal8Car, refusal9Car, refusal10Car, refusal11Car, refusal13, refusal8Aboard, refusal9Aboard}
 use Rattle.layout.specs.Refusals.{refusal10Aboard}
@@ -35,7 +35,7 @@ headRules s = (2, refusal2Head s) ∷ (3, refusal3 s) ∷ []
 module _ (s : List ℕ) (c : Counts) where
   -- the numbers from 8 on, by kind
   abbrev pub bodyRules : Kind → Fields → List Rule
-  bodyRules Policy f = (8, refusal8Policy f) ∷ (11, refusal11Policy f) ∷ (12, refusal12 f) ∷ (15, refusal15 f) ∷ []
+  bodyRules Policy f = (8, refusal8Policy f) ∷ (11, refusal11Policy f) ∷ (12, refusal12 f) ∷ []
   bodyRules Stop f = (9, refusal9Stop s c f) ∷ (11, refusal11Stop f) ∷ []
   bodyRules Line f = (9, refusal9Line s c f) ∷ (10, refusal10Line c f) ∷ []
   bodyRules Car f = (8, refusal8Car f) ∷ (9, refusal9Car s c f) ∷ (10, refusal10Car s c f) ∷ (11, refusal11Car f) ∷ (13, refusal13 f) ∷ []

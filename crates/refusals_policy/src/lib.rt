@@ -1,9 +1,9 @@
-// The refusals of a policy record: 8, 11, 12, 15.
+// The refusals of a policy record: 8, 11, 12.
 ghost use mathlib.Core.Path.{_≡_};
 ghost use Rattle.components.specs.declared.Kind.the-variants.{Policy};
 ghost use Rattle.layout.specs.Offsets.{endOf, Small};
 ghost use Rattle.layout.specs.Records.{from};
-ghost use Rattle.layout.specs.Refusals.{unusedWeights, refusal8Policy, refusal11Policy, refusal15};
+ghost use Rattle.layout.specs.Refusals.{unusedWeights, refusal8Policy, refusal11Policy};
 ghost use Rattle.layout.specs.Verdict.{bodyRefusal};
 use components::Strategy;
 use layout::Counts;
@@ -50,28 +50,14 @@ fn out_of_range(s: &[u8], at: u32) -> bool
     !(rate & (w0 & (w1 & (w2 & (w3 & (w4 & w5))))))
 }
 
-// 15: RSR with a load weight above 0.
-fn load_weighed(s: &[u8], at: u32) -> bool
-    ensures { λ r. ⌜ r ≡ refusal15 (from (now (s .entry)) at) ⌝ }
-{
-    let strategy = Strategy::of_code(bits::field(s, at, policy::STRATEGY, 2));
-    let load = records::double_at(s, at, policy::W3);
-    match strategy {
-        Strategy::Etd => false,
-        Strategy::Rsr => 0.0 < load,
-        Strategy::Scan => false,
-        Strategy::Unknown => false,
-    }
-}
-
-// Kind 1: 8, 11, 12, 15.
+// Kind 1: 8, 11, 12.
 pub fn policy_refusal(s: &[u8], c: Counts) -> u32
     requires { ⌜ Small c ⌝ }
     ensures { λ r. ⌜ r ≡ bodyRefusal (now (s .entry)) c Policy (from (now (s .entry)) (endOf c)) ⌝ }
 {
     let at = c.end_of();
     let none = bits::field(s, at, policy::LIMIT, 16) == 0;
-    let late = pick(none, 12, pick(load_weighed(s, at), 15, 0));
+    let late = pick(none, 12, 0);
     pick(
         unused_weights(s, at),
         8,

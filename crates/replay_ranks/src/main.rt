@@ -6,31 +6,10 @@
 // each, and row by row for each pair 8 bits that are 1 where there is a rank, and its 64 bits; these are 0 where there is none, and for a zero of
 // either sign, which the Rust leaves open. The most significant byte comes first.
 //
-// 176 sheets are small and tell a faulty pass from the right one or come from the profiles; 48 have 100 pairs or more each. The pairs:
-//                                                           ETD    RSR   SCAN
-//     all                                                 2,129  2,109  2,252
-//     without a rank                                        892    959  1,278
-//     of rank zero                                          180    220     53
-//     of a rank above zero                                1,057    930    921
-//     car and stop within 1e-9 of each other, not equal     276    249    202
-//     two pending stops within 1e-9, not equal              856    628    762
-//     car and stop at equal positions                       137    111    124
-//     two pending stops at equal positions                  490    394    489
-//     car or stop at -0.0                                    54     88     59
-//     another -0.0                                          299    201    145
-//     a rider aboard bound for an unknown stop              149     91    190
-//     a waiting rider bound for an unknown stop             154    139    105
-//     the threshold of the car's way at its load ratio       90     49     33
-//     capacity 0                                            127     50     97
-//     a policy weight of 0 (SCAN reads none)              1,485    869
-//     a policy weight of 1,000,000,000                      248    468
-//     a waiting rider of weight 0                           160    124    132
-//     a waiting rider of weight 1,000,000,000                39     39     28
-//     a waiting rider with 2^53 wait ticks                   82    116    103
+// tools/oracle/README.md counts what the 257 sheets show: 8,344 pairs, 3,797 with a rank above zero.
 //
-// A rank that differs shows. With the last bit of the list's first rank changed, in byte 342, the program prints
-//     the case at byte 0: car 0 stop 1 got 4024000000000000, expected 4024000000000001
-//     224 sheets, 6490 ranks compared, 1 differ
+// A rank that differs shows: with the last bit of the list's first rank changed, the program prints its car and stop, both ranks, and at the end
+//     257 sheets, 8344 ranks compared, 1 differ
 use components::Rank;
 use layout::Counts;
 use layout::Reading;

@@ -1,8 +1,9 @@
--- RSR: rsr.rs, with its order of operations. Its load term is 0 in every accepted sheet (refusal 15). Assumes nothing.
+-- RSR: rsr.rs, with its order of operations. Assumes nothing.
 use Prim.Native.Nat.{ℕ}
 use mathlib.Core.Bool.{Bool, true, false, not, _&&_, _||_, cond}
 use lib.Ieee.{Float, lt, le}
 use Rattle.fp.specs.Num.{zero, one, plus, minus, times, over, maxZero, distance}
+use Rattle.multiply_add.specs.MulAdd.{mulAdd}
 use Rattle.mask.specs.Mask.{has}
 use Rattle.components.specs.declared.Car.{Car}
 use Rattle.components.specs.declared.Policy.{Policy}
@@ -12,6 +13,7 @@ use Rattle.components.specs.declared.Traffic.{Traffic}
 use Rattle.components.specs.declared.Traffic.the-variants as traffic
 use Rattle.components.specs.declared.Rank.{Rank}
 use Rattle.components.specs.declared.Rank.the-variants.{Never}
+use Rattle.components.specs.Cars.{isIdle}
 use Rattle.components.specs.Sheet.{Sheet}
 use Rattle.manifest.specs.World.{stopAt, goal}
 use Rattle.dispatch.specs.Useful.{pairIsUseful}
@@ -40,18 +42,26 @@ withPenalty cost weight scaling wrong = cond (lt zero weight && wrong) (plus cos
 unfoldable pub withCoincidentCall : Float → Float → Bool → Float
 withCoincidentCall cost weight call = cond (lt zero weight && call) (minus cost weight) cost
 
--- compute_cost: eta, wrong direction, coincident call, age; of a car that moves to goal, for a stop at p where so many ticks were waited, and for
+-- document 02, F-3: "the load ratio, held to 0 and 1"
+unfoldable pub heldRatio : Float → Float
+heldRatio x = cond (lt x zero) zero (cond (lt one x) one x)
+
+-- "times the weight plus the running cost, the exact value rounded once to nearest, ties to even", where the weight is above 0 and the car is not in
+-- phase idle. "A car of capacity 0 is treated as rsr.rs treats it": it has no such term
+unfoldable pub withLoad : Float → Float → Bool → Float → Float → Float
+withLoad cost weight idle load capacity =
+    cond (lt zero weight && (not idle && lt zero capacity)) (mulAdd weight (heldRatio (over load capacity)) cost) cost
+
+-- compute_cost: eta, wrong direction, coincident call, load, age; of a car that moves to goal, for a stop at p where so many ticks were waited, and for
 -- which the car has a call, or not
 unfoldable pub rsrCostOf : Policy → Car → Place → Float → Bool → Float → Float
 rsrCostOf y c goal waited call p =
-    maxZero
-    (withBonus
-    (withCoincidentCall
-    (withPenalty
-    (times (y .w0) (over (distance (c .position) p) (c .speed)))
-    (y .w1) (peakScaling (y .traffic) (y .w5)) (wrongDirection goal (c .position) p))
-    (y .w2) call)
-    (y .w4) waited)
+    let eta = times (y .w0) (over (distance (c .position) p) (c .speed)) in
+    let reversed = withPenalty eta (y .w1) (peakScaling (y .traffic) (y .w5)) (wrongDirection goal (c .position) p) in
+    let called = withCoincidentCall reversed (y .w2) call in
+    let loaded = withLoad called (y .w3) (isIdle (c .phase)) (c .load) (c .capacity) in
+    let aged = withBonus loaded (y .w4) waited in
+    maxZero aged
 
 -- ---- over a sheet
 

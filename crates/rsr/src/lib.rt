@@ -1,9 +1,9 @@
-// RSR: rsr.rs, without its load term.
+// RSR: rsr.rs.
 ghost use mathlib.Core.Path.{_≡_};
 ghost use Prim.Native.Nat.{_≤_, _<_};
 ghost use lib.ListN.{length};
 ghost use Rattle.components.specs.declared.Place.the-variants.{At};
-ghost use Rattle.rsr.specs.Rsr.{wrongDirection, peakScaling, withPenalty, withCoincidentCall, rsrCostOf};
+ghost use Rattle.rsr.specs.Rsr.{wrongDirection, peakScaling, withPenalty, withCoincidentCall, heldRatio, withLoad, rsrCostOf};
 ghost use Rattle.rsr.specs.Pairs.{rankBy};
 use components::Car;
 use components::Place;
@@ -64,6 +64,27 @@ fn with_coincident_call(cost: f64, weight: f64, call: bool) -> f64
     }
 }
 
+// A load ratio, held to 0 and 1.
+fn held_ratio(x: f64) -> f64
+    ensures { λ r. ⌜ r ≡ heldRatio x ⌝ }
+{
+    if x < 0.0 {
+        return 0.0;
+    }
+    if 1.0 < x { 1.0 } else { x }
+}
+
+// The load term, where its weight is above 0, the car is not in phase idle and its capacity is above 0. It is rounded once.
+fn with_load(cost: f64, weight: f64, idle: bool, load: f64, capacity: f64) -> f64
+    ensures { λ r. ⌜ r ≡ withLoad cost weight idle load capacity ⌝ }
+{
+    if (0.0 < weight) & (!idle & (0.0 < capacity)) {
+        multiply_add::mul_add(weight, held_ratio(load / capacity), cost)
+    } else {
+        cost
+    }
+}
+
 // The cost of a stop at p for which the car has a call, or not.
 fn compute_cost(policy: Policy, car: Car, goal: Place, waiters: Waiters, call: bool, p: f64) -> f64
     ensures { λ r. ⌜ r ≡ rsrCostOf policy car goal (waiters .waitsum) call p ⌝ }
@@ -75,7 +96,9 @@ fn compute_cost(policy: Policy, car: Car, goal: Place, waiters: Waiters, call: b
     let wrong = wrong_direction(goal, x, p);
     let reversed = with_penalty(eta, policy.w1, scaling, wrong);
     let called = with_coincident_call(reversed, policy.w2, call);
-    let aged = dispatch::with_bonus(called, policy.w4, waiters.waitsum);
+    let phase = car.phase;
+    let loaded = with_load(called, policy.w3, phase.is_idle(), car.load, car.capacity);
+    let aged = dispatch::with_bonus(loaded, policy.w4, waiters.waitsum);
     fp::max_zero(aged)
 }
 

@@ -298,6 +298,57 @@ mod tests {
         assert_eq!(cells(&s), [35_000_000]);
     }
 
+    /// Document 02's load term: eta 1 and travel 5, weight 3. A full car has a rank where a rider gets off.
+    #[test]
+    fn load_term() {
+        let mut s = one_car(RSR, &[10.0]);
+        s.policy.weights = [1.0, 0.0, 0.0, 3.0, 0.0, 0.0];
+        let cell = |s: &Sheet| {
+            let cells = cells(s);
+            assert_eq!(cells, paper::answered(s).cells);
+            cells[0]
+        };
+        assert_eq!(cell(&s), 5_000_000);
+        s.cars[0].load = 50.0;
+        assert_eq!(cell(&s), 6_500_000);
+        s.cars[0].phase = 0;
+        assert_eq!(cell(&s), 5_000_000);
+        s.cars[0].phase = 4;
+        assert_eq!(cell(&s), 6_500_000);
+        s.policy.weights[3] = 0.0;
+        assert_eq!(cell(&s), 5_000_000);
+        s.policy.weights[3] = 3.0;
+        s.cars[0].load = 100.0;
+        assert_eq!(cell(&s), SENTINEL as u64);
+        s.aboard.push(Aboard {
+            car: 1,
+            destination: Some(1),
+        });
+        for (capacity, load, wanted) in [
+            (100.0, 100.0, 8_000_000),
+            (100.0, 300.0, 8_000_000),
+            (5e-324, 1e9, 8_000_000),
+            (0.0, 300.0, 5_000_000),
+            (0.0, 0.0, 5_000_000),
+        ] {
+            (s.cars[0].capacity, s.cars[0].load) = (capacity, load);
+            assert_eq!(cell(&s), wanted, "{load} of {capacity}");
+        }
+        // After the call's bonus, which may go below 0, and before the age, which stops at 0.
+        (s.cars[0].capacity, s.cars[0].load) = (100.0, 50.0);
+        (s.policy.weights[2], s.cars[0].calls) = (6.0, mask_bit(0));
+        assert_eq!(cell(&s), 500_000);
+        s.policy.weights[4] = 1.0;
+        s.waiting.push(Waiting {
+            stop: 1,
+            line: None,
+            destination: None,
+            weight: 1.0,
+            wait: 7,
+        });
+        assert_eq!(cell(&s), 0);
+    }
+
     /// 60 + 40 against 100 is covered, 60 + 41 isn't.
     #[test]
     fn coverage_of_document_01() {

@@ -9,6 +9,7 @@ use sheetgen::{Refusal, Sheet, describe, read};
 use crate::answer::{Answer, Pass, Source, answer, by_covering};
 use crate::bench::{Bench, Has, KEPT, Lent, Places};
 use crate::choice;
+use crate::paper::{self, weighs_loads};
 use crate::rust_pass::Rust;
 
 #[derive(Clone, Debug)]
@@ -49,11 +50,15 @@ pub struct Tally {
     /// Passes whose cells and decisions the Rust gave, those where document 01 alone does, and those of sheets with
     /// closed landings, by src/paper.rs.
     pub rust_passes: u64,
+    /// Of the first, those of RSR with a load weight.
+    pub load_passes: u64,
     pub document_passes: u64,
     pub closed_passes: u64,
     pub cells: u64,
     /// Pending stops whose ids the Rust gave.
     pub pending: u64,
+    /// Ranks whose bits the Rust gave.
+    pub ranks: u64,
     /// Refusals by number.
     pub numbers: [u64; 17],
 }
@@ -118,7 +123,24 @@ impl<'a> Comparison<'a> {
         if self.has.pending && found.is_none() {
             found = self.pending(bytes, &right);
         }
+        if self.covering && found.is_none() && refusal.is_none() {
+            found = self.ranks(&Sheet::of_accepted(bytes));
+        }
         found
+    }
+
+    /// The ranks of the definitions by their 64 bits, but for the sign of a zero, which the Rust leaves open; of sheets without
+    /// closed landings.
+    fn ranks(&mut self, sheet: &Sheet) -> Option<Difference> {
+        if !sheet.closed.is_empty() {
+            return None;
+        }
+        let bits = |rank: Option<f64>| rank.map(|cost| (cost + 0.0).to_bits());
+        let ranks = self.rust.pass(sheet, true).ranks;
+        let right: Vec<_> = ranks.iter().map(|rank| bits(rank.2)).collect();
+        let found: Vec<_> = paper::ranks(sheet).into_iter().map(bits).collect();
+        self.tally.ranks += right.iter().flatten().count() as u64;
+        (right != found).then(|| differ("pass: ranks", right, found))?
     }
 
     /// The answer to an accepted sheet.
@@ -224,7 +246,10 @@ impl<'a> Comparison<'a> {
                 }
                 let found = self.passed(pass, &fresh, &lent);
                 match pass.source {
-                    Source::Rust => self.tally.rust_passes += 1,
+                    Source::Rust => {
+                        self.tally.rust_passes += 1;
+                        self.tally.load_passes += u64::from(weighs_loads(bytes));
+                    }
                     Source::Document => self.tally.document_passes += 1,
                     Source::Model => self.tally.closed_passes += 1,
                 }
@@ -423,7 +448,7 @@ pub fn library(bench: &mut dyn Bench, seed: u64, count: u64, only: Option<&str>)
     any && run(bench, (seed, count), only, false)
 }
 
-/// The definitions against the Rust: pending stops, cells and sweeps of accepted sheets. Refusals and choices come
+/// The definitions against the Rust: pending stops, ranks, cells and sweeps of accepted sheets. Refusals and choices come
 /// from one source here, so they aren't compared. A closed landing is one that further cars cover in the Rust.
 pub fn papers(seed: u64, count: u64, only: Option<&str>) -> bool {
     use crate::paper::{Fault, Paper};
@@ -464,15 +489,21 @@ fn run(
             };
             let found = sheets(&mut c, profile, seed, count);
             let t = &c.tally;
+            let ranks = match covering {
+                true => format!("{} ranks, ", t.ranks),
+                false => String::new(),
+            };
             let seconds = start.elapsed().as_secs_f64();
             let numbers: Vec<String> = (2..17)
                 .filter(|k| t.numbers[*k] > 0)
                 .map(|k| format!("{k}:{}", t.numbers[k]))
                 .collect();
             println!(
-                "{name}: {} sheets, {} with cells of the Rust, {} with closed landings by the definitions ({} cells), {} of document 01 alone, {} pending stops, refused {} in {seconds:.1} s",
+                "{name}: {} sheets, {} with cells of the Rust ({} of RSR with a load weight), {} with closed landings by the \
+                 definitions ({} cells), {} of document 01 alone, {ranks}{} pending stops, refused {} in {seconds:.1} s",
                 t.sheets,
                 t.rust_passes,
+                t.load_passes,
                 t.closed_passes,
                 t.cells,
                 t.document_passes,
@@ -637,9 +668,13 @@ pub fn survey(seed: u64, count: u64) {
 /// Demand 3 by running: of two sheets that differ in the limit alone, the one with the higher limit has no
 /// higher total. True where that held.
 pub fn limits(seed: u64, count: u64) -> bool {
-    [("limits", Profile::Limits), ("closed", Profile::Closed)]
-        .into_iter()
-        .all(|(name, profile)| limits_of(name, profile, seed, count))
+    let profiles = [
+        ("limits", Profile::Limits),
+        ("load", Profile::Load),
+        ("closed", Profile::Closed),
+    ];
+    let mut profiles = profiles.into_iter();
+    profiles.all(|(name, profile)| limits_of(name, profile, seed, count))
 }
 
 fn limits_of(name: &str, profile: Profile, seed: u64, count: u64) -> bool {
@@ -672,14 +707,10 @@ fn limits_of(name: &str, profile: Profile, seed: u64, count: u64) -> bool {
 }
 
 /// "A bench of the first release refuses such a sheet, by 4 where nothing earlier is wrong": the reader of that release's
-/// library on sheets with kind 8, and on the others as now. True where that held.
+/// library on sheets with kind 8, on RSR's with a load weight, which it refuses by 15, and on the others as now. True where
+/// that held.
 pub fn first_release(bench: &mut dyn Bench, seed: u64, count: u64) -> bool {
-    use crate::paper::{Fault, Paper};
-    let mut first = Paper {
-        fault: Fault::ClosedUnknown,
-        whole: true,
-    };
-    let (mut closed, mut others) = (0u64, 0u64);
+    let (mut closed, mut loads, mut others) = (0u64, 0u64, 0u64);
     for (name, profile) in PROFILES {
         let count = match profile {
             Profile::Full => count.div_ceil(20),
@@ -687,21 +718,23 @@ pub fn first_release(bench: &mut dyn Bench, seed: u64, count: u64) -> bool {
         };
         for index in 0..count {
             let bytes = generate(profile, seed, index);
-            let (expected, found) = (first.read(&bytes), bench.read(&bytes));
+            let expected = crate::paper::of_first_release(&bytes).unwrap_or((0, KEPT));
+            let found = bench.read(&bytes);
             if expected != found {
                 println!(
                     "{name}, seed {seed}, number {index}: expected {expected:?}, found {found:?}"
                 );
                 return false;
             }
-            match expected.0 == 4 && read(&bytes).is_none_or(|now| now.number != 4) {
-                true => closed += 1,
-                false => others += 1,
+            match expected.0 {
+                4 if read(&bytes).is_none_or(|now| now.number != 4) => closed += 1,
+                15 => loads += 1,
+                _ => others += 1,
             }
         }
     }
     println!(
-        "{closed} sheets refused by 4 at their first record of kind 8; {others} others answered as now"
+        "{closed} sheets refused by 4 at their first record of kind 8, {loads} of RSR by 15 for their load weight; {others} others answered as now"
     );
     true
 }

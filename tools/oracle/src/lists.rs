@@ -125,6 +125,7 @@ fn edges(cases: &mut Cases) {
         cases.add(longer);
     }
     closures(cases);
+    load_weights(cases);
     // The last demand record of 1 to 8 ends at every bit of a byte but for its tail.
     for stops in 1..=8 {
         let mut s = Sheet::new(sheetgen::sheet::SCAN);
@@ -142,6 +143,19 @@ fn edges(cases: &mut Cases) {
             set[bit / 8] |= 0x80 >> (bit % 8);
             cases.add(set);
         }
+    }
+}
+
+/// RSR's load weight, which the first release refused by 15: inside of its range and outside, and with the limit 0.
+fn load_weights(cases: &mut Cases) {
+    let inside = [0.0, -0.0, 5e-324, 3.0, 1e9];
+    let outside = [-5e-324, -3.0, 1_000_000_000.000_000_1, f64::NAN];
+    for load in inside.into_iter().chain(outside) {
+        let mut s = Sheet::new(RSR);
+        s.policy.weights[3] = load;
+        cases.add(s.write());
+        s.policy.limit = 0;
+        cases.add(s.write());
     }
 }
 
@@ -297,7 +311,13 @@ fn telling(seed: u64, count: u64, each: usize) -> Cases {
             ) {
                 continue;
             }
-            if fault.is_of_closures() != (profile == Profile::Closed) {
+            let is_shown = match profile {
+                Profile::Closed => fault.is_of_closures(),
+                Profile::Load => fault.is_of_loads(),
+                Profile::Valid | Profile::Extreme | Profile::Fine => !fault.is_of_closures(),
+                _ => !fault.is_of_closures() && !fault.is_of_loads(),
+            };
+            if !is_shown {
                 continue;
             }
             // Of closed landings, a sheet of each strategy that shows the fault.
@@ -361,6 +381,7 @@ pub fn passes(seed: u64) -> (Vec<u8>, usize) {
         put(&mut list, case);
         put_pass(&mut list, &pass);
     }
+    assert!(list.len() <= 131_072, "longer than replay_passes's buffer");
     (list, cases.len())
 }
 
@@ -539,6 +560,11 @@ pub fn pairs(seed: u64) -> (Vec<u8>, usize) {
         let profiles = PROFILES.len() - usize::from(strategy == SCAN);
         for raise in 0..RAISES.len() {
             for (k, profile) in PROFILES.into_iter().enumerate().take(profiles) {
+                // Of RSR, loads in the stead of coverage, which no strategy has a part in.
+                let profile = match profile {
+                    Profile::Cover if strategy == RSR => Profile::Load,
+                    profile => profile,
+                };
                 let mut add = |falls, cars, length| {
                     let wanted = Wanted {
                         strategy,
@@ -656,14 +682,29 @@ impl<'a> Pair<'a> {
         self.sheet.waiting.iter().filter(here).any(test)
     }
 
-    /// A policy weight that the strategy reads and that a sheet may choose.
+    /// A policy weight that the strategy reads.
     fn weight(&self, test: impl Fn(f64) -> bool) -> bool {
         let read: &[usize] = match self.sheet.policy.strategy {
             ETD => &[0, 1, 2, 3, 4],
-            RSR => &[0, 1, 2, 4, 5],
+            RSR => &[0, 1, 2, 3, 4, 5],
             _ => &[],
         };
         read.iter().any(|k| test(self.sheet.policy.weights[*k]))
+    }
+
+    /// RSR has a load weight, and the car a load and is not in phase idle: its ratio, where it has a capacity.
+    fn load_ratio(&self) -> Option<f64> {
+        let weighed = self.sheet.policy.strategy == RSR && self.sheet.policy.weights[3] > 0.0;
+        let counts = weighed && self.car.phase != 0 && self.car.load > 0.0;
+        (counts && self.car.capacity > 0.0).then(|| self.car.load / self.car.capacity)
+    }
+
+    /// The load takes nearly all of what the call bonus has left of the cost.
+    fn load_cancels(&self) -> bool {
+        let ratio = self.load_ratio().map(|ratio| ratio.clamp(0.0, 1.0));
+        let part = ratio.map_or(0.0, |ratio| self.sheet.policy.weights[3] * ratio);
+        self.rank
+            .is_some_and(|cost| cost > 0.0 && cost < part / 1000.0)
     }
 
     /// The threshold of the direction that the car moves in.
@@ -683,8 +724,26 @@ impl<'a> Pair<'a> {
 type Rank = (u32, u32, Option<f64>);
 type Shows = fn(&Pair) -> bool;
 
-/// What pairs are counted by.
-const FEATURES: [(&str, Shows); 15] = [
+/// What pairs are counted by; the load term is at this place.
+const LOAD_TERM: usize = 0;
+const FEATURES: [(&str, Shows); 20] = [
+    ("a load term above zero", |p| {
+        p.load_ratio().is_some_and(|ratio| ratio > 0.0)
+    }),
+    ("a load ratio above 1, held to it", |p| {
+        p.load_ratio().is_some_and(|ratio| ratio > 1.0)
+    }),
+    ("a load term of a subnormal capacity or weight", |p| {
+        let least = p.car.capacity.min(p.sheet.policy.weights[3]);
+        p.load_ratio().is_some() && least < f64::MIN_POSITIVE
+    }),
+    ("a load term a thousand times the rank and more", |p| {
+        p.load_cancels()
+    }),
+    ("a load that counts for nothing in phase idle", |p| {
+        let weighed = p.sheet.policy.strategy == RSR && p.sheet.policy.weights[3] > 0.0;
+        weighed && p.car.phase == 0 && p.car.load > 0.0 && p.car.capacity > 0.0
+    }),
     ("car and stop within 1e-9 of each other, not equal", |p| {
         near(p.car.position, p.stop.position)
     }),
@@ -814,26 +873,30 @@ impl Ranked {
 
 /// Sheets of a strategy with at least 100 pairs each: of each profile the one with the most different ranks; for each
 /// feature that fewer than 40 ranks above zero show, the one in which most do; and of the profiles in turn the one
-/// with the most different ranks among those left, until there are 2,000 pairs.
+/// with the most different ranks among those left, until there are 2,000 pairs. The profile load is RSR's; of it those follow
+/// in which most ranks above zero have a load term above zero, until 1,000 have.
 fn crowds(rust: &mut Rust, strategy: u8, seed: u64) -> Vec<Ranked> {
-    const PROFILES: [Profile; 5] = [
+    const PROFILES: [Profile; 6] = [
         Profile::Valid,
         Profile::Ties,
         Profile::Near,
         Profile::Extreme,
         Profile::Fine,
+        Profile::Load,
     ];
     const LARGEST: usize = 2000;
-    let mut left: Vec<Vec<Ranked>> = PROFILES
+    let profiles = PROFILES.len() - usize::from(strategy != RSR);
+    let mut left: Vec<Vec<Ranked>> = PROFILES[..profiles]
+        .iter()
         .map(|profile| {
             (0..1000)
-                .map(|index| crowded(profile, strategy, seed, index).write())
+                .map(|index| crowded(*profile, strategy, seed, index).write())
                 .filter(|bytes| bytes.len() <= LARGEST)
                 .map(|bytes| Ranked::new(rust, bytes))
                 .filter(|ranked| ranked.pass.ranks.len() >= 100)
                 .collect()
         })
-        .into();
+        .collect();
     for found in &mut left {
         found.sort_by_key(|ranked| std::cmp::Reverse(ranked.different()));
     }
@@ -865,6 +928,12 @@ fn crowds(rust: &mut Rust, strategy: u8, seed: u64) -> Vec<Ranked> {
         }
         choose(left[k].remove(0), &mut tally);
     }
+    while strategy == RSR && tally.shown[LOAD_TERM].1 < 1000 {
+        let loads = &mut left[profiles - 1];
+        let shown = |i: &usize| loads[*i].tally().shown[LOAD_TERM].1;
+        let most = (0..loads.len()).max_by_key(shown).unwrap();
+        choose(loads.remove(most), &mut tally);
+    }
     chosen
 }
 
@@ -886,6 +955,8 @@ pub fn ranks(seed: u64) -> (Vec<u8>, usize) {
         case.put(&mut list);
         case.count(&mut tallies[usize::from(case.sheet.policy.strategy)]);
     }
+    assert!(list.len() <= 262_144, "longer than replay_ranks's buffer");
+    assert!(tallies[usize::from(RSR)].shown[LOAD_TERM].1 >= 1000);
     print_tallies(&tallies);
     (list, cases.len())
 }

@@ -28,7 +28,7 @@ oracle selftest [COUNT [FAULT]]
 oracle time LIBRARY [ROUNDS]   from bytes to decisions, the bench beside the Rust, in microseconds a sheet
 oracle limits SEED COUNT       a higher limit never raises the total, by the Rust, and with closed landings by the definitions
 oracle first LIBRARY SEED COUNT
-                               the first release refuses closed landings by 4; LIBRARY is its shared object
+                               the first release refuses closed landings by 4 and load weights by 15; LIBRARY is its shared object
 oracle survey SEED COUNT       what the sheets of each profile are like
 oracle list refusals|passes|pairs|ranks SEED FILE
                                writes a fixed list

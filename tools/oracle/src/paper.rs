@@ -1,9 +1,10 @@
 //! The pass as document 01 defines it, apart from the published Rust: group, demand, coverage, the candidate
 //! cut by counting, ranks, cells. Compared with the Rust it shows that document 01 says what the Rust does. With
-//! document 02's closed landings, which the Rust does not have, it is what a bench is held to.
+//! document 02's closed landings, which the Rust does not have, it is what a bench is held to. RSR's load term is
+//! document 02's too; the Rust has it.
 //! Each fault below changes one place of it; the comparison must find every one of them out.
 
-use sheetgen::sheet::{ETD, NO_LIMIT, RSR, SCAN, mask_bit};
+use sheetgen::sheet::{ETD, HEAD_BITS, NO_LIMIT, RECORD_HEAD_BITS, RSR, SCAN, mask_bit};
 use sheetgen::{Car, Sheet, Waiting, bits, read};
 
 use crate::answer::{self, SENTINEL};
@@ -157,6 +158,24 @@ faults! {
     ClosedNotAhead
     /// A closed stop is the one at its id's place.
     ClosedByPlace
+    /// RSR with a load weight is refused by 15, as in the first release.
+    LoadRefused
+    /// The load term is left out.
+    LoadIgnored
+    /// The load's part is rounded before it is added.
+    LoadRoundedTwice
+    /// A load ratio above 1 counts as it is.
+    LoadUnclamped
+    /// The load term counts in phase idle too.
+    LoadInPhaseIdle
+    /// The load term counts where the capacity is 0 too.
+    LoadWithoutCapacity
+    /// The load term comes before the coincident call.
+    LoadBeforeCall
+    /// The load term comes after the age term.
+    LoadAfterAge
+    /// The ratio is that of what is left to the capacity.
+    LoadOfRemaining
 }
 
 impl Fault {
@@ -175,6 +194,54 @@ impl Fault {
                 | Fault::ClosedByPlace
         )
     }
+
+    /// Only a sheet of RSR with a load weight shows it.
+    pub fn is_of_loads(self) -> bool {
+        matches!(
+            self,
+            Fault::LoadRefused
+                | Fault::LoadIgnored
+                | Fault::LoadRoundedTwice
+                | Fault::LoadUnclamped
+                | Fault::LoadInPhaseIdle
+                | Fault::LoadWithoutCapacity
+                | Fault::LoadBeforeCall
+                | Fault::LoadAfterAge
+                | Fault::LoadOfRemaining
+        )
+    }
+}
+
+type Verdict = Option<(u32, u64)>;
+
+/// The first release gives 4 at the first record of kind 8, where `right` finds nothing earlier.
+fn closed_unknown(sheet: &[u8], right: Verdict) -> Verdict {
+    let found = sheetgen::generate::records(sheet).into_iter();
+    let mut closed = found.filter(|r| r.1 == 8).map(|r| r.0 as u64);
+    let first = closed.find(|at| right.is_none_or(|r| r.1 >= *at));
+    first.map(|at| (4, at)).or(right)
+}
+
+/// The policy of a sheet, which must be whole, is RSR's and has a load weight above 0.
+pub fn weighs_loads(sheet: &[u8]) -> bool {
+    let body = HEAD_BITS + RECORD_HEAD_BITS;
+    let load = || f64::from_bits(bits::get(sheet, body + 84 + 3 * 64, 64));
+    bits::get(sheet, body, 2) == u64::from(RSR) && load() > 0.0
+}
+
+/// The first release gives 15 at such a policy, where `right` finds nothing there or in the head.
+fn load_refused(sheet: &[u8], right: Verdict) -> Verdict {
+    let is_past = right.is_none_or(|r| r.1 > HEAD_BITS as u64);
+    match is_past && weighs_loads(sheet) {
+        true => Some((15, HEAD_BITS as u64)),
+        false => right,
+    }
+}
+
+/// The refusal of a bench of the first release.
+pub fn of_first_release(sheet: &[u8]) -> Verdict {
+    let now = read(sheet).map(|r| (r.number, r.offset));
+    load_refused(sheet, closed_unknown(sheet, now))
 }
 
 pub struct Paper {
@@ -185,19 +252,15 @@ pub struct Paper {
 
 impl Paper {
     /// The refusal with this bench's fault.
-    fn refusal(&self, sheet: &[u8]) -> Option<(u32, u64)> {
+    fn refusal(&self, sheet: &[u8]) -> Verdict {
         let right = read(sheet).map(|r| (r.number, r.offset));
         let kind = |at: u64| bits::get(sheet, at as usize, 6);
         match (self.fault, right) {
             (Fault::TailOffset, Some((16, at))) => Some((16, at - at.min(49))),
             (Fault::SecondDemand, Some((9, at))) if kind(at) == 7 => None,
             (Fault::SecondClosure, Some((9, at))) if kind(at) == 8 => None,
-            (Fault::ClosedUnknown, _) => {
-                let found = sheetgen::generate::records(sheet).into_iter();
-                let mut closed = found.filter(|r| r.1 == 8).map(|r| r.0 as u64);
-                let first = closed.find(|at| right.is_none_or(|r| r.1 >= *at));
-                first.map(|at| (4, at)).or(right)
-            }
+            (Fault::ClosedUnknown, _) => closed_unknown(sheet, right),
+            (Fault::LoadRefused, _) => load_refused(sheet, right),
             (Fault::EmptyCount, Some((6, 24))) if bits::get(sheet, 8, 16) == 0 => Some((2, 24)),
             (Fault::SecondPolicy, Some((7, at))) if kind(at) == 1 => Some((6, at)),
             (Fault::UnknownKindFirst, Some((2, at)))
@@ -748,11 +811,46 @@ impl<'a> Pass<'a> {
                     1.0
                 };
         }
+        if self.is(Fault::LoadBeforeCall) {
+            cost = self.loaded(c, cost);
+        }
         if w[2] > 0.0 && (nth(c.calls, j) || self.is(Fault::BonusWithoutCall)) {
             cost -= w[2];
         }
-        let cost = self.eased(cost, w[4], self.waits(j)).max(0.0);
+        if !self.is(Fault::LoadBeforeCall) && !self.is(Fault::LoadAfterAge) {
+            cost = self.loaded(c, cost);
+        }
+        cost = self.eased(cost, w[4], self.waits(j));
+        if self.is(Fault::LoadAfterAge) {
+            cost = self.loaded(c, cost);
+        }
+        let cost = cost.max(0.0);
         cost.is_finite().then_some(cost)
+    }
+
+    /// "the load ratio, held to 0 and 1, times the weight plus the running cost, the exact value rounded once to nearest, ties
+    /// to even", for a car that has a capacity and is not in phase idle.
+    fn loaded(&self, c: &Car, cost: f64) -> f64 {
+        let weight = self.sheet.policy.weights[3];
+        let counts = weight > 0.0
+            && (c.phase != 0 || self.is(Fault::LoadInPhaseIdle))
+            && (c.capacity > 0.0 || self.is(Fault::LoadWithoutCapacity))
+            && !self.is(Fault::LoadIgnored);
+        if !counts {
+            return cost;
+        }
+        let ratio = match self.fault {
+            Fault::LoadOfRemaining => (c.capacity - c.load) / c.capacity,
+            _ => c.load / c.capacity,
+        };
+        let ratio = match self.fault {
+            Fault::LoadUnclamped => ratio,
+            _ => ratio.clamp(0.0, 1.0),
+        };
+        match self.fault {
+            Fault::LoadRoundedTwice => weight * ratio + cost,
+            _ => weight.mul_add(ratio, cost),
+        }
     }
 
     fn scan(&self, c: &Car, sweep: u8, j: usize) -> Option<f64> {
@@ -789,18 +887,37 @@ impl<'a> Pass<'a> {
         whole.min(most as f64) as u64
     }
 
-    fn cell(&self, i: usize, j: usize) -> u64 {
+    fn rank(&self, i: usize, j: usize) -> Option<f64> {
         let c = &self.sheet.cars[i];
-        if !self.kept(c, j) {
-            return SENTINEL as u64;
-        }
-        let rank = match self.sheet.policy.strategy {
+        match self.sheet.policy.strategy {
             ETD => self.etd(c, j),
             RSR => self.rsr(c, j),
             _ => self.scan(c, self.sweeps[i], j),
+        }
+    }
+
+    fn cell(&self, i: usize, j: usize) -> u64 {
+        let rank = match self.kept(&self.sheet.cars[i], j) {
+            true => self.rank(i, j),
+            false => None,
         };
         rank.map_or(SENTINEL as u64, |cost| self.scale(cost))
     }
+
+    /// The places of the idle cars' records.
+    fn idle(&self) -> Vec<usize> {
+        let cars = 0..self.sheet.cars.len();
+        cars.filter(|i| self.sheet.cars[*i].idle).collect()
+    }
+}
+
+/// The rank of each idle car for each pending stop, kept by the limit or not, by the definitions alone.
+pub fn ranks(sheet: &Sheet) -> Vec<Option<f64>> {
+    let pass = Pass::new(Fault::None, sheet);
+    let pending = pass.pending_stops();
+    let of_car = |i: usize| pending.iter().map(move |j| (i, *j));
+    let pairs = pass.idle().into_iter().flat_map(of_car);
+    pairs.map(|(i, j)| pass.rank(i, j)).collect()
 }
 
 /// What a pass of an accepted sheet writes and answers, by the definitions alone.
@@ -863,9 +980,7 @@ impl Bench for Paper {
         }
         let sheet = Sheet::of_accepted(bytes);
         let pass = Pass::new(self.fault, &sheet);
-        let idle: Vec<usize> = (0..sheet.cars.len())
-            .filter(|i| sheet.cars[*i].idle)
-            .collect();
+        let idle = pass.idle();
         let pending = pass.pending_stops();
         let (n, m) = (idle.len(), pending.len());
         let columns = n.max(m);

@@ -41,7 +41,51 @@ fn stack_of(mut call: impl FnMut()) -> usize {
     PAINTED - kept
 }
 
-/// A line for each size and strategy.
+/// The sheets of RSR, whose idle-listed cars are half full and stopped, under this load weight.
+fn loaded(size: (&str, usize, usize, usize), count: u64, weight: f64) -> Vec<Vec<u8>> {
+    let (_, stops, cars, riders) = size;
+    let sheet = |i| {
+        let mut sheet = sheetgen::generate::sized(1, stops, cars, riders, 7, i);
+        sheet.policy.weights[3] = weight;
+        for car in sheet.cars.iter_mut().filter(|c| c.idle) {
+            (car.phase, car.stop, car.target) = (6, 0, None);
+            car.load = car.capacity / 2.0;
+        }
+        sheet.write()
+    };
+    (0..count).map(sheet).collect()
+}
+
+/// A line for each size: RSR with the load's part beside the same sheets with a load weight of 0, the rounds in turn.
+fn load_table(bench: &mut dyn Bench, rounds: usize) {
+    let mut lent = Lent::new(32, 2048, 32);
+    println!("RSR          load weight 3 us   load weight 0 us   ratio");
+    for size in SIZES {
+        let count = if size.0 == "full" { 40 } else { 400 };
+        let (with, without) = (loaded(size, count, 3.0), loaded(size, count, 0.0));
+        let mut timed = |sheets: &[Vec<u8>]| {
+            let began = Instant::now();
+            for sheet in sheets {
+                assert_eq!(bench.pass(sheet, &mut lent), 0);
+            }
+            began.elapsed()
+        };
+        let (mut ours, mut plain) = (Duration::MAX, Duration::MAX);
+        for _ in 0..rounds {
+            ours = ours.min(timed(&with));
+            plain = plain.min(timed(&without));
+        }
+        println!(
+            "{:<13}{:16.2}{:19.2}{:8.2}",
+            size.0,
+            micros(ours, with.len()),
+            micros(plain, with.len()),
+            ours.as_secs_f64() / plain.as_secs_f64()
+        );
+    }
+}
+
+/// A line for each size and strategy, then what the load's part takes.
 pub fn table(bench: &mut dyn Bench, rounds: usize) {
     let mut rust = Rust::new();
     let mut lent = Lent::new(32, 2048, 32);
@@ -84,4 +128,5 @@ pub fn table(bench: &mut dyn Bench, rounds: usize) {
             );
         }
     }
+    load_table(bench, rounds);
 }

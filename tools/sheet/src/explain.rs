@@ -53,6 +53,16 @@ fn accepted(cut: &Cut) -> String {
         "accepted\n{}\nto do: Nothing for this bench. If a host refuses the sheet, ask for the number that it gave (1: the host's own buffers are too short) and for the length of its file: here it is {bytes}.",
         show::counts(cut)
     );
+    if let Some(policy) = cut
+        .records
+        .first()
+        .filter(|policy| weighs_loads(cut, policy))
+    {
+        let at = policy.at;
+        lines += &format!(
+            " If it is 15 at {at}, the host has a bench of the first release, which has no load term: renew it, or set load to 0."
+        );
+    }
     if let Some(closed) = cut.records.iter().find(|record| record.kind == 8) {
         let at = closed.at;
         lines += &format!(
@@ -60,6 +70,12 @@ fn accepted(cut: &Cut) -> String {
         );
     }
     lines + "\n"
+}
+
+/// The policy is RSR's, which alone has a field of this name, and its load weight is above 0.
+fn weighs_loads(cut: &Cut, policy: &Record) -> bool {
+    let load = cut.named(policy, "load").map(f64::from_bits);
+    load.is_some_and(|load| load > 0.0)
 }
 
 /// The record's line of text, and how to put it right there; bits without fields are nothing to edit where they are many.

@@ -1,7 +1,7 @@
 //! Which field of a refused record a refusal's number is about, and what it holds. Only records that the
 //! proved library has refused by that number are looked at.
 
-use sheetgen::sheet::{BODY_BITS, MOST, RSR};
+use sheetgen::sheet::{BODY_BITS, MOST};
 
 use crate::cut::{Cut, Record};
 use crate::fields::{Absence, Field, Form, KINDS, Names, PHASES, Range};
@@ -41,7 +41,6 @@ pub fn find(cut: &Cut, record: &Record, number: u32) -> Option<Fault> {
         12 => Some(of("limit", limit())),
         13 => ticks(cut, record).map(|says| of("transition_ticks", says)),
         14 => wait(cut, record).map(|says| of("wait_ticks", says)),
-        15 => load_weight(cut, record).map(|says| of("load", says)),
         _ => None,
     }
 }
@@ -244,12 +243,6 @@ fn ticks(cut: &Cut, record: &Record) -> Option<String> {
     Some(format!(
         "twice transition_ticks {transition} plus open_ticks {open} is {sum}, but the most is 4,294,967,295"
     ))
-}
-
-fn load_weight(cut: &Cut, record: &Record) -> Option<String> {
-    let is_rsr = cut.named(record, "strategy") == Some(RSR.into());
-    let shown = grouped_text(&value::show_double(cut.named(record, "load")?));
-    is_rsr.then(|| format!("load is {shown}, but under RSR it must be 0"))
 }
 
 #[cfg(test)]

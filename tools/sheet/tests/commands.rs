@@ -145,6 +145,10 @@ fn rules() {
             2 * (usize::from(sheet) + usize::from(store))
         );
     }
+    let given_no_more = text(&run(&["rule", "15"], b"").stdout);
+    assert!(
+        given_no_more.contains("the first release gave this number, and it is not given any more")
+    );
     for number in ["0", "19", "x"] {
         let output = run(&["rule", number], b"");
         assert_eq!(output.status.code(), Some(1));

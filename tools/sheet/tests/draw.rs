@@ -266,6 +266,24 @@ fn small_rsr_as_stored() {
     );
 }
 
+/// The load term: what each of three cars costs with it, and that the legend has it.
+#[test]
+fn load_weight_as_stored() {
+    let path = here("examples/load_weight.txt");
+    let written = run(&["write", path.to_str().unwrap()], b"");
+    let drawn = text(&run(&["draw", "-"], &written.stdout).stdout);
+    let stored = text(&std::fs::read(path.with_extension("svg")).unwrap());
+    assert_eq!(drawn, stored);
+    let costs: Vec<&str> = cells(&drawn).into_iter().map(|cell| cell.0).collect();
+    let ranked = [
+        "car 1, stop 3: 4.01",
+        "car 2, stop 3: 2.51",
+        "car 3, stop 3: 3.76",
+    ];
+    assert!(ranked.iter().all(|cost| costs.contains(cost)), "{costs:?}");
+    assert!(drawn.contains("the load of a car"));
+}
+
 #[test]
 fn document_01_as_stored() {
     let bytes = Sheet::example().write();

@@ -91,13 +91,14 @@ fn passes_as_stored() {
             assert_eq!(lines.lines().count(), 1);
         }
     }
-    assert_eq!(passes, 7);
+    assert_eq!(passes, 8);
     let example = run(&["pass", "-"], &sheetgen::Sheet::example().write());
     let stored = std::fs::read(here("../../crates/passprint/stdout")).unwrap();
     assert_eq!(example.stdout, stored);
 }
 
-/// An accepted sheet with closed landings is explained with what a host of the first release says of it; one without is not.
+/// An accepted sheet with closed landings or a load weight is explained with what a host of the first release says of it; one
+/// without is not.
 #[test]
 fn a_first_release_is_named() {
     for index in 0..200 {
@@ -108,6 +109,12 @@ fn a_first_release_is_named() {
         assert!(said.starts_with("accepted\n"), "{said}");
         let words = format!(" If it is 4 at {first}, the host has a bench of the first release,");
         assert!(said.contains(&words), "{said}");
+    }
+    for index in 0..200 {
+        let said = explain::explain(&generate(Profile::Load, 11, index));
+        assert!(said.starts_with("accepted\n"), "{said}");
+        let words = " If it is 15 at 24, the host has a bench of the first release,";
+        assert!(said.contains(words), "{said}");
     }
     let example = explain::explain(&sheetgen::Sheet::example().write());
     assert!(!example.contains("first release"), "{example}");
@@ -181,10 +188,16 @@ fn has_its_line(sheet: &[u8], said: &str) {
     assert!(line == text || line.starts_with(start), "{said}");
 }
 
+/// The numbers that a sheet is refused by: 15 is given no more.
+fn numbers() -> impl Iterator<Item = u32> {
+    (2..=16).filter(|number| *number != 15)
+}
+
 #[test]
 fn every_number_has_an_example() {
     let names: Vec<String> = files("examples", "txt").iter().map(|p| name(p)).collect();
-    for number in 2..=16 {
+    assert!(names.iter().all(|name| !name.starts_with("refusal_15_")));
+    for number in numbers() {
         let start = format!("refusal_{number:02}_");
         let mut examples = names.iter().filter(|n| n.starts_with(&start)).peekable();
         assert!(examples.peek().is_some(), "refusal {number}");
@@ -314,7 +327,7 @@ fn the_manual_has_an_example_of_every_number() {
         manual.contains(&format!("{sheet}\n`{first}`: {reason}\n"))
     };
     let names: Vec<String> = files("examples", "txt").iter().map(|p| name(p)).collect();
-    for number in 2..=16 {
+    for number in numbers() {
         let start = format!("refusal_{number:02}_");
         let examples = names.iter().filter(|n| n.starts_with(&start));
         let shown = examples.filter(|n| is_shown(n));

@@ -29,15 +29,17 @@ pub enum Profile {
     Cover,
     /// Accepted sheets after one to three damages; some are still accepted.
     Damaged,
-    /// Each refusal 2 to 16 on purpose, at each kind that can cause it, and values just inside.
+    /// Each refusal 2 to 14 and 16 on purpose, at each kind that can cause it, and values just inside.
     Provoked,
     /// Bytes without a plan, some with a plausible head.
     Garbage,
     /// Accepted, of the other accepted profiles, with closed landings.
     Closed,
+    /// Accepted, RSR with a load weight above 0; the idle-listed cars are not in phase idle and carry loads.
+    Load,
 }
 
-pub const PROFILES: [(&str, Profile); 12] = [
+pub const PROFILES: [(&str, Profile); 13] = [
     ("valid", Profile::Valid),
     ("full", Profile::Full),
     ("ties", Profile::Ties),
@@ -46,6 +48,7 @@ pub const PROFILES: [(&str, Profile); 12] = [
     ("limits", Profile::Limits),
     ("fine", Profile::Fine),
     ("cover", Profile::Cover),
+    ("load", Profile::Load),
     ("closed", Profile::Closed),
     ("damaged", Profile::Damaged),
     ("provoked", Profile::Provoked),
@@ -116,8 +119,10 @@ pub fn crowded(profile: Profile, strategy: u8, seed: u64, index: u64) -> Sheet {
     let mut maker = Maker { rng, profile };
     let mut sheet = maker.sheet(&size);
     sheet.policy = maker.policy_of(strategy);
-    if profile == Profile::Fine && strategy != SCAN {
-        cancel(rng, &mut sheet);
+    match profile {
+        Profile::Fine if strategy != SCAN => cancel(rng, &mut sheet),
+        Profile::Load => loads(rng, &mut sheet),
+        _ => {}
     }
     sheet
 }
@@ -133,6 +138,7 @@ pub fn accepted(profile: Profile, rng: &mut Rng) -> Sheet {
     match profile {
         Profile::Fine => cancel(rng, &mut sheet),
         Profile::Cover => cover(rng, &mut sheet),
+        Profile::Load => loads(rng, &mut sheet),
         _ => {}
     }
     sheet
@@ -148,6 +154,7 @@ fn with_closures(rng: &mut Rng) -> Sheet {
         Profile::Limits,
         Profile::Fine,
         Profile::Cover,
+        Profile::Load,
     ]);
     let full = rng.one_in(200);
     let mut sheet = loop {
@@ -291,6 +298,95 @@ fn cover(rng: &mut Rng, sheet: &mut Sheet) {
             wait: 1,
         });
     }
+}
+
+/// Idle-listed cars leave phase idle and get loads, and of those that are full riders get off where there is demand: such a
+/// pair alone has a rank then. In every other sheet the load's part takes nearly all of some car's call bonus away.
+fn loads(rng: &mut Rng, sheet: &mut Sheet) {
+    let waiting = sheet.waiting.iter().map(|w| w.stop);
+    let wanted: Vec<u32> = waiting
+        .chain(sheet.demands.iter().map(|d| d.stop))
+        .collect();
+    for car in sheet.cars.iter_mut().filter(|c| c.idle) {
+        if car.phase == 0 {
+            car.phase = 1 + rng.below(6) as u8;
+            car.stop = match sheet.stops.len() {
+                _ if car.phase > 2 => 0,
+                0 => 1 + rng.below(60) as u32,
+                stops => sheet.stops[rng.below(stops)].id,
+            };
+        }
+        // A car that covers the stop where it is sent has no pair to be ranked for.
+        if rng.flag() {
+            car.target = None;
+        }
+        (car.capacity, car.load) = a_load(rng);
+        let ratio = car.load / car.capacity;
+        for threshold in [&mut car.up_threshold, &mut car.down_threshold] {
+            *threshold = match rng.below(6) {
+                0 => *threshold,
+                1 if (0.0..=1000.0).contains(&ratio) => Some(ratio),
+                _ => None,
+            };
+        }
+        if car.load < car.capacity {
+            if rng.flag() {
+                sheet.aboard.retain(|a| a.car != car.id);
+            }
+        } else if !wanted.is_empty() {
+            for _ in 0..1 + rng.below(4) {
+                sheet.aboard.push(Aboard {
+                    car: car.id,
+                    destination: Some(rng.pick(&wanted)),
+                });
+            }
+        }
+    }
+    if sheet.policy.strategy == RSR && rng.flag() {
+        against_the_bonus(rng, sheet);
+    }
+}
+
+/// A capacity, 0 and subnormal ones among them, and a load: below it, at it, above it, and at both ends of its range.
+fn a_load(rng: &mut Rng) -> (f64, f64) {
+    let capacity: f64 = match rng.below(16) {
+        0 => rng.pick(&[0.0, -0.0]),
+        1 => rng.pick(&[5e-324, 1e-310, 2.2250738585072014e-308]),
+        2 => any_magnitude(rng, 1e9),
+        3 => 1e9,
+        _ => rng.pick(&[500.0, 800.0, 1000.0, 1200.0, 3.0, 0.7]),
+    };
+    let load = match rng.below(12) {
+        0 => rng.pick(&[0.0, -0.0, 5e-324]),
+        1 => capacity,
+        2 => capacity * rng.between(1.0, 3.0),
+        3 => rng.between(0.0, 1e9),
+        4 => ulps(capacity.min(1e6), -1).abs(),
+        _ => capacity * rng.unit(),
+    };
+    (capacity, load.min(1e9))
+}
+
+/// The load's part of a car, in its calls the bonus that it takes away, and what is left of both: nothing, last places, the travel term.
+fn against_the_bonus(rng: &mut Rng, sheet: &mut Sheet) {
+    let has_part = |c: &&mut Car| c.idle && c.capacity > 0.0 && c.load > 0.0;
+    let Some(car) = sheet.cars.iter_mut().find(has_part) else {
+        return;
+    };
+    let ratio = (car.load / car.capacity).clamp(0.0, 1.0);
+    let weights = &mut sheet.policy.weights;
+    weights[3] = 10f64.powf(rng.between(6.0, 9.0)).min(1e9);
+    let part = weights[3] * ratio;
+    weights[2] = match rng.below(4) {
+        0 => part,
+        1 => f64::from_bits(part.to_bits() + rng.below(4) as u64),
+        _ => part * rng.between(0.999_999, 1.000_001),
+    }
+    .min(1e9);
+    if rng.flag() {
+        weights[4] = 0.0;
+    }
+    car.calls = (0..sheet.stops.len()).fold(0, |mask, i| mask | mask_bit(i));
 }
 
 /// A small accepted sheet with at least one record of each kind but 8, which one in two has.
@@ -496,6 +592,7 @@ impl Maker<'_> {
     fn policy(&mut self) -> Policy {
         let strategy = match self.profile {
             Profile::Fine => self.rng.pick(&[ETD, RSR]),
+            Profile::Load => RSR,
             _ => self.rng.pick(&[ETD, RSR, SCAN]),
         };
         self.policy_of(strategy)
@@ -524,7 +621,7 @@ impl Maker<'_> {
             if strategy == ETD {
                 weights[5] = 0.0;
             } else {
-                weights[3] = if self.rng.one_in(4) { -0.0 } else { 0.0 };
+                weights[3] = self.load_weight();
             }
         }
         Policy {
@@ -554,6 +651,24 @@ impl Maker<'_> {
             (_, 3) => 0.0,
             (_, 4) => self.rng.between(0.0, 20.0),
             _ => self.rng.between(0.0, 0.01),
+        }
+    }
+
+    /// RSR's: none in four of ten sheets, else elevator-core's own, ordinary and large ones, ends of its range, subnormals.
+    fn load_weight(&mut self) -> f64 {
+        match self.rng.below(10) {
+            0..=3 if self.profile != Profile::Load => self.rng.pick(&[0.0, 0.0, 0.0, -0.0]),
+            0..=4 => 3.0,
+            5 => self.rng.between(0.0, 100.0),
+            6 | 7 => 10f64.powf(self.rng.between(-3.0, 9.0)).min(1e9),
+            8 => self.rng.pick(&[
+                1e9,
+                999_999_999.9999999,
+                5e-324,
+                1e-310,
+                2.2250738585072014e-308,
+            ]),
+            _ => any_magnitude(self.rng, 1e9),
         }
     }
 
@@ -1017,7 +1132,7 @@ mod tests {
     #[test]
     fn crowded_sheets_are_accepted_and_of_their_strategy() {
         let but_closed = PROFILES.iter().filter(|p| p.1 != Profile::Closed);
-        for (name, profile) in but_closed.take(8) {
+        for (name, profile) in but_closed.take(9) {
             for strategy in [ETD, RSR, SCAN] {
                 for index in 0..1000 {
                     let sheet = crowded(*profile, strategy, 3, index);
@@ -1049,6 +1164,50 @@ mod tests {
             wanted += usize::from(sheet.closed.iter().any(|stop| both(&stop)));
         }
         assert!(demanded > 1_500 && wanted > 500, "{demanded} {wanted}");
+    }
+
+    /// Every sheet weighs loads, no idle-listed car is in phase idle, and what the term is made of is there: ratios between 0
+    /// and 1, above 1 and infinite, no capacity, subnormal ones, a part that nearly is the call bonus.
+    #[test]
+    fn loads_are_weighed() {
+        let mut seen = [0; 6];
+        for index in 0..2_000 {
+            let sheet = Sheet::of_accepted(&generate(Profile::Load, 3, index));
+            let [_, _, bonus, weight, ..] = sheet.policy.weights;
+            assert!(sheet.policy.strategy == RSR && weight > 0.0, "{index}");
+            for car in sheet.cars.iter().filter(|c| c.idle) {
+                assert!(car.phase != 0, "{index}");
+                let ratio = car.load / car.capacity;
+                let part = weight * ratio.clamp(0.0, 1.0);
+                let shown = [
+                    ratio > 0.0 && ratio < 1.0,
+                    ratio > 1.0,
+                    ratio == f64::INFINITY && car.capacity > 0.0,
+                    car.capacity == 0.0,
+                    car.capacity > 0.0 && car.capacity < f64::MIN_POSITIVE,
+                    car.calls != 0 && part > 1.0 && (bonus / part - 1.0).abs() < 1e-5,
+                ];
+                seen.iter_mut()
+                    .zip(shown)
+                    .for_each(|(often, is)| *often += usize::from(is));
+            }
+        }
+        assert!(seen.iter().all(|often| *often > 15), "{seen:?}");
+    }
+
+    /// Of the other profiles too, with a load weight and without one.
+    #[test]
+    fn rsr_weighs_loads_in_every_profile() {
+        for (name, profile) in PROFILES.iter().take(8) {
+            let mut seen = [0; 2];
+            for index in 0..if *profile == Profile::Full { 60 } else { 600 } {
+                let sheet = Sheet::of_accepted(&generate(*profile, 3, index));
+                if sheet.policy.strategy == RSR {
+                    seen[usize::from(sheet.policy.weights[3] > 0.0)] += 1;
+                }
+            }
+            assert!(seen.iter().all(|often| *often > 2), "{name} {seen:?}");
+        }
     }
 
     /// The most that a sheet can hold: each kind at its most, a demand and a closure for each stop.

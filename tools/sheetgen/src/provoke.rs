@@ -1,7 +1,7 @@
 //! Each refusal on purpose: a small accepted sheet, one record spoilt in one way, and the number and
 //! place that document 01, or for kind 8 document 02, then gives. The expectation is stated here by the way of spoiling and not by
-//! the reader, so that the two check each other. Some ways change a value to one just inside its range;
-//! there the sheet stays accepted.
+//! the reader, so that the two check each other. Some ways change a value to one just inside its range, or to a load
+//! weight of RSR, which is no fault any more; there the sheet stays accepted.
 
 use crate::bits::{self, Writer};
 use crate::generate::{any_small, close, records};
@@ -66,7 +66,6 @@ const WAYS: &[Way] = &[
     wait_outside,
     wait_inside,
     load_weight,
-    no_load_weight,
     tail_too_long,
     tail_with_a_one,
     fewer_stated_than_there,
@@ -673,8 +672,7 @@ fn a_double<'a>(
         0 => (1, 0, &mut sheet.policy.tick_rate, 1.0, 1_000_000.0, false),
         1 | 2 => {
             sheet.policy.strategy = RSR;
-            sheet.policy.weights[3] = 0.0;
-            let slot = rng.pick(&[0, 1, 2, 4, 5]);
+            let slot = rng.below(6);
             (1, 0, &mut sheet.policy.weights[slot], 0.0, AMOUNT, false)
         }
         3 => {
@@ -753,7 +751,6 @@ fn limit_zero(rng: &mut Rng) -> Provoked {
     let mut sheet = any_small(rng);
     sheet.policy.limit = 0;
     if rng.flag() {
-        // 15 would hold as well.
         sheet.policy.strategy = RSR;
         sheet.policy.weights = [1.0; 6];
     }
@@ -804,24 +801,13 @@ fn wait_inside(rng: &mut Rng) -> Provoked {
     accepted("wait ticks of 2^53", sheet.write())
 }
 
+/// What the first release refused by 15.
 fn load_weight(rng: &mut Rng) -> Provoked {
     let mut sheet = any_small(rng);
+    let load = rng.pick(&[-0.0, 5e-324, 1.0, 3.0, below(1e9), 1e9]);
     sheet.policy.strategy = RSR;
-    sheet.policy.weights = [1.0, 0.0, 0.0, rng.pick(&[5e-324, 1.0, 1e9]), 0.0, 0.0];
-    refused("RSR with a load weight", sheet.write(), 15, 24)
-}
-
-/// ETD's fourth weight is another one, and minus zero isn't above 0.
-fn no_load_weight(rng: &mut Rng) -> Provoked {
-    let mut sheet = any_small(rng);
-    if rng.flag() {
-        sheet.policy.strategy = RSR;
-        sheet.policy.weights = [1.0, 0.0, 0.0, -0.0, 0.0, 0.0];
-    } else {
-        sheet.policy.strategy = ETD;
-        sheet.policy.weights = [1.0, 0.0, 0.0, 1.0, 0.0, 0.0];
-    }
-    accepted("no load weight", sheet.write())
+    sheet.policy.weights = [1.0, 0.0, 0.0, load, 0.0, 0.0];
+    accepted("RSR with a load weight", sheet.write())
 }
 
 fn end_of_records(bytes: &[u8]) -> usize {
@@ -866,7 +852,7 @@ fn fewer_stated_than_there(rng: &mut Rng) -> Provoked {
 /// The numbers from 8 on that a record of a kind can cause.
 const NUMBERS: [&[u32]; KINDS + 1] = [
     &[],
-    &[8, 11, 12, 15],
+    &[8, 11, 12],
     &[9, 11],
     &[9, 10],
     &[8, 9, 10, 11, 13],
@@ -909,11 +895,7 @@ fn spoil(rng: &mut Rng, sheet: &mut Sheet, kind: usize, k: usize, number: u32, p
     match (kind, number) {
         (1, 8) => sheet.policy.strategy = 3,
         (1, 11) => sheet.policy.tick_rate = rng.pick(&[0.5, f64::NAN, 1e7]),
-        (1, 12) => sheet.policy.limit = 0,
-        (1, _) => {
-            sheet.policy.strategy = RSR;
-            sheet.policy.weights = [1.0, 0.0, 0.0, 1.0, 0.0, 0.0];
-        }
+        (1, _) => sheet.policy.limit = 0,
         (2, 9) => {
             sheet.stops[k].id = if k == 0 || rng.flag() {
                 0

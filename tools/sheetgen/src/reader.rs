@@ -1,8 +1,9 @@
 //! The refusal of a byte string, by document 01's numbers and order: the head, each record in turn, within
-//! it by rising number, the tail last. Kind 8 is document 02's. Refusal 1 is the host's and needs no bytes.
+//! it by rising number, the tail last. Kind 8 is document 02's, and so is that 15 is given no more. Refusal 1 is
+//! the host's and needs no bytes.
 
 use crate::bits::get;
-use crate::sheet::{BODY_BITS, EDITION, ETD, HEAD_BITS, KINDS, MOST, RECORD_HEAD_BITS, RSR, SCAN};
+use crate::sheet::{BODY_BITS, EDITION, ETD, HEAD_BITS, KINDS, MOST, RECORD_HEAD_BITS, SCAN};
 
 #[derive(Clone, Copy, Debug, PartialEq, Eq, PartialOrd, Ord)]
 pub struct Refusal {
@@ -168,9 +169,6 @@ fn policy(f: Field) -> Option<u32> {
     }
     if f(2, 16) == 0 {
         return Some(12);
-    }
-    if strategy == u64::from(RSR) && double(weight(3)) > 0.0 {
-        return Some(15);
     }
     None
 }

@@ -4,7 +4,7 @@ use Prim.Native.Nat.{ℕ, _+_}
 use Rattle.bits.specs.Field.{fieldAt}
 use Rattle.layout.specs.Offsets.{endOf}
 use Rattle.layout.specs.Records.{from, read}
-use Rattle.layout.specs.Refusals.{refusal8Policy, refusal11Policy, refusal12, refusal15}
+use Rattle.layout.specs.Refusals.{refusal8Policy, refusal11Policy, refusal12}
 use Rattle.layout.specs.Verdict.{pick, firstOf, bodyRefusal}
 use Rattle.layout.specs.declared.Counts.{Counts}
 use Rattle.components.specs.declared.Kind.the-variants as Kind
@@ -17,32 +17,28 @@ use Rattle.refusals_policy.proofs.policy_refusal.Statement.{statement}
 use Rattle.refusals_policy.proofs.policy_refusal.Tie as tie
 
 -- the conditions as they are read, then the picks from the last to the first
-by-number : (s : List ℕ) (c : Counts) {at limit r15 r12 r11 r8 : ℕ} {weighed unused outside : Bool} →
+by-number : (s : List ℕ) (c : Counts) {at limit r12 r11 r8 : ℕ} {unused outside : Bool} →
     at ≡ endOf c →
     limit ≡ read (from s at) policy·limit →
-    weighed ≡ refusal15 (from s at) →
     unused ≡ refusal8Policy (from s at) →
     outside ≡ refusal11Policy (from s at) →
-    r15 ≡ pick weighed 15 0 →
-    r12 ≡ pick (eqb limit 0) 12 r15 →
+    r12 ≡ pick (eqb limit 0) 12 0 →
     r11 ≡ pick outside 11 r12 →
     r8 ≡ pick unused 8 r11 →
     r8 ≡ bodyRefusal s c Kind.Policy (from s (endOf c))
 unfolding firstOf refusal12
-by-number s c at-is limit-is weighed-is unused-is outside-is is15 is12 is11 is8 =
-    rw (is8, is11, is12, is15, outside-is, unused-is, weighed-is, limit-is, at-is)
+by-number s c at-is limit-is unused-is outside-is is12 is11 is8 = rw (is8, is11, is12, outside-is, unused-is, limit-is, at-is)
 
 returns : tie.Need-returns
 returns c =
     let late = c .before .before .before .before in
-    let r = late .before .before .before in
-    let a = r .before .before .before .args in
-    by-number (a .s .now) (a .c) (r .before .end-of .ensures) (r .field .ensures .is) (late .before .before .load-weighed .ensures)
-    (c .before .before .before .unused-weights .ensures) (c .before .before .out-of-range .ensures) (late .before .pick .ensures)
-    (late .pick2 .ensures) (c .before .pick3 .ensures) (c .pick4 .ensures)
+    let a = late .before .before .before .before .args in
+    by-number (a .s .now) (a .c) (late .before .before .end-of .ensures) (late .before .field .ensures .is)
+    (c .before .before .before .unused-weights .ensures) (c .before .before .out-of-range .ensures) (late .pick .ensures) (c .before .pick2 .ensures)
+    (c .pick3 .ensures)
 
 pub policy-refusal-spec : {M : Type 1} → statement M
 policy-refusal-spec =
     tie.close
     (tie.spec (λ c κs. search needs) (λ c κs. search needs) (λ c κs. search needs) (λ c κs. search needs) (λ c κs. search needs)
-    (λ c κs. search needs) (λ c κs. search needs) (λ c κs. search needs) (λ c κs. search needs) returns)
+    (λ c κs. search needs) (λ c κs. search needs) returns)

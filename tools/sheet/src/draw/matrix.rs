@@ -17,7 +17,7 @@ const NO_RANK: &str = "#e6e6e6";
 /// What a cost is, by strategy.
 const COSTS: [&str; 3] = [
     "A cost is the car's rank for the stop. ETD's is a weighted sum and has no unit: travel, the delay of riders aboard and doors on the way, less the bonuses for direction and for waits; never below 0.",
-    "A cost is the car's rank for the stop. RSR's is a weighted sum and has no unit: travel and the penalty for the wrong direction, less the bonuses for a car call and for waits; never below 0.",
+    "A cost is the car's rank for the stop. RSR's is a weighted sum and has no unit: travel, the penalty for the wrong direction and the load of a car that is not in phase idle, less the bonuses for a car call and for waits; never below 0.",
     "A cost is the car's rank for the stop. SCAN's is the distance from the car to the stop, as positions count it.",
 ];
 const DIGITS: &str = "Here and at the arrows it is rounded; under the pointer stands the cell itself, which counts 1,000,000 for a cost of 1, as the total does.";
