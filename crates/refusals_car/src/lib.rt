@@ -10,7 +10,7 @@ ghost use Rattle.layout.specs.Verdict.{bodyRefusal};
 use components::Phase;
 use layout::Counts;
 use layout::car;
-use refusals::pick;
+use conditions::pick;
 
 fn phase_at(s: &[u8], at: u32) -> Phase
     ensures { λ r. ⌜ r ≡ phaseAt (from (now (s .entry)) at) ⌝ }
@@ -60,9 +60,9 @@ fn unused_bits(s: &[u8], at: u32) -> bool
     let stop = bits::field32(s, at, car::STOP);
     let phase = phase_at(s, at);
     let unused = unused_stop(phase, stop != 0);
-    let target = refusals::absent_set(s, at, car::HAS_TARGET, car::TARGET, 32);
-    let up = refusals::absent_set(s, at, car::HAS_BYPASS_UP, car::BYPASS_UP, 64);
-    let down = refusals::absent_set(s, at, car::HAS_BYPASS_DOWN, car::BYPASS_DOWN, 64);
+    let target = conditions::absent_set(s, at, car::HAS_TARGET, car::TARGET, 32);
+    let up = conditions::absent_set(s, at, car::HAS_BYPASS_UP, car::BYPASS_UP, 64);
+    let down = conditions::absent_set(s, at, car::HAS_BYPASS_DOWN, car::BYPASS_DOWN, 64);
     unknown_phase(phase) | (unused | (target | (up | down)))
 }
 
@@ -76,8 +76,8 @@ fn bad_ids(s: &[u8], c: Counts) -> bool
     let line = bits::field32(s, at, car::LINE);
     let stop = bits::field32(s, at, car::STOP);
     let moving = phase_at(s, at).is_moving();
-    let target = refusals::present_zero(s, at, car::HAS_TARGET, car::TARGET);
-    let again = refusals::has_car(s, c, id);
+    let target = conditions::present_zero(s, at, car::HAS_TARGET, car::TARGET);
+    let again = conditions::has_car(s, c, id);
     (id == 0) | ((line == 0) | ((moving & (stop == 0)) | (target | again)))
 }
 
@@ -87,7 +87,7 @@ fn unknown_records(s: &[u8], c: Counts) -> bool
     ensures { λ r. ⌜ r ≡ refusal10Car (now (s .entry)) c (from (now (s .entry)) (endOf c)) ⌝ }
 {
     let at = c.end_of();
-    let known = refusals::has_line(s, c, bits::field32(s, at, car::LINE));
+    let known = conditions::has_line(s, c, bits::field32(s, at, car::LINE));
     let n = c.stops;
     let stops = n as usize;
     let restricted = mask::past_stops(bits::field(s, at, car::RESTRICTED, 64), stops);
@@ -101,8 +101,8 @@ fn out_of_range(s: &[u8], at: u32) -> bool
 {
     let position = fp::is_position(records::double_at(s, at, car::POSITION));
     let speed = fp::is_speed(records::double_at(s, at, car::SPEED));
-    let capacity = refusals::mass_at(s, at, car::CAPACITY);
-    let load = refusals::mass_at(s, at, car::LOAD);
+    let capacity = conditions::mass_at(s, at, car::CAPACITY);
+    let load = conditions::mass_at(s, at, car::LOAD);
     let up = fp::is_threshold(records::double_at(s, at, car::BYPASS_UP));
     let down = fp::is_threshold(records::double_at(s, at, car::BYPASS_DOWN));
     !(position & (speed & (capacity & (load & (up & down)))))

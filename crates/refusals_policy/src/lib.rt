@@ -8,7 +8,7 @@ ghost use Rattle.layout.specs.Verdict.{bodyRefusal};
 use components::Strategy;
 use layout::Counts;
 use layout::policy;
-use refusals::pick;
+use conditions::pick;
 
 // Whether one of the six weights has a one bit.
 fn any_weight(s: &[u8], at: u32) -> bool
@@ -41,12 +41,12 @@ fn out_of_range(s: &[u8], at: u32) -> bool
     ensures { λ r. ⌜ r ≡ refusal11Policy (from (now (s .entry)) at) ⌝ }
 {
     let rate = fp::is_tick_rate(records::double_at(s, at, policy::RATE));
-    let w0 = refusals::mass_at(s, at, policy::W0);
-    let w1 = refusals::mass_at(s, at, policy::W1);
-    let w2 = refusals::mass_at(s, at, policy::W2);
-    let w3 = refusals::mass_at(s, at, policy::W3);
-    let w4 = refusals::mass_at(s, at, policy::W4);
-    let w5 = refusals::mass_at(s, at, policy::W5);
+    let w0 = conditions::mass_at(s, at, policy::W0);
+    let w1 = conditions::mass_at(s, at, policy::W1);
+    let w2 = conditions::mass_at(s, at, policy::W2);
+    let w3 = conditions::mass_at(s, at, policy::W3);
+    let w4 = conditions::mass_at(s, at, policy::W4);
+    let w5 = conditions::mass_at(s, at, policy::W5);
     !(rate & (w0 & (w1 & (w2 & (w3 & (w4 & w5))))))
 }
 

@@ -17,7 +17,7 @@ use layout::head;
 use layout::line;
 use layout::policy;
 use layout::record;
-use refusals::pick;
+use conditions::pick;
 
 // Whether bit e lies past the end.
 fn past_end(s: &[u8], e: u32) -> bool

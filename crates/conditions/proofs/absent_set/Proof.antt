@@ -1,7 +1,7 @@
--- refusals::absent_set meets its contract.
+-- conditions::absent_set meets its contract.
 use borrow.Author.Needs.{needs}
-use Rattle.refusals.proofs.absent_set.Statement.{statement}
-use Rattle.refusals.proofs.absent_set.Tie as tie
+use Rattle.conditions.proofs.absent_set.Statement.{statement}
+use Rattle.conditions.proofs.absent_set.Tie as tie
 
 returns : tie.Need-returns
 returns c = cc

@@ -1,7 +1,7 @@
--- refusals::has_stop meets its contract.
+-- conditions::has_stop meets its contract.
 use borrow.Author.Needs.{needs}
-use Rattle.refusals.proofs.has_stop.Statement.{statement}
-use Rattle.refusals.proofs.has_stop.Tie as tie
+use Rattle.conditions.proofs.has_stop.Statement.{statement}
+use Rattle.conditions.proofs.has_stop.Tie as tie
 
 returns : tie.Need-returns
 returns c = cc

@@ -1,7 +1,7 @@
--- refusals::present_zero meets its contract.
+-- conditions::present_zero meets its contract.
 use borrow.Author.Needs.{needs}
-use Rattle.refusals.proofs.present_zero.Statement.{statement}
-use Rattle.refusals.proofs.present_zero.Tie as tie
+use Rattle.conditions.proofs.present_zero.Statement.{statement}
+use Rattle.conditions.proofs.present_zero.Tie as tie
 
 returns : tie.Need-returns
 returns c = cc

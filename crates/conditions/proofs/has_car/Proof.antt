@@ -1,7 +1,7 @@
--- refusals::has_car meets its contract.
+-- conditions::has_car meets its contract.
 use borrow.Author.Needs.{needs}
-use Rattle.refusals.proofs.has_car.Statement.{statement}
-use Rattle.refusals.proofs.has_car.Tie as tie
+use Rattle.conditions.proofs.has_car.Statement.{statement}
+use Rattle.conditions.proofs.has_car.Tie as tie
 
 returns : tie.Need-returns
 returns c = cc

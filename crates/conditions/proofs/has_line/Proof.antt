@@ -1,7 +1,7 @@
--- refusals::has_line meets its contract.
+-- conditions::has_line meets its contract.
 use borrow.Author.Needs.{needs}
-use Rattle.refusals.proofs.has_line.Statement.{statement}
-use Rattle.refusals.proofs.has_line.Tie as tie
+use Rattle.conditions.proofs.has_line.Statement.{statement}
+use Rattle.conditions.proofs.has_line.Tie as tie
 
 returns : tie.Need-returns
 returns c = cc

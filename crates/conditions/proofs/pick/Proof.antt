@@ -1,7 +1,7 @@
--- refusals::pick meets its contract.
+-- conditions::pick meets its contract.
 use Rattle.layout.specs.Verdict.{pick}
-use Rattle.refusals.proofs.pick.Statement.{statement}
-use Rattle.refusals.proofs.pick.Tie as tie
+use Rattle.conditions.proofs.pick.Statement.{statement}
+use Rattle.conditions.proofs.pick.Tie as tie
 
 returns : tie.Need-returns
 unfolding pick

@@ -1,7 +1,7 @@
--- refusals::mass_at meets its contract.
+-- conditions::mass_at meets its contract.
 use borrow.Author.Needs.{needs}
-use Rattle.refusals.proofs.mass_at.Statement.{statement}
-use Rattle.refusals.proofs.mass_at.Tie as tie
+use Rattle.conditions.proofs.mass_at.Statement.{statement}
+use Rattle.conditions.proofs.mass_at.Tie as tie
 
 returns : tie.Need-returns
 returns c = cc

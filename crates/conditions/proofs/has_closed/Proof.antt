@@ -1,7 +1,7 @@
--- refusals::has_closed meets its contract.
+-- conditions::has_closed meets its contract.
 use borrow.Author.Needs.{needs}
-use Rattle.refusals.proofs.has_closed.Statement.{statement}
-use Rattle.refusals.proofs.has_closed.Tie as tie
+use Rattle.conditions.proofs.has_closed.Statement.{statement}
+use Rattle.conditions.proofs.has_closed.Tie as tie
 
 returns : tie.Need-returns
 returns c = cc

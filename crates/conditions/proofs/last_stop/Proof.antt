@@ -1,9 +1,9 @@
--- refusals::last_stop meets its contract.
+-- conditions::last_stop meets its contract.
 use Rattle.layout.specs.Refusals.{lastStop}
 use borrow.Author.Needs.{needs}
 use borrow.Author.Tests.{eq-eqb, ne-eqb}
-use Rattle.refusals.proofs.last_stop.Statement.{statement}
-use Rattle.refusals.proofs.last_stop.Tie as tie
+use Rattle.conditions.proofs.last_stop.Statement.{statement}
+use Rattle.conditions.proofs.last_stop.Tie as tie
 
 returns : tie.Need-returns
 unfolding lastStop

@@ -1,7 +1,7 @@
--- refusals::has_demand meets its contract.
+-- conditions::has_demand meets its contract.
 use borrow.Author.Needs.{needs}
-use Rattle.refusals.proofs.has_demand.Statement.{statement}
-use Rattle.refusals.proofs.has_demand.Tie as tie
+use Rattle.conditions.proofs.has_demand.Statement.{statement}
+use Rattle.conditions.proofs.has_demand.Tie as tie
 
 returns : tie.Need-returns
 returns c = cc

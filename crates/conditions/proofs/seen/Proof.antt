@@ -1,4 +1,4 @@
--- refusals::seen meets its contract.
+-- conditions::seen meets its contract.
 use Rattle.layout.specs.Records.{from, read}
 use Rattle.layout.specs.Table.{first}
 use Prim.Native.Nat.{ℕ, _≤_, _<_, _+_, _-_, _*_}
@@ -12,8 +12,8 @@ use mathlib.Core.List.{List}
 use mathlib.Core.Path.{_≡_, refl, sym, _∙_}
 use native.Mathlib.Nat.{mul-le-mul}
 use native.Mathlib.Omega.{arith}
-use Rattle.refusals.proofs.seen.Statement.{statement}
-use Rattle.refusals.proofs.seen.Tie as tie
+use Rattle.conditions.proofs.seen.Statement.{statement}
+use Rattle.conditions.proofs.seen.Tie as tie
 
 abbrev Inv-loop : tie.InvT-loop
 Inv-loop s base len n id i₀ i = (i ≤ n) × (false ≡ seen s base len i id)
