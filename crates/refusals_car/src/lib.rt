@@ -8,9 +8,9 @@ ghost use Rattle.layout.specs.Records.{from};
 ghost use Rattle.layout.specs.Refusals.{unusedStop, phaseAt, refusal8Car, refusal9Car, refusal10Car, refusal11Car, refusal13};
 ghost use Rattle.layout.specs.Verdict.{bodyRefusal};
 use components::Phase;
+use conditions::pick;
 use layout::Counts;
 use layout::car;
-use conditions::pick;
 
 fn phase_at(s: &[u8], at: u32) -> Phase
     ensures { λ r. ⌜ r ≡ phaseAt (from (now (s .entry)) at) ⌝ }

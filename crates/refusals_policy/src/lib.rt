@@ -6,9 +6,9 @@ ghost use Rattle.layout.specs.Records.{from};
 ghost use Rattle.layout.specs.Refusals.{unusedWeights, refusal8Policy, refusal11Policy};
 ghost use Rattle.layout.specs.Verdict.{bodyRefusal};
 use components::Strategy;
+use conditions::pick;
 use layout::Counts;
 use layout::policy;
-use conditions::pick;
 
 // Whether one of the six weights has a one bit.
 fn any_weight(s: &[u8], at: u32) -> bool

@@ -10,6 +10,7 @@ use components::Car;
 use components::Kind;
 use components::Line;
 use components::Policy;
+use conditions::pick;
 use layout::Counts;
 use layout::Reading;
 use layout::car;
@@ -17,7 +18,6 @@ use layout::head;
 use layout::line;
 use layout::policy;
 use layout::record;
-use conditions::pick;
 
 // Whether bit e lies past the end.
 fn past_end(s: &[u8], e: u32) -> bool
