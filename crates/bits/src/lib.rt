@@ -16,8 +16,8 @@ fn place(at: usize) -> BitPlace
     ensures { λ r. ⌜ (r .byte ≡ at / 8) × (r .bit ≡ at % 8) ⌝ }
 {
     BitPlace {
-        byte: at / 8,
-        bit: at % 8,
+        byte: at >> 3,
+        bit: at & 7,
     }
 }
 

@@ -3,15 +3,15 @@ use Prim.Native.Nat.{ℕ, zero as z, suc, _+_, _*_, _≤_, _<_}
 use native.Mathlib.Nat.{zero-mul, mul-one, mul-pos, zero-lt-suc}
 use native.Mathlib.Omega.{arith}
 use mathlib.Core.Path.{_≡_, refl, sym, ap, _∙_}
-use mathlib.Core.Bool.{true, false, true≢false}
-use lib.Dec.{eqb}
-use lib.Ieee.{Float, nan, inf, fin, binary64, ofBits, fits, up, down, neg, lt, eq, div, isNan, nanBits}
+use mathlib.Core.Bool.{true, false, not, true≢false}
+use lib.Dec.{T, eqb}
+use lib.Ieee.{Float, nan, inf, fin, binary64, ofBits, fits, up, down, neg, add, sub, lt, eq, div, isNan, nanBits}
 use lib.Ieee.Fits.{up-pos}
 use lib.Ieee.Bits.{nanBits-is}
 use borrow.Author.Tests.{ltb-true, ltb-false, eqb-true, eq-eqb}
 use Rattle.laws.specs.Bools.{both-left}
 use Rattle.fp.specs.Order.{zero-exp}
-use Rattle.fp.specs.Num.{zero, abs, finite, infinity, over}
+use Rattle.fp.specs.Num.{zero, abs, finite, infinity, minus}
 
 -- ---- abs
 
@@ -56,6 +56,15 @@ abs-above (fin false m e) h k = refl
 
 -- ---- finite: the infinities bound it
 
+-- the pattern of infinity
+pub infinity-fits : T (not (nanBits binary64 0x7ff0_0000_0000_0000))
+unfolding nanBits
+infinity-fits = tt
+
+pub infinite-bits : ofBits binary64 0x7ff0_0000_0000_0000 ≡ infinity
+unfolding ofBits div
+infinite-bits = refl
+
 pub finite-below : (x : Float) → lt x infinity ≡ true → lt (neg infinity) x ≡ finite x
 unfolding lt neg ofBits div
 finite-below nan h = refl
@@ -77,7 +86,7 @@ nan-only nan e = refl
 nan-only (inf s) e = absurd (true≢false (sym e))
 nan-only (fin s m k) e = absurd (true≢false (sym e))
 
--- 0.0 / 0.0 is what every NaN pattern stands for
-pub nan-made : (b : ℕ) → nanBits binary64 b ≡ true → over zero zero ≡ ofBits binary64 b
-unfolding div ofBits
+-- infinity less itself is what every NaN pattern stands for
+pub nan-made : (b : ℕ) → nanBits binary64 b ≡ true → minus (ofBits binary64 0x7ff0_0000_0000_0000) (ofBits binary64 0x7ff0_0000_0000_0000) ≡ ofBits binary64 b
+unfolding sub add neg ofBits
 nan-made b e = sym (nan-only (ofBits binary64 b) (sym (nanBits-is binary64 b) ∙ e))

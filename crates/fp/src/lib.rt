@@ -25,7 +25,7 @@ pub fn max_zero(x: f64) -> f64
 pub fn finite(x: f64) -> bool
     ensures { λ r. ⌜ r ≡ finite x ⌝ }
 {
-    let infinity = 1.0 / 0.0;
+    let infinity = f64::from_bits(0x7ff0_0000_0000_0000);
     if x < infinity { -infinity < x } else { false }
 }
 
@@ -61,8 +61,9 @@ pub fn natural(n: u64) -> f64
 pub fn double(b: u64) -> f64
     ensures { λ r. ⌜ r ≡ ofBits binary64 b ⌝ }
 {
-    if b % 0x8000_0000_0000_0000 > 0x7ff0_0000_0000_0000 {
-        0.0 / 0.0
+    if b & 0x7fff_ffff_ffff_ffff > 0x7ff0_0000_0000_0000 {
+        let infinity = f64::from_bits(0x7ff0_0000_0000_0000);
+        infinity - infinity
     } else {
         f64::from_bits(b)
     }

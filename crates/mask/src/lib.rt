@@ -13,7 +13,7 @@ pub fn has(mask: u64, j: usize) -> bool
     requires { ⌜ j < 64 ⌝ }
     ensures { λ r. ⌜ r ≡ has mask j ⌝ }
 {
-    (mask >> (63 - j)) % 2 == 1
+    (mask >> (63 - j)) & 1 == 1
 }
 
 // The stops of both masks.

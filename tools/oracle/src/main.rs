@@ -26,6 +26,7 @@ oracle papers SEED COUNT [PROFILE]
 oracle selftest [COUNT [FAULT]]
                                benches that are wrong on purpose must be found out
 oracle time LIBRARY [ROUNDS]   from bytes to decisions, the bench beside the Rust, in microseconds a sheet
+oracle beside OLDER NEWER [ROUNDS]   reading and passing, two libraries in turns, and the ratio of their times
 oracle limits SEED COUNT       a higher limit never raises the total, by the Rust, and with closed landings by the definitions
 oracle first LIBRARY SEED COUNT
                                the first release refuses closed landings by 4 and load weights by 15; LIBRARY is its shared object
@@ -88,6 +89,12 @@ fn run(args: &[&str]) -> Result<(), String> {
         ["time", library, rest @ ..] if rest.len() < 2 => {
             let rounds = rest.first().map_or(Ok(9), |word| number(word))?;
             timing::table(&mut bench::Linked::load(library)?, rounds.max(1) as usize);
+            return Ok(());
+        }
+        ["beside", older, newer, rest @ ..] if rest.len() < 2 => {
+            let rounds = rest.first().map_or(Ok(9), |word| number(word))?;
+            let (older, newer) = (bench::Linked::load(older)?, bench::Linked::load(newer)?);
+            timing::beside([Box::new(older), Box::new(newer)], rounds.max(1) as usize);
             return Ok(());
         }
         ["first", library, seed, count] => {

@@ -130,3 +130,42 @@ pub fn table(bench: &mut dyn Bench, rounds: usize) {
     }
     load_table(bench, rounds);
 }
+
+/// A line for each size: reading a sheet and passing it, by two libraries in turns, and the newer one's part of the older one's time.
+pub fn beside(mut benches: [Box<dyn Bench>; 2], rounds: usize) {
+    let mut lent = Lent::new(32, 2048, 32);
+    println!(
+        "sheets       older read us   newer read us   ratio   older pass us   newer pass us   ratio"
+    );
+    for (size, stops, cars, riders) in SIZES {
+        let count: u64 = if size == "full" { 40 } else { 400 };
+        let sheets: Vec<Vec<u8>> = (0..3 * count)
+            .map(|i| sheetgen::generate::sized((i % 3) as u8, stops, cars, riders, 7, i).write())
+            .collect();
+        let mut least = [Duration::MAX; 4];
+        for _ in 0..rounds {
+            for (side, bench) in benches.iter_mut().enumerate() {
+                let began = Instant::now();
+                for sheet in &sheets {
+                    assert_eq!(bench.read(sheet).0, 0);
+                }
+                let read = began.elapsed();
+                for sheet in &sheets {
+                    assert_eq!(bench.pass(sheet, &mut lent), 0);
+                }
+                least[side] = least[side].min(read);
+                least[2 + side] = least[2 + side].min(began.elapsed() - read);
+            }
+        }
+        let us = least.map(|time| micros(time, sheets.len()));
+        println!(
+            "{size:<13}{:13.2}{:16.2}{:8.2}{:16.2}{:16.2}{:8.2}",
+            us[0],
+            us[1],
+            us[1] / us[0],
+            us[2],
+            us[3],
+            us[3] / us[2]
+        );
+    }
+}
