@@ -9,9 +9,9 @@ uint32_t __wrap_dispatch_bench_read(const uint8_t *, size_t, uint64_t *);
 uint32_t __real_dispatch_bench_choose(size_t, size_t, const uint64_t *, size_t, uint32_t *, size_t, uint64_t *);
 uint32_t __wrap_dispatch_bench_choose(size_t, size_t, const uint64_t *, size_t, uint32_t *, size_t, uint64_t *);
 uint32_t __real_dispatch_bench_pass(const uint8_t *, size_t, uint32_t *, size_t, uint64_t *, size_t, uint8_t *, size_t, uint64_t *, uint64_t *, uint64_t *,
-                                    uint64_t *, uint64_t *);
+                                    uint64_t *, uint64_t *, uint64_t *);
 uint32_t __wrap_dispatch_bench_pass(const uint8_t *, size_t, uint32_t *, size_t, uint64_t *, size_t, uint8_t *, size_t, uint64_t *, uint64_t *, uint64_t *,
-                                    uint64_t *, uint64_t *);
+                                    uint64_t *, uint64_t *, uint64_t *);
 uint32_t __real_dispatch_bench_pending(const uint8_t *, size_t, uint32_t *, size_t, uint64_t *, uint64_t *);
 uint32_t __wrap_dispatch_bench_pending(const uint8_t *, size_t, uint32_t *, size_t, uint64_t *, uint64_t *);
 uint32_t __real_dispatch_bench_weights(const uint8_t *, size_t, uint32_t, double *, size_t, uint64_t *);
@@ -103,23 +103,42 @@ static void spoil_pass(uint32_t *decisions, size_t decision_count, uint64_t *mat
     }
 }
 
+/* The faults of the number of held cells; before is what stood there. */
+static void spoil_held(const uint64_t *matrix, uint64_t n, uint64_t m, uint64_t *held, uint64_t before) {
+    uint64_t columns = n < m ? m : n, below = 0, at = 0, unranked = 0;
+    for (uint64_t i = 0; i < n * columns; i++) {
+        below += matrix[i] < DISPATCH_BENCH_CEILING;
+        at += matrix[i] == DISPATCH_BENCH_CEILING;
+        unranked += matrix[i] == DISPATCH_BENCH_SENTINEL;
+    }
+    *held += is("held_most") ? 1 + n * m : 0;
+    *held += is("held_no_rank") ? unranked : 0;
+    *held += is("held_of_none") && at == 0 && below > 0;
+    *held = is("held_one_more") && at > 0 && below > 0 ? at + 1 : *held;
+    *held = is("held_unwritten") && *held == 0 ? before : *held;
+}
+
 uint32_t __wrap_dispatch_bench_pass(const uint8_t *sheet, size_t length, uint32_t *decisions, size_t decision_count, uint64_t *matrix, size_t cell_count,
                                     uint8_t *sweeps, size_t sweep_count, uint64_t *cars, uint64_t *stops, uint64_t *total, uint64_t *ranked,
-                                    uint64_t *offset) {
-    uint32_t held = decision_count > 31 ? decisions[31] : 0;
+                                    uint64_t *held, uint64_t *offset) {
+    uint32_t stood = decision_count > 31 ? decisions[31] : 0;
+    uint64_t before = *held;
     uint32_t number = __real_dispatch_bench_pass(sheet, length, decisions, decision_count, matrix, cell_count, sweeps, sweep_count, cars, stops, total,
-                                                 ranked, offset);
+                                                 ranked, held, offset);
     if (number == 0) {
+        spoil_held(matrix, *cars, *stops, held, before);
+        *held = is("held_of_loads") && weighs_loads(sheet, length) ? 0 : *held;
         spoil_pass(decisions, decision_count, matrix, sweeps, sweep_count, *cars, *stops, total, ranked, offset);
         if (weighs_loads(sheet, length)) {
             spoil_loads(matrix, *cars, *cars < *stops ? *stops : *cars);
         }
-        *ranked -= is("held_before") && *ranked > 0 ? held & 1 : 0;
+        *ranked -= is("held_before") && *ranked > 0 ? stood & 1 : 0;
     } else if (decision_count > 0 && sweep_count > 0 && cell_count > 0) {
         decisions[0] ^= is("refusal_writes_decision");
         matrix[cell_count - 1] ^= is("refusal_writes_cell");
         sweeps[0] ^= is("refusal_writes_sweep");
         *cars ^= is("refusal_writes_cars");
+        *held ^= is("refusal_writes_held");
         *offset += is("refusal_offset") && number == 11;
     }
     if (is("reads_past_sheet") && length > 0) {

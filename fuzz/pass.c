@@ -12,10 +12,11 @@
 #include "sheet.h"
 
 #define SENTINEL UINT64_C(281474976710656)
+#define CEILING (SENTINEL - 1)
 #define MORE 16
 
 /* The numbers that a pass answers stand between words of the pattern. */
-enum { CARS = 1, STOPS = 3, TOTAL = 5, RANKED = 7, OFFSET = 9, NUMBERS = 11 };
+enum { CARS = 1, STOPS = 3, TOTAL = 5, RANKED = 7, HELD = 9, OFFSET = 11, NUMBERS = 13 };
 
 static struct guarded sheet, decisions, matrix, sweeps, numbers, chosen, places;
 
@@ -41,12 +42,12 @@ static uint64_t unwritten(uint8_t pattern) {
     return pattern * UINT64_C(0x0101010101010101);
 }
 
-/* How many inputs had which answer: passes by strategy, those with closed landings and load weights among them, refusals by number. */
-static unsigned long passes[3], closed_passes, load_passes, refusals[17];
+/* How many inputs had which answer: passes by strategy, those with closed landings, load weights and held cells among them, refusals by number. */
+static unsigned long passes[3], closed_passes, load_passes, held_passes, refusals[17];
 
 static void print_counts(void) {
-    fprintf(stderr, "answers: passes %lu ETD, %lu RSR, %lu SCAN, %lu with closed landings, %lu with a load weight; refusals", passes[0], passes[1],
-            passes[2], closed_passes, load_passes);
+    fprintf(stderr, "answers: passes %lu ETD, %lu RSR, %lu SCAN, %lu with closed landings, %lu with a load weight, %lu with held cells; refusals",
+            passes[0], passes[1], passes[2], closed_passes, load_passes, held_passes);
     for (int number = 2; number <= 16; number++) {
         if (number != DISPATCH_BENCH_LOAD_WEIGHT) {
             fprintf(stderr, " %d: %lu", number, refusals[number]);
@@ -84,7 +85,7 @@ static void lend(const uint8_t *data, size_t size, struct lengths n, int at_end,
 static uint32_t call_pass(struct lengths n) {
     uint64_t *w = words();
     return dispatch_bench_pass(sheet.at, sheet.length, (uint32_t *)(void *)decisions.at, n.decisions, (uint64_t *)(void *)matrix.at, n.cells, sweeps.at,
-                               n.sweeps, &w[CARS], &w[STOPS], &w[TOTAL], &w[RANKED], &w[OFFSET]);
+                               n.sweeps, &w[CARS], &w[STOPS], &w[TOTAL], &w[RANKED], &w[HELD], &w[OFFSET]);
 }
 
 static void check_sheet(const uint8_t *data, size_t size) {
@@ -147,7 +148,7 @@ static void run_pass(struct answer *a, const struct facts *f, const uint8_t *dat
         return;
     }
     check_bounds(f, data, size);
-    for (size_t i = CARS; i <= RANKED; i += 2) {
+    for (size_t i = CARS; i <= HELD; i += 2) {
         a->value[i] = words()[i];
     }
     size_t cars = a->value[CARS], columns = cars < a->value[STOPS] ? a->value[STOPS] : cars;
@@ -270,8 +271,33 @@ static void check_lists(const struct answer *a, const struct facts *f) {
     }
 }
 
-/* RSR's load term, beside the same sheet without its load weight: the same pairs have a rank, none costs less with the weight, and a car for which
-   no load counts costs the same. */
+/* The pairs that the limit keeps: of each idle car's stops, those that are pending and where it may go. */
+static uint64_t kept_pairs(const struct pending *p, const struct facts *f) {
+    uint64_t kept = 0;
+    for (size_t i = 0; i < f->idle; i++) {
+        uint64_t viable = 0;
+        for (size_t k = 0; k < p->count; k++) {
+            viable += may_go(f, f->idle_car[i], stop_place(f, p->stops[k])) != 0;
+        }
+        kept += viable < f->limit ? viable : f->limit;
+    }
+    return kept;
+}
+
+/* The held cells are some of those at the ceiling, and cells of kept pairs. */
+static void check_held(const struct answer *a, const struct pending *p, const struct facts *f) {
+    size_t cars = a->value[CARS], stops = a->value[STOPS], columns = cars < stops ? stops : cars;
+    uint64_t at_ceiling = 0;
+    for (size_t i = 0; i < cars * columns; i++) {
+        at_ceiling += a->matrix[i] == CEILING;
+    }
+    require(a->value[HELD] <= kept_pairs(p, f), "the held cells are at most the kept pairs");
+    require(at_ceiling > 0 || a->value[HELD] == 0, "no cell is held where none is at the ceiling");
+    require(a->value[HELD] <= at_ceiling, "the held cells are at most those at the ceiling");
+}
+
+/* RSR's load term, beside the same sheet without its load weight: the same pairs have a rank, none costs less with the weight, a car for which no
+   load counts costs the same, and what is held without the weight is held with it. */
 static void check_loads(const struct answer *a, const struct facts *f, const uint8_t *data, size_t size) {
     static uint8_t weightless[MOST_BYTES + 4096];
     static struct answer without;
@@ -284,6 +310,7 @@ static void check_loads(const struct answer *a, const struct facts *f, const uin
     run_pass(&without, f, weightless, size, least, 1, 0xa5);
     require(without.number == 0 && without.value[CARS] == a->value[CARS] && without.value[STOPS] == a->value[STOPS],
             "the load weight changes neither cars nor stops");
+    require(without.value[HELD] <= a->value[HELD], "the load weight frees no held cell");
     size_t cars = a->value[CARS], stops = a->value[STOPS], columns = cars < stops ? stops : cars;
     for (size_t i = 0; i < cars * columns; i++) {
         uint64_t cell = a->matrix[i], other = without.matrix[i];
@@ -363,6 +390,7 @@ static void tell_pass(const struct answer *a, const struct pending *p, const str
         pending_closed += f->closed >> (63 - stop_place(f, p->stops[k])) & 1;
     }
     of[920 + bits_of((uint64_t)__builtin_popcountll(f->closed)) * 8 + bits_of(pending_closed)] = 1;
+    of[990 + bits_of(a->value[HELD])] = 1;
 }
 
 /* FNV-1a: lengths that vary with the input, and are the same each time it is run. */
@@ -405,10 +433,12 @@ int LLVMFuzzerTestOneInput(const uint8_t *data, size_t size) {
     check_lists(&first, &facts);
     check_loads(&first, &facts, data, size);
     check_pending(&pending, &first, &facts);
+    check_held(&first, &pending, &facts);
     check_decisions(&first, &pending, &facts);
     passes[facts.strategy]++;
     tell_pass(&first, &pending, &facts);
     closed_passes += facts.closed != 0;
     load_passes += facts.weighs_loads;
+    held_passes += first.value[HELD] > 0;
     return 0;
 }

@@ -12,10 +12,14 @@
 extern "C" {
 #endif
 
-/* The number of this interface. It rises where a function or a number of this header changes its meaning. */
-#define DISPATCH_BENCH_VERSION 1
+/* The number of this interface. It rises where a function or a number of this header changes its meaning.
+     2   dispatch_bench_pass has the parameter held, between ranked and offset (document 02, F-5)
+     1   the first release, and later ones whose dispatch_bench_pass has no held */
+#define DISPATCH_BENCH_VERSION 2
 
-/* The number of the library's interface: DISPATCH_BENCH_VERSION of the header that it was built with. */
+/* The number of the library's interface: DISPATCH_BENCH_VERSION of the header that it was built with. Every library has this function, the first
+   release's too. Ask before the first pass: a library of interface 1 takes held for its offset, so a refusal's offset stands in *held, *offset keeps
+   its contents, and no pass writes *held. */
 uint32_t dispatch_bench_version(void);
 
 /* Reads a sheet. 0: accepted, and *offset keeps its contents. Otherwise the refusal's number, 2 to 14 or 16, and in *offset the bit offset where the
@@ -67,6 +71,9 @@ enum dispatch_bench_refusal {
 /* The cell of a pair without a rank, and the largest cell. */
 #define DISPATCH_BENCH_SENTINEL UINT64_C(281474976710656)
 
+/* The ceiling, the largest cell of a pair with a rank: a cost that rounds to more is held down to it. */
+#define DISPATCH_BENCH_CEILING UINT64_C(281474976710655)
+
 /* Bytes of a sheet past these change no answer; an accepted one has at most 26,515. */
 #define DISPATCH_BENCH_MOST_BYTES 65536
 
@@ -76,16 +83,18 @@ enum dispatch_bench_refusal {
 /* A pass over a sheet. 0: *cars idle cars, *stops pending stops, *total the least total; in decisions the stop id of each idle car in record order (0 for
    idle), in matrix the cells row by row, a row of max(*cars, *stops) columns for each idle car, in sweeps 2 * sweep + mode of each car record; what
    stands past these is left, and so is *offset. *ranked is the number of pairs ranked: at most *cars times the sheet's limit (*cars * *stops with
-   none). Otherwise the refusal's number, 1 to 14 or 16, with the bit offset where the refused record starts in *offset (0 for 1); nothing else is
-   written.
+   none). *held is the number of cells that were held down to DISPATCH_BENCH_CEILING. Otherwise the refusal's number, 1 to 14 or 16, with the bit
+   offset where the refused record starts in *offset (0 for 1); nothing else is written.
 
-   A cell is the cost times 1,000,000, rounded, or DISPATCH_BENCH_SENTINEL where there is no rank, and in spare columns; the first *stops columns are
-   the pending stops by rising id, which dispatch_bench_pending gives. *total is the sum of a cell for each idle car: that of the stop where it is
-   sent, or the sentinel where it stays idle. Which car a decision is for is read off the sheet: decision k is that of the k-th car record whose bit
-   154, counted from 0 where the record starts, is set (idle-listed); its id is the 32 bits from bit 22 on (docs/manual/format.md; examples/c/pass.c
-   does it). */
+   A cell is the cost times 1,000,000, rounded, or DISPATCH_BENCH_SENTINEL where there is no rank, and in spare columns. Where it rounds to more than
+   the ceiling, the cell is the ceiling, and counts in *held; one that rounds to the ceiling itself does not. Two cells at the ceiling look alike, but
+   where *held is above 0 nothing says that their costs are equal. The first *stops columns are the pending stops by rising id, which
+   dispatch_bench_pending gives. *total is the sum of a cell for each idle car: that of the stop where it is sent, or the sentinel where it stays
+   idle. Which car a decision is for is read off the sheet: decision k is that of the k-th car record whose bit 154, counted from 0 where the record
+   starts, is set (idle-listed); its id is the 32 bits from bit 22 on (docs/manual/format.md; examples/c/pass.c does it). */
 uint32_t dispatch_bench_pass(const uint8_t *sheet, size_t length, uint32_t *decisions, size_t decision_count, uint64_t *matrix, size_t cell_count,
-                             uint8_t *sweeps, size_t sweep_count, uint64_t *cars, uint64_t *stops, uint64_t *total, uint64_t *ranked, uint64_t *offset);
+                             uint8_t *sweeps, size_t sweep_count, uint64_t *cars, uint64_t *stops, uint64_t *total, uint64_t *ranked, uint64_t *held,
+                             uint64_t *offset);
 
 /* The pending stops of a sheet. 0: *count of them, as many as *stops of a pass, and their ids in column order, which rise, first in stops; what
    stands past these is left, and so is *offset. A stop whose landing is closed (kind 8) is among them only where a rider in an idle-listed car is

@@ -72,14 +72,14 @@ static void print_sweeps(size_t end, uint64_t cars) {
 }
 
 static void print_pass(size_t length) {
-    uint64_t cars, stops, total, ranked, offset;
+    uint64_t cars, stops, total, ranked, held, offset;
     uint32_t number = dispatch_bench_pass(sheet, length, lent.decisions, DISPATCH_BENCH_DECISIONS, lent.matrix, DISPATCH_BENCH_CELLS, lent.sweeps,
-                                          DISPATCH_BENCH_SWEEPS, &cars, &stops, &total, &ranked, &offset);
+                                          DISPATCH_BENCH_SWEEPS, &cars, &stops, &total, &ranked, &held, &offset);
     if (number != DISPATCH_BENCH_ACCEPTED) {
         printf("refused %" PRIu32 " at %" PRIu64 "\n", number, offset);
         return;
     }
-    printf("cars %" PRIu64 " stops %" PRIu64 " total %" PRIu64 "\n", cars, stops, total);
+    printf("cars %" PRIu64 " stops %" PRIu64 " total %" PRIu64 " held %" PRIu64 "\n", cars, stops, total, held);
     print_decisions(8 * length, cars);
     print_sweeps(8 * length, cars);
 }

@@ -1,15 +1,25 @@
 //! Prints the pass over one sheet as the program passprint does: `cargo run --example pass SHEET`. The rule of a refusal goes to standard error.
 //!
-//! Exit 0: a pass or a refusal was printed. 1: the sheet cannot be read, or the lines cannot be written. 2: no sheet was named.
+//! Exit 0: a pass or a refusal was printed. 1: the sheet cannot be read, or the lines cannot be written, or the library is not of the crate's
+//! interface. 2: no sheet was named.
 
 use std::io::Write as _;
 use std::process::ExitCode;
+
+use dispatch_bench::{VERSION, version};
 
 fn main() -> ExitCode {
     let Some(path) = std::env::args_os().nth(1) else {
         eprintln!("usage: pass SHEET");
         return ExitCode::from(2);
     };
+    if version() != VERSION {
+        eprintln!(
+            "the library's interface is {}, the crate's {VERSION}",
+            version()
+        );
+        return ExitCode::FAILURE;
+    }
     let sheet = match std::fs::read(&path) {
         Ok(sheet) => sheet,
         Err(error) => {

@@ -42,8 +42,11 @@ pub use weights::{SLOTS, StoreRefusal, weights};
 /// [`choose`] takes. A cost of 1 is a cell of 1,000,000.
 pub const SENTINEL: u64 = 281_474_976_710_656;
 
-/// The number of the interface that this crate is written for: DISPATCH_BENCH_VERSION of include/dispatch_bench.h.
-pub const VERSION: u32 = 1;
+/// The largest cell of a pair that has a rank: a cost that rounds to more is held down to it, and counts in `held` of a pass.
+pub const CEILING: u64 = SENTINEL - 1;
+
+/// The number of the interface that this crate is written for: DISPATCH_BENCH_VERSION of include/dispatch_bench.h. 2 since a pass answers `held`.
+pub const VERSION: u32 = 2;
 
 /// The most cars of a matrix.
 const MOST_CARS: usize = 32;
@@ -57,7 +60,8 @@ pub struct Choice {
     pub total: u64,
 }
 
-/// The number of the linked library's interface: [`VERSION`], where the library belongs to this crate.
+/// The number of the linked library's interface: [`VERSION`], where the library belongs to this crate. A host that names a library of its own
+/// (DISPATCH_BENCH_LIB) asks before its first pass: with one of interface 1 `held` is always 0, and a refusal's offset too.
 pub fn version() -> u32 {
     library::version()
 }

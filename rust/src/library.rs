@@ -31,6 +31,7 @@ unsafe extern "C" {
         stops: *mut u64,
         total: *mut u64,
         ranked: *mut u64,
+        held: *mut u64,
         offset: *mut u64,
     ) -> u32;
     fn dispatch_bench_pending(
@@ -58,6 +59,7 @@ pub struct Numbers {
     pub stops: u64,
     pub total: u64,
     pub ranked: u64,
+    pub held: u64,
     pub offset: u64,
 }
 
@@ -106,7 +108,7 @@ pub fn pass(
     sweeps: &mut [Sweep],
     numbers: &mut Numbers,
 ) -> u32 {
-    // SAFETY: the four slices are lent as their addresses and lengths, and the five numbers are fields of their own; see above.
+    // SAFETY: the four slices are lent as their addresses and lengths, and the six numbers are fields of their own; see above.
     unsafe {
         dispatch_bench_pass(
             sheet.as_ptr(),
@@ -121,6 +123,7 @@ pub fn pass(
             &mut numbers.stops,
             &mut numbers.total,
             &mut numbers.ranked,
+            &mut numbers.held,
             &mut numbers.offset,
         )
     }

@@ -7,7 +7,7 @@ use crate::{Car, Pass, Refusal, SweepDirection, SweepMode, cars, pass};
 /// ```
 /// # let sheet = include_bytes!(concat!(env!("CARGO_MANIFEST_DIR"), "/../crates/passprint/stdin"));
 /// let lines = dispatch_bench::lines(sheet);
-/// assert!(lines.starts_with("cars 2 stops 2 total 10000000\ncar 7 stop 2\n"));
+/// assert!(lines.starts_with("cars 2 stops 2 total 10000000 held 0\ncar 7 stop 2\n"));
 /// assert_eq!(dispatch_bench::lines(b""), "refused 2 at 0\n");
 /// ```
 pub fn lines(sheet: &[u8]) -> String {
@@ -19,8 +19,8 @@ pub fn lines(sheet: &[u8]) -> String {
 
 fn pass_lines(cars: &[Car], pass: &Pass) -> String {
     let mut lines = format!(
-        "cars {} stops {} total {}\n",
-        pass.cars, pass.stops, pass.total
+        "cars {} stops {} total {} held {}\n",
+        pass.cars, pass.stops, pass.total, pass.held
     );
     let idle = cars.iter().filter(|car| car.idle_listed);
     for (car, decision) in idle.zip(&pass.decisions) {

@@ -84,6 +84,8 @@ pub struct Summary<'b> {
     pub total: u64,
     /// How many pairs of a car and a stop were ranked.
     pub ranked: u64,
+    /// How many cells were held down to [`CEILING`](crate::CEILING): these alone are less than the cost. One that rounds to the ceiling is not held.
+    pub held: u64,
     /// One for each idle car, in record order.
     pub decisions: &'b [Decision],
     /// The cells, a row for each idle car; the columns are the pending stops by rising id, then spare ones.
@@ -115,6 +117,8 @@ pub struct Pass {
     pub total: u64,
     /// How many pairs of a car and a stop were ranked.
     pub ranked: u64,
+    /// How many cells were held down to [`CEILING`](crate::CEILING): these alone are less than the cost. One that rounds to the ceiling is not held.
+    pub held: u64,
     /// One for each idle car, in record order.
     pub decisions: Vec<Decision>,
     /// The cells, a row for each idle car; the columns are the pending stops by rising id, then spare ones.
@@ -169,6 +173,7 @@ pub fn pass_into<'b>(sheet: &[u8], buffers: &'b mut Buffers) -> Result<Summary<'
         stops,
         total: numbers.total,
         ranked: numbers.ranked,
+        held: numbers.held,
         decisions: first(decisions, cars),
         matrix: first(matrix, cars * cars.max(stops)),
         sweeps: first(sweeps, self::cars(sheet).count()),
@@ -185,7 +190,7 @@ fn first<T>(buffer: &[T], count: usize) -> &[T] {
 /// ```
 /// # let sheet = include_bytes!(concat!(env!("CARGO_MANIFEST_DIR"), "/../crates/passprint/stdin"));
 /// let pass = dispatch_bench::pass(sheet)?;
-/// assert_eq!((pass.cars, pass.stops, pass.total), (2, 2, 10_000_000));
+/// assert_eq!((pass.cars, pass.stops, pass.total, pass.held), (2, 2, 10_000_000, 0));
 /// let stops: Vec<u32> = pass.decisions.iter().flatten().map(|id| id.get()).collect();
 /// assert_eq!(stops, [2, 3]);
 /// # Ok::<(), dispatch_bench::Refusal>(())
@@ -198,6 +203,7 @@ pub fn pass(sheet: &[u8]) -> Result<Pass, Refusal> {
         stops: summary.stops,
         total: summary.total,
         ranked: summary.ranked,
+        held: summary.held,
         decisions: summary.decisions.to_vec(),
         matrix: summary.matrix.to_vec(),
         sweeps: summary.sweeps.to_vec(),

@@ -4,8 +4,8 @@ use std::num::NonZeroU32;
 use std::path::Path;
 
 use dispatch_bench::{
-    Buffers, Refusal, SENTINEL, STOPS, Sweep, SweepDirection, SweepMode, VERSION, cars, choose,
-    pass, pass_into, pending, pending_into, read, version,
+    Buffers, CEILING, Refusal, SENTINEL, STOPS, Sweep, SweepDirection, SweepMode, VERSION, cars,
+    choose, pass, pass_into, pending, pending_into, read, version,
 };
 
 const EXAMPLE: &[u8] = include_bytes!("../../crates/passprint/stdin");
@@ -31,6 +31,7 @@ fn number_of(name: &str) -> Option<u32> {
 fn the_example() {
     let pass = pass(EXAMPLE).unwrap();
     assert_eq!((pass.cars, pass.stops, pass.total), (2, 2, 10_000_000));
+    assert_eq!(pass.held, 0);
     assert_eq!(pass.decisions, [NonZeroU32::new(2), NonZeroU32::new(3)]);
     let rows: Vec<&[u64]> = pass.rows().collect();
     assert_eq!(rows.len(), 2);
@@ -78,6 +79,7 @@ fn buffers_are_lent_again() {
                 assert_eq!(owned.matrix, lent.matrix, "{name}");
                 assert_eq!(owned.sweeps, lent.sweeps, "{name}");
                 assert_eq!(owned.total, lent.total, "{name}");
+                assert_eq!(owned.held, lent.held, "{name}");
                 assert_eq!(lent.rows().count(), lent.cars, "{name}");
                 assert_eq!(lent.sweeps.len(), cars(&sheet).count(), "{name}");
             }
@@ -177,6 +179,53 @@ fn pending_stops_are_the_columns() {
     assert!(sent > 80, "{sent} cars are sent");
 }
 
+/// Held cells are cells at the ceiling; a sheet without one at the ceiling has none that is held.
+#[test]
+fn held_cells_are_at_the_ceiling() {
+    for (name, sheet) in corpus() {
+        let Ok(pass) = pass(&sheet) else { continue };
+        let ceiling = pass.matrix.iter().filter(|cell| **cell == CEILING);
+        assert!(pass.held <= ceiling.count() as u64, "{name}");
+        assert_eq!(pass.held > 0, name.contains("ceiling"), "{name}");
+    }
+}
+
+/// A car 6, 4 and 2 seconds from three stops, by the weight of a second: at the ceiling, last places around it, below and above.
+#[test]
+fn a_value_that_rounds_to_the_ceiling_is_not_held() {
+    // Bits 130 to 193: the first weight of the policy.
+    let put = |sheet: &mut [u8], weight: f64| {
+        for k in 0..64 {
+            let (byte, bit) = ((130 + k) / 8, 0x80 >> ((130 + k) % 8));
+            match weight.to_bits() << k >> 63 {
+                0 => sheet[byte] &= !bit,
+                _ => sheet[byte] |= bit,
+            }
+        }
+    };
+    let (_, stored) = corpus().into_iter().find(|s| s.0 == "ceiling").unwrap();
+    let mut sheet = stored.clone();
+    put(&mut sheet, 140_737_488.355_327_5);
+    assert_eq!(sheet, stored);
+    let mut seen = [0; 2];
+    for whole in [140_737_488.355_327_5_f64, 70_368_744.177_663_75, 1.0, 1e9] {
+        for bits in whole.to_bits() - 40..whole.to_bits() + 40 {
+            let weight = f64::from_bits(bits).min(1e9);
+            put(&mut sheet, weight);
+            let pass = pass(&sheet).unwrap();
+            let rounded = [6.0, 4.0, 2.0].map(|seconds| (weight * seconds * 1e6).round());
+            let cells = rounded.map(|value| value.min(CEILING as f64) as u64);
+            let held = rounded.iter().filter(|value| **value > CEILING as f64);
+            assert_eq!(pass.matrix, cells, "{weight}");
+            assert_eq!(pass.held, held.count() as u64, "{weight}");
+            for (value, cell) in rounded.iter().zip(cells) {
+                seen[usize::from(*value > CEILING as f64)] += usize::from(cell == CEILING);
+            }
+        }
+    }
+    assert!(seen.iter().all(|often| *often > 15), "{seen:?}");
+}
+
 /// A closed landing counts as covered whoever waits there; one that a rider of an idle car is bound for stays pending.
 #[test]
 fn closed_landings() {
@@ -231,6 +280,7 @@ fn numbers_of_the_header() {
     assert_eq!(number("VERSION"), u64::from(VERSION));
     assert_eq!(number("VERSION"), u64::from(version()));
     assert_eq!(number("SENTINEL"), SENTINEL);
+    assert_eq!(number("CEILING"), CEILING);
     let mut places = vec![0; number("STOPS") as usize];
     assert_eq!(places.len(), STOPS);
     assert!(pending_into(EXAMPLE, &mut places).is_ok());

@@ -2,9 +2,10 @@
 --   cell-le matrix-le          every cell is at most the sentinel
 --   cell-kept cell-viable      a cell below it belongs to a kept, hence viable, pair
 --   cell-mono matrix-mono      a higher limit raises no cell
+--   held-ceiling               a held cell is at the ceiling, hence of a viable pair and no sentinel
 --   unlimited                  with no limit the order of the stops plays no part
 --   no-stop no-car             sheets where the Rust builds no matrix
-use Prim.Native.Nat.{ℕ, _<_, _≤_, _*_}
+use Prim.Native.Nat.{ℕ, _<_, _≤_, _+_, _-_, _*_, max}
 use mathlib.Core.Path.{_≡_, refl, sym, ap, _∙_}
 use mathlib.Core.Bool.{Bool, true, false, not, _&&_, cond, true≢false}
 use mathlib.Core.Logic.{⊎-elim}
@@ -13,9 +14,9 @@ use native.Mathlib.Omega.{arith}
 use lib.Dec.{eqb, ltb}
 use borrow.Author.Tests.{eqb-true, eq-eqb, ltb-true, ltb-false, lt-ltb, le-ltb, not-true}
 use Rattle.laws.specs.Bools.{both, both-left, both-right, either, either-left, either-right, which}
-use Rattle.laws.specs.Folds.{count-le, Nth, nth-is}
+use Rattle.laws.specs.Folds.{count, count-le, count-cong, count-below, Nth, nth-is}
 use Rattle.laws.specs.Sums.{sum}
-use Rattle.scale.specs.Scale.{sentinel, scaleCost-le}
+use Rattle.scale.specs.Scale.{sentinel, ceiling, scaleCost-le, held-ceiling as scaled-ceiling}
 use Rattle.components.specs.declared.Rank.{Rank}
 use Rattle.components.specs.declared.Rank.the-variants.{Cost, Never}
 use Rattle.components.specs.Sheet.{Sheet}
@@ -24,7 +25,7 @@ use Rattle.assignment_problem.specs.Chosen.{chosen-total}
 use Rattle.assignment_problem.specs.Recursion.{columnOf}
 use Rattle.assignment.specs.Pending.{pending, idle, idleCars, rowCar, pendingStops, columnStop, columns}
 use Rattle.assignment.specs.Candidates.{noLimit, keeps, lineServes, barred, viable, nearer, kept, keptOf, viableOf}
-use Rattle.assignment.specs.Cells.{rank, rankCell, cell, matrix, goes, answeredTotal}
+use Rattle.assignment.specs.Cells.{rank, rankCell, rankHeld, cell, heldCell, matrix, heldAt, heldInRow, heldCells, goes, answeredTotal}
 
 -- ---- every cell is at most the sentinel
 
@@ -92,6 +93,35 @@ viable-parts s i j h =
       not-true (barred s i j) (both-left (not (barred s i j)) (lineServes s i j) p),
       both-right (not (barred s i j)) (lineServes s i j) p,
     )
+
+-- ---- held cells
+
+rank-ceiling : (r : Rank) → rankHeld r ≡ true → rankCell r ≡ ceiling
+rank-ceiling (Cost x) h = scaled-ceiling x h
+rank-ceiling Never h = absurd (true≢false (sym h))
+
+module _ (s : Sheet) (limit : ℕ) where
+  held-cell : (i j : ℕ) → heldCell s limit i j ≡ true → cell s limit i j ≡ ceiling
+  unfolding cell heldCell
+  held-cell i j h =
+      rw (both-left (kept s i limit j) (rankHeld (rank s i j)) h)
+      (rank-ceiling (rank s i j) (both-right (kept s i limit j) (rankHeld (rank s i j)) h))
+
+  pub held-ceiling : (r c : ℕ) → heldAt s limit r c ≡ true → matrix s limit r c ≡ ceiling
+  unfolding matrix heldAt
+  held-ceiling r c h =
+      rw (both-left (ltb c (pendingStops s)) (heldCell s limit (rowCar s r) (columnStop s c)) h)
+      (held-cell (rowCar s r) (columnStop s c) (both-right (ltb c (pendingStops s)) (heldCell s limit (rowCar s r) (columnStop s c)) h))
+
+  -- only the columns of the pending stops count
+  pub held-in-row : (r : ℕ) → heldInRow s limit r ≡ count (λ c. heldCell s limit (rowCar s r) (columnStop s c)) (pendingStops s)
+  unfolding heldInRow heldAt columns
+  held-in-row r =
+      let m = pendingStops s in
+      let rest : m + (max (idleCars s) m - m) ≡ max (idleCars s) m = omega arith in
+      ap (count (heldAt s limit r)) (sym rest)
+      ∙ count-below (heldAt s limit r) m (max (idleCars s) m - m) (λ c l _. rw (le-ltb c m l))
+      ∙ count-cong (heldAt s limit r) (λ c. heldCell s limit (rowCar s r) (columnStop s c)) m (λ c l. rw (lt-ltb c m l))
 
 -- ---- a higher limit keeps at least as much, so no cell rises
 

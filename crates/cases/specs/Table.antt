@@ -1,7 +1,7 @@
 -- Document 01's cases P1 to P10, in its order and numbering, as one table that holds by computation: P1 to P3 of the choice, P4 to P6 of scale_cost,
--- P7 to P10 of the ranks that the pass uses, over sheets of one car. Assumes nothing.
+-- P7 to P10 of the ranks that the pass uses, over sheets of one car; and request F-5's, on both sides of the ceiling. Assumes nothing.
 use mathlib.Core.Path.{_≡_, refl}
-use mathlib.Core.Bool.{Bool, true, _&&_}
+use mathlib.Core.Bool.{Bool, true, false, _&&_}
 use mathlib.Core.List.{List, [], _∷_}
 use Prim.Native.Nat.{ℕ, _+_}
 use lib.Dec.{ltb}
@@ -9,7 +9,7 @@ use lib.ListN.{length, getD}
 use lib.Ieee.{Float, ofBits, binary64, add, sub, mul, div, neg, lt, le, eq, round, ofInt}
 use Rattle.laws.specs.Folds.{fold, any, every, count, nth, lookup}
 use Rattle.fp.specs.Num.{zero, epsilon, natural, distance}
-use Rattle.scale.specs.Scale.{whole, scaleCost, sentinel, ceiling}
+use Rattle.scale.specs.Scale.{whole, aboveCeiling, scaleCost, heldDown, sentinel, ceiling}
 use Rattle.mask.specs.Mask.{has}
 use Rattle.components.specs.declared.Policy.{Policy}
 use Rattle.components.specs.declared.Car.{Car}
@@ -105,11 +105,17 @@ sheet p q c =
 
 -- one name that opens every definition on the way
 unfoldable pub everything : ℕ
-unfolding ofBits add sub mul div neg lt le eq round ofInt fold any every count nth lookup distance whole scaleCost has stopPosition goal inGroup
+unfolding ofBits add sub mul div neg lt le eq round ofInt fold any every count nth lookup distance whole aboveCeiling scaleCost heldDown has
+    stopPosition goal inGroup
     someoneWaits riderlessCall riddenTo hasDemand demandStop sweepRank riderCanBoard canExitHere servable onAboardPath pairIsUseful fairnessBonus
     withBonus sumAt waitTicksSum waitTicksSquaredSum intervenes doorCost extraDelay isAhead directionBonus weighted finiteRank travelTime
-    interveningStops riderDelay computeCost etdRank withPenalty withCoincidentCall withLoad rsrCostOf rsrRank scan best chosen leastTotal policy car sheet
+    interveningStops riderDelay computeCost etdRank withPenalty withCoincidentCall withLoad rsrCostOf rsrRank scan best chosen leastTotal
+    policy car sheet
 everything = 0
+
+-- the cell of a cost, and whether it was held down
+abbrev pub scaled : Float → ℕ × Bool
+scaled x = (scaleCost x, heldDown x)
 
 -- a car at 0 that sweeps up, and a stop at 1e-9
 abbrev pub upAtZero : Mode → Rank
@@ -144,11 +150,14 @@ pub record Table : Type 0 where
       × (carsGoing (cells ceiling 1 sentinel ceiling) 2 (chosen (cells ceiling 1 sentinel ceiling) 2 2) ≡ 1)
       × (carsGoing (cells ceiling 1 sentinel ceiling) 2 (0 ∷ 1 ∷ []) ≡ 2)
   -- "P4 cost 0.0078125 is 7,813."
-  pub P4 : scaleCost (ofBits binary64 0x3f80_0000_0000_0000) ≡ 7_813
+  pub P4 : scaled (ofBits binary64 0x3f80_0000_0000_0000) ≡ (7_813, false)
   -- "P5 0.00390625 is 3,906."
-  pub P5 : scaleCost (ofBits binary64 0x3f70_0000_0000_0000) ≡ 3_906
+  pub P5 : scaled (ofBits binary64 0x3f70_0000_0000_0000) ≡ (3_906, false)
   -- "P6 281,474,976 is 281,474,976,000,000; 281,474,977 meets the ceiling."
-  pub P6 : (scaleCost (natural 281_474_976) ≡ 281_474_976_000_000) × (scaleCost (natural 281_474_977) ≡ 281_474_976_710_655)
+  pub P6 : (scaled (natural 281_474_976) ≡ (281_474_976_000_000, false)) × (scaled (natural 281_474_977) ≡ (281_474_976_710_655, true))
+  -- request F-5, "A value that rounds exactly to the ceiling isn't held": 281,474,976.710655, the last cost that does, and the first beyond
+  pub F5 : (scaled (ofBits binary64 0x41b0_c6f7_a0b5_ed7c) ≡ (ceiling, false)) × (scaled (ofBits binary64 0x41b0_c6f7_a0b5_ed84) ≡ (ceiling, false))
+      × (scaled (ofBits binary64 0x41b0_c6f7_a0b5_ed85) ≡ (ceiling, true))
   -- "P7 strict up at 0, stop at 1e-9: no rank; lenient: cell 0."
   pub P7 : (upAtZero mode.Strict ≡ Never) × (rankCell (upAtZero mode.Lenient) ≡ 0)
   -- "P8 ETD, wait weight 1, others 0, idle phase, distance 10, speed 2: 3,500,000; moving to a stop beyond: 2,500,000."
@@ -170,6 +179,7 @@ table =
       P4 = refl;
       P5 = refl;
       P6 = (refl, refl);
+      F5 = (refl, refl, refl);
       P7 = (refl, refl);
       P8 = (refl, refl);
       P9 = refl;

@@ -25,6 +25,7 @@ use layout::waiting;
 use manifest::Waiters;
 use mask::Ones;
 use pending::StopMasks;
+use rows::Counted;
 
 // The ids and the positions of the stops.
 fn fill_stops(s: &[u8], c: Counts, ids: &mut [u32], xs: &mut [f64])
@@ -164,7 +165,7 @@ pub fn list_cars(s: &[u8], c: Counts) -> Ones
     list_idle(cars::cars_of(s, c), c.cars as usize)
 }
 
-// The cells of the idle cars, a row each, and how many pairs are ranked.
+// The cells of the idle cars, a row each, how many pairs are ranked, and how many cells are held.
 pub fn fill_matrix<'a>(
     s: &'a [u8],
     c: Counts,
@@ -177,7 +178,7 @@ pub fn fill_matrix<'a>(
     idle: Ones,
     columns: usize,
     matrix: &mut [u64],
-) -> u64
+) -> Counted
     requires { ⌜ (verdict (now s) ≡ Accepted c) × (length (now ids) ≡ 64) × (length (now xs) ≡ 64) × (stops .count ≤ columns)
         × (columns ≤ 64) × (2048 ≤ length (now matrix)) ⌝ }
     requires { ⌜ Survey (sheetOf (now s) c) (now ids) (now xs) masks stops cars idle ⌝ }

@@ -7,6 +7,7 @@ use mathlib.Core.List.{_++_}
 use lib.Dec.{ltb}
 use lib.ListN.{drop}
 use Rattle.laws.specs.Folds.{count, nth}
+use Rattle.laws.specs.Sums.{sum}
 use Rattle.laws.specs.Tables.{tab, tabs}
 use Rattle.scale.specs.Scale.{sentinel}
 use Rattle.components.specs.declared.Rank.{Rank}
@@ -21,7 +22,8 @@ use Rattle.rsr.specs.Rsr.{rsrRank}
 use Rattle.assignment_problem.specs.Recursion.{columnOf, leastTotal}
 use Rattle.assignment.specs.Pending.{idle, idleCars, rowCar, pending, pendingStops, columnStop, columns}
 use Rattle.assignment.specs.Candidates.{keeps, precedes, lineServes, barred, away, viableOf, nearerOf, keptOf}
-use Rattle.assignment.specs.Cells.{byStrategy, rankCell, sweepAfter, rank, cell, matrix, column, answeredTotal, goes, decision}
+use Rattle.assignment.specs.Cells.{byStrategy, rankCell, rankHeld, sweepAfter, rank, cell, matrix, column, answeredTotal, goes, decision}
+use Rattle.assignment.specs.Cells.{heldCell, heldAt, heldInRow, heldCells}
 use Rattle.outcome.specs.Outcome.{decisionsOf, cellsOf, sweepsOf}
 use Rattle.bench.specs.declared.Answer.the-variants.{Passed}
 use Rattle.bench.specs.Done.{Lent, Done, done, written}
@@ -73,14 +75,22 @@ module _ (s : Sheet) (rule : ℕ → Bool) where
     abbrev pub totalUnder : ℕ
     totalUnder = leastTotal matrixUnder (idleCars s) columnsUnder
 
+    abbrev pub heldAtUnder : ℕ → ℕ → Bool
+    heldAtUnder r c =
+        ltb c stopsUnder
+        && (keptUnder (rowCar s r) limit (columnStopUnder c) && rankHeld (rankUnder (rowCar s r) (columnStopUnder c)))
+
+    abbrev pub heldUnder : ℕ
+    heldUnder = sum (idleCars s) (λ r. count (heldAtUnder r) columnsUnder)
+
     abbrev pub writtenUnder : ℕ → Lent → Done
     writtenUnder ranked x =
-        done (Passed (idleCars s) stopsUnder totalUnder ranked)
+        done (Passed (idleCars s) stopsUnder totalUnder ranked heldUnder)
         (tab decisionUnder (idleCars s) ++ drop (idleCars s) (x .decisions))
         (tabs matrixUnder columnsUnder (idleCars s) ++ drop (idleCars s * columnsUnder) (x .cells))
         (tab (λ i. sweepCode (sweepUnder i)) (s .cars) ++ drop (s .cars) (x .sweeps))
 
 pub by-rule : (s : Sheet) (limit ranked : ℕ) (x : Lent) → written s limit ranked x ≡ writtenUnder s (pending s) limit ranked x
 unfolding pendingStops columnStop columns viableOf nearerOf keptOf sweepAfter rank cell matrix column answeredTotal goes decision decisionsOf cellsOf
-    sweepsOf
+    sweepsOf heldCell heldAt heldInRow heldCells
 by-rule s limit ranked x = refl

@@ -1,6 +1,6 @@
 -- The lines that passprint prints of a byte string. Document 01: "It prints one line of n, m and total, then a line for each idle car's decision,
--- then one for each idle car's sweep and mode, both in record order"; "An idle decision ends `idle`; a refusal prints `refused N at OFFSET`." Assumes
--- nothing.
+-- then one for each idle car's sweep and mode, both in record order"; "An idle decision ends `idle`; a refusal prints `refused N at OFFSET`." Request
+-- F-5: "the printed first line" carries "the number of held cells, as a last field `held`". Assumes nothing.
 use Prim.Native.Nat.{ℕ}
 use mathlib.Core.Bool.{cond}
 use mathlib.Core.List.{List, [], _∷_, _++_}
@@ -18,7 +18,7 @@ use Rattle.layout.specs.Records.{sheetOf, limitOf}
 use Rattle.layout.specs.Verdict.{verdict}
 use Rattle.sweep.specs.declared.Sweep.{Sweep}
 use Rattle.assignment.specs.Pending.{idleCars, rowCar, pendingStops}
-use Rattle.assignment.specs.Cells.{sweepAfter, decision, answeredTotal}
+use Rattle.assignment.specs.Cells.{sweepAfter, decision, answeredTotal, heldCells}
 
 -- words by their ASCII codes; 10 ends a line
 
@@ -33,6 +33,10 @@ stopsWord = 32 ∷ 115 ∷ 116 ∷ 111 ∷ 112 ∷ 115 ∷ 32 ∷ []
 -- " total "
 abbrev pub totalWord : List ℕ
 totalWord = 32 ∷ 116 ∷ 111 ∷ 116 ∷ 97 ∷ 108 ∷ 32 ∷ []
+
+-- " held "
+abbrev pub heldWord : List ℕ
+heldWord = 32 ∷ 104 ∷ 101 ∷ 108 ∷ 100 ∷ 32 ∷ []
 
 -- "car "
 abbrev pub carWord : List ℕ
@@ -78,9 +82,13 @@ atWord = 32 ∷ 97 ∷ 116 ∷ 32 ∷ []
 abbrev pub lineEnd : List ℕ
 lineEnd = 10 ∷ []
 
--- `cars N stops M total T`
-unfoldable pub headLine : ℕ → ℕ → ℕ → List ℕ
-headLine n m total = carsWord ++ (decimal n ++ (stopsWord ++ (decimal m ++ (totalWord ++ (decimal total ++ lineEnd)))))
+-- ` held H`
+unfoldable pub heldEnd : ℕ → List ℕ
+heldEnd held = heldWord ++ (decimal held ++ lineEnd)
+
+-- `cars N stops M total T held H`
+unfoldable pub headLine : ℕ → ℕ → ℕ → ℕ → List ℕ
+headLine n m total held = carsWord ++ (decimal n ++ (stopsWord ++ (decimal m ++ (totalWord ++ (decimal total ++ heldEnd held)))))
 
 -- ` stop STOP`, and ` idle` for 0
 unfoldable pub decisionEnd : ℕ → List ℕ
@@ -127,7 +135,7 @@ module _ (s : Sheet) where
 
   unfoldable pub passText : ℕ → List ℕ
   passText limit =
-      headLine (idleCars s) (pendingStops s) (answeredTotal s limit)
+      headLine (idleCars s) (pendingStops s) (answeredTotal s limit) (heldCells s limit)
       ++ (linesOf (rowDecision limit) (idleCars s) ++ linesOf rowSweep (idleCars s))
 
 -- what is printed of a byte string, by its verdict

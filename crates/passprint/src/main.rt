@@ -15,7 +15,7 @@ ghost use Rattle.layout.specs.Offsets.{Small};
 ghost use Rattle.layout.specs.Records.{sheetOf, limitOf};
 ghost use Rattle.layout.specs.Verdict.{verdict};
 ghost use Rattle.rows.specs.MatrixLaws.{Rows};
-ghost use Rattle.passprint.specs.Lines.{headLine, decisionEnd, decisionLine, refusalLine, linesOf, rowDecision, rowSweep, printed};
+ghost use Rattle.passprint.specs.Lines.{heldEnd, headLine, decisionEnd, decisionLine, refusalLine, linesOf, rowDecision, rowSweep, printed};
 ghost use Rattle.passprint.specs.LineLaws.{codeWord, codeEnd, codeLine, Answered, Decided, Swept};
 use bench::Answer;
 use layout::Counts;
@@ -25,10 +25,20 @@ use libc::STDIN_FILENO;
 use libc::STDOUT_FILENO;
 use mask::Ones;
 
-// `cars N stops M total T`.
-fn head_line(out: &mut [u8], cars: u64, stops: u64, total: u64) -> usize
-    requires { ⌜ 80 ≤ length (now out) ⌝ }
-    ensures { λ r. ⌜ Put (now (out .entry)) 0 (headLine cars stops total) (now (out .exit)) r × (r ≤ 80) ⌝ }
+// ` held H`, which ends the first line.
+fn held_end(out: &mut [u8], at: usize, held: u64) -> usize
+    requires { ⌜ at + 27 ≤ length (now out) ⌝ }
+    ensures { λ r. ⌜ Put (now (out .entry)) at (heldEnd held) (now (out .exit)) r × (r ≤ at + 27) ⌝ }
+{
+    let a = text::put(out, at, b" held ");
+    let b = text::put_decimal(out, a, held);
+    text::put(out, b, b"\n")
+}
+
+// `cars N stops M total T held H`.
+fn head_line(out: &mut [u8], cars: u64, stops: u64, total: u64, held: u64) -> usize
+    requires { ⌜ 106 ≤ length (now out) ⌝ }
+    ensures { λ r. ⌜ Put (now (out .entry)) 0 (headLine cars stops total held) (now (out .exit)) r × (r ≤ 106) ⌝ }
 {
     let a = text::put(out, 0, b"cars ");
     let b = text::put_decimal(out, a, cars);
@@ -36,7 +46,7 @@ fn head_line(out: &mut [u8], cars: u64, stops: u64, total: u64) -> usize
     let d = text::put_decimal(out, c, stops);
     let e = text::put(out, d, b" total ");
     let f = text::put_decimal(out, e, total);
-    text::put(out, f, b"\n")
+    held_end(out, f, held)
 }
 
 // `refused N at OFFSET`.
@@ -168,17 +178,18 @@ fn sent_lines<'a>(
     cars: u64,
     stops: u64,
     total: u64,
+    held: u64,
     decisions: &'a [u32],
     sweeps: &'a [u8],
     out: &mut [u8],
 ) -> usize
-    requires { ⌜ (verdict (now s) ≡ Accepted c) × Answered (sheetOf (now s) c) (limitOf (now s)) cars stops total
+    requires { ⌜ (verdict (now s) ≡ Accepted c) × Answered (sheetOf (now s) c) (limitOf (now s)) cars stops total held
         × Decided (sheetOf (now s) c) (limitOf (now s)) (now decisions) × Swept (sheetOf (now s) c) (now sweeps)
         × (4096 ≤ length (now out)) ⌝ }
     ensures { λ r. ⌜ Put (now (out .entry)) 0 (printed (now (s .entry))) (now (out .exit)) r × (r ≤ 4096) ⌝ }
 {
     let idle = cells::list_cars(s, c);
-    let a = head_line(out, cars, stops, total);
+    let a = head_line(out, cars, stops, total, held);
     let b = decision_lines(s, c, idle, decisions, out, a);
     sweep_lines(s, c, idle, sweeps, out, b)
 }
@@ -198,7 +209,8 @@ fn pass_lines(s: &[u8], c: Counts, out: &mut [u8]) -> usize
             stops,
             total,
             ranked: _,
-        } => sent_lines(s, c, cars, stops, total, &decisions, &sweeps, out),
+            held,
+        } => sent_lines(s, c, cars, stops, total, held, &decisions, &sweeps, out),
     }
 }
 
@@ -236,8 +248,11 @@ fn is_read(n: usize) -> bool {
 fn usage() {
     io::write_all(
         STDOUT_FILENO,
-        b"usage: passprint < SHEET\n\nPrints the pass over one sheet: its idle cars, pending stops and least total, then each\nidle car's stop, then
-            each idle car's sweep and mode; or why the sheet is refused.\n",
+        b"usage: passprint < SHEET\n\nPrints the pass over one sheet: its idle cars, pending stops, least total and held cells,\n",
+    );
+    io::write_all(
+        STDOUT_FILENO,
+        b"then each idle car's stop, then each idle car's sweep and mode; or why the sheet is refused.\n",
     );
 }
 

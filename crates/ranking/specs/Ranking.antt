@@ -1,6 +1,6 @@
 -- Ranks and cells over what the code holds. Assumes nothing.
 use Prim.Native.Nat.{ℕ}
-use mathlib.Core.Bool.{false, not, _&&_, cond}
+use mathlib.Core.Bool.{Bool, false, not, _&&_, cond}
 use mathlib.Core.List.{List}
 use lib.Dec.{eqb}
 use lib.ListN.{getD}
@@ -18,7 +18,7 @@ use Rattle.scan.specs.Scan.{preparedBy, rankOf}
 use Rattle.dispatch.specs.Pairs.{usefulBy}
 use Rattle.etd.specs.Pairs.{rankBy as etdBy}
 use Rattle.rsr.specs.Pairs.{rankBy as rsrBy}
-use Rattle.assignment.specs.Cells.{byStrategy, rankCell}
+use Rattle.assignment.specs.Cells.{byStrategy, rankCell, rankHeld}
 use Rattle.ranking.specs.declared.Row.{Row}
 
 unfoldable pub scanBy : Row → List Float → Waiters → List Float → ℕ → Rank
@@ -36,6 +36,9 @@ rankBy row dests v xs n j =
 
 unfoldable pub cellBy : Row → List Float → Waiters → List Float → ℕ → ℕ → ℕ
 cellBy row dests v xs n j = cond (has (row .kept) j) (rankCell (rankBy row dests v xs n j)) sentinel
+
+unfoldable pub heldBy : Row → List Float → Waiters → List Float → ℕ → ℕ → Bool
+heldBy row dests v xs n j = has (row .kept) j && rankHeld (rankBy row dests v xs n j)
 
 -- a mask of pending stops that is not empty
 unfoldable pub sweepBy : Strategy → Car → ℕ → ℕ → List Float → ℕ → Sweep

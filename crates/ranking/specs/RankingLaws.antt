@@ -26,9 +26,9 @@ use Rattle.rsr.specs.Rsr.{rsrRank}
 use Rattle.rsr.specs.RsrLaws.{rank-is as rsr-is}
 use Rattle.assignment.specs.Pending.{idle, pendingStops}
 use Rattle.assignment.specs.Candidates.{kept}
-use Rattle.assignment.specs.Cells.{byStrategy, sweepAfter, rank, cell}
+use Rattle.assignment.specs.Cells.{byStrategy, sweepAfter, rank, cell, heldCell}
 use Rattle.ranking.specs.declared.Row.{Row}
-use Rattle.ranking.specs.Ranking.{scanBy, rankBy, cellBy, sweepBy}
+use Rattle.ranking.specs.Ranking.{scanBy, rankBy, cellBy, heldBy, sweepBy}
 use Rattle.sweep.specs.Sweeps.{sweepOf}
 
 -- a row holds car i's part of the sheet, under a limit
@@ -83,6 +83,10 @@ module _ (s : Sheet) (ids : List ℕ) (xs : List Float) (hs : HoldsStops s ids x
   pub cell-is : cellBy row dests v xs (s .stops) j ≡ cell s limit i j
   unfolding cellBy cell
   cell-is = rw (h .kept-is j l, rank-is)
+
+  pub held-is : heldBy row dests v xs (s .stops) j ≡ heldCell s limit i j
+  unfolding heldBy heldCell
+  held-is = rw (h .kept-is j l, rank-is)
 
 -- the sweep of car i after the pass
 pub sweep-is : (s : Sheet) (ids : List ℕ) (xs : List Float) (pending demand : ℕ) → HoldsStops s ids xs (s .stops)

@@ -2,8 +2,8 @@
 ghost use mathlib.Core.Path.{_≡_};
 ghost use Prim.Native.Nat.{_<_, _≤_};
 ghost use lib.ListN.{length};
-ghost use Rattle.assignment.specs.Cells.{rankCell};
-ghost use Rattle.ranking.specs.Ranking.{scanBy, rankBy, cellBy, sweepBy};
+ghost use Rattle.assignment.specs.Cells.{rankCell, rankHeld};
+ghost use Rattle.ranking.specs.Ranking.{scanBy, rankBy, cellBy, heldBy, sweepBy};
 use components::Car;
 use components::Place;
 use components::Policy;
@@ -11,6 +11,7 @@ use components::Rank;
 use components::Strategy;
 use manifest::Waiters;
 use riders::Riders;
+use scale::Scaled;
 use sweep::Sweep;
 
 // What a row's cells share: the policy, the car with its sweep, where it moves to, its riders, the demand stops, and the stops that it is ranked for.
@@ -75,17 +76,17 @@ pub fn rank<'a>(
     }
 }
 
-// The cell of a rank.
-fn rank_cell(rank: Rank) -> u64
-    ensures { λ r. ⌜ r ≡ rankCell rank ⌝ }
+// The cell of a rank, and whether it is held.
+fn rank_cell(rank: Rank) -> Scaled
+    ensures { λ r. ⌜ (r .cell ≡ rankCell rank) × (r .held ≡ rankHeld rank) ⌝ }
 {
     match rank {
-        Rank::Never => scale::SENTINEL,
-        Rank::Cost(x) => scale::scale_cost(x).cell,
+        Rank::Never => scale::no_rank(),
+        Rank::Cost(x) => scale::scale_cost(x),
     }
 }
 
-// The cell of stop j.
+// The cell of stop j, and whether it is held.
 pub fn cell<'a>(
     row: Row,
     dests: &'a [f64],
@@ -93,14 +94,15 @@ pub fn cell<'a>(
     xs: &'a [f64],
     n: usize,
     j: usize,
-) -> u64
+) -> Scaled
     requires { ⌜ (row .riders .count ≤ length (now dests)) × (n ≤ 64) × (n ≤ length (now xs)) × (j < n) ⌝ }
-    ensures { λ r. ⌜ r ≡ cellBy row (now (dests .entry)) waiters (now (xs .entry)) n j ⌝ }
+    ensures { λ r. ⌜ (r .cell ≡ cellBy row (now (dests .entry)) waiters (now (xs .entry)) n j)
+        × (r .held ≡ heldBy row (now (dests .entry)) waiters (now (xs .entry)) n j) ⌝ }
 {
     if mask::has(row.kept, j) {
         rank_cell(rank(row, dests, waiters, xs, n, j))
     } else {
-        scale::SENTINEL
+        scale::no_rank()
     }
 }
 

@@ -1,17 +1,18 @@
 // Demand 3, run: passes stored pairs through `bench::pass_two` and holds both answers and all buffers to what is stored of each: idle cars, pending
-// stops, total, decisions, cells and sweeps. A pair is one sheet twice, the second time with its candidate limit raised or lifted, which is tested
-// too. Prints the first difference of each pass that has one, and how much was compared.
+// stops, total, held cells, decisions, cells and sweeps. A pair is one sheet twice, the second time with its candidate limit raised or lifted, which
+// is tested too. Prints the first difference of each pass that has one, and how much was compared.
 //
 // The list was made by `oracle list pairs 1 FILE` (tools/oracle) from the published Rust files. A pair is two cases, one after the other, each as in
-// the list of replay_passes (crate stored_passes). 163 have one idle car, 41 have two, 3 have four. The pairs:
+// the list of replay_passes (crate stored_passes). 166 have one idle car, 41 have two, 3 have four. The pairs:
 //                           ETD    RSR   SCAN
-//     raised by 1            24     23     20
-//     raised by 2 or more    23     24     20
-//     lifted                 25     25     23
-//     the total falls        50     50     43
+//     raised by 1            25     23     20
+//     raised by 2 or more    23     25     20
+//     lifted                 25     25     24
+//     the total falls        51     51     44
 //
-// Pairs are counted from 0. It was tried that it can fail: a bit flipped in a stored number of stops, total, decision, cell or sweep of either pass
-// is printed with both values. Sheets that differ in a further byte, or whose limits are equal, are named, and so is a list without its last byte.
+// Pairs are counted from 0. It was tried that it can fail: a bit flipped in a stored number of stops, total, number of held cells, decision, cell or
+// sweep of either pass is printed with both values. Sheets that differ in a further byte, or whose limits are equal, are named, and so is a list
+// without its last byte.
 use bench::Answer;
 use libc::STDIN_FILENO;
 use libc::STDOUT_FILENO;
@@ -105,6 +106,7 @@ fn total(a: Answer) -> u64
             stops: _,
             total,
             ranked: _,
+            held: _,
         } => total,
         Answer::Refused {
             number: _,

@@ -1,12 +1,12 @@
-// Runs the pass on stored sheets and holds all that it answers and writes to what is stored: idle cars, pending stops, total, decisions, cells and
-// sweeps. Prints the first difference of each sheet that has one, and how much was compared.
+// Runs the pass on stored sheets and holds all that it answers and writes to what is stored: idle cars, pending stops, total, held cells, decisions,
+// cells and sweeps. Prints the first difference of each sheet that has one, and how much was compared.
 //
 // The list was made by `oracle list passes 1 FILE` (tools/oracle) from the published Rust files: for each of the harness's faulty passes a small
 // sheet that tells it from the right one, ten sheets of each profile, and document 01's example. Where the Rust builds no matrix (no idle car, or no
 // pending stop), cells and total are document 01's. A case's format is in the crate stored_passes.
 //
-// Sheets are counted from 0. It was tried that it can fail: a bit flipped in a stored number of stops, total, decision, cell or sweep, or in a
-// sheet's edition, is printed with both values, and so is a list without its last byte.
+// Sheets are counted from 0. It was tried that it can fail: a bit flipped in a stored number of stops, total, number of held cells, decision, cell
+// or sweep, or in a sheet's edition, is printed with both values, and so is a list without its last byte.
 use libc::STDIN_FILENO;
 use libc::STDOUT_FILENO;
 use stored_passes::Place;

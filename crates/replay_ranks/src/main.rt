@@ -6,10 +6,10 @@
 // each, and row by row for each pair 8 bits that are 1 where there is a rank, and its 64 bits; these are 0 where there is none, and for a zero of
 // either sign, which the Rust leaves open. The most significant byte comes first.
 //
-// tools/oracle/README.md counts what the 257 sheets show: 8,344 pairs, 3,797 with a rank above zero.
+// tools/oracle/README.md counts what the pairs show.
 //
-// A rank that differs shows: with the last bit of the list's first rank changed, the program prints its car and stop, both ranks, and at the end
-//     257 sheets, 8344 ranks compared, 1 differ
+// A rank that differs shows: with the last bit of the list's first rank changed, the program prints its car and stop, both ranks, and in its last
+// line that one differs.
 use components::Rank;
 use layout::Counts;
 use layout::Reading;

@@ -34,16 +34,18 @@ use Rattle.riders.specs.Riders.{ridersIn, destsIn}
 use Rattle.dispatch.specs.WaitersLaws.{Weighed, HoldsWaiters}
 use Rattle.assignment.specs.Pending.{pending, pendingStops, columnStop, idleCars, rowCar}
 use Rattle.assignment.specs.Candidates.{kept, keptOf}
-use Rattle.assignment.specs.Cells.{matrix}
+use Rattle.assignment.specs.Cells.{matrix, heldCell, heldInRow}
+use Rattle.assignment.specs.CellLaws.{held-in-row, pending-le}
 use Rattle.pending.specs.declared.StopMasks.{StopMasks}
 use Rattle.pending.specs.Masks.{stopMask, pending-are}
 use Rattle.sweep.specs.declared.Sweep.{Sweep}
 use Rattle.ranking.specs.declared.Row.{Row}
 use Rattle.ranking.specs.Ranking.{sweepBy}
-use Rattle.ranking.specs.RankingLaws.{HoldsRow, cell-is}
+use Rattle.ranking.specs.RankingLaws.{HoldsRow, cell-is, held-is}
+use Rattle.rows.specs.declared.Counted.{Counted}
 use Rattle.rows.specs.KeptLaws.{keptNumber}
 use Rattle.rows.specs.HeldLaws.{Held, row-held}
-use Rattle.rows.specs.RowLaws.{noWaiters, rowCell, padded}
+use Rattle.rows.specs.RowLaws.{noWaiters, rowCell, rowHeld, padded}
 
 -- ---- the pending stops, listed from their mask, are the columns'; the idle cars, the rows'
 
@@ -118,6 +120,21 @@ module _ (s : Sheet) (few : s .stops ≤ 64) (mask : ℕ) (e : mask ≡ stopMask
       tab-cong (padded (rowCell row dests waiters xs (s .stops) stops) (stops .count)) (matrix s limit r) n
       (λ k l. cells-are ids xs hs r limit weighed row dests hr waiters hw k)
 
+  -- so many are held
+  pub held-are : (ids : List ℕ) (xs : List Float) → HoldsStops s ids xs (s .stops) → (r limit : ℕ) → Weighed s (rowCar s r)
+      → (row : Row) (dests : List Float) → HoldsRow s (rowCar s r) limit row dests → (waiters : List Waiters)
+      → ((j : ℕ) → j < s .stops → HoldsWaiters s j (getD waiters j noWaiters))
+      → count (rowHeld row dests waiters xs (s .stops) stops) (stops .count) ≡ heldInRow s limit r
+  unfolding rowHeld
+  held-are ids xs hs r limit weighed row dests hr waiters hw =
+      count-cong (rowHeld row dests waiters xs (s .stops) stops) (λ c. heldCell s limit (rowCar s r) (columnStop s c)) (stops .count)
+      (λ k l.
+      let b = column-below k l in
+      rw (listed-stop k l)
+      (held-is s ids xs hs (rowCar s r) limit weighed row dests hr (columnStop s k) (getD waiters (columnStop s k) noWaiters)
+      (hw (columnStop s k) b) b))
+      ∙ ap (count (λ c. heldCell s limit (rowCar s r) (columnStop s c))) listed-count ∙ sym (held-in-row s limit r)
+
 -- the mask of the stops that a car is ranked for has so many
 pub kept-size : (s : Sheet) (limit m : ℕ) (car : Car) → s .stops ≤ 64 → m ≡ stopMask s (keptOf s car limit)
     → count (has m) 64 ≡ count (keptOf s car limit) (s .stops)
@@ -167,9 +184,10 @@ row-of s ids xs acar adest masks h limit car row entry er ed =
           refl e (record { answered = refl; held = rw riders at ed }) refl refl refl);
     }
 
--- a buffer of n cells that holds the row of car i, whichever row that is
-pub record FilledRow (s : Sheet) (limit i n : ℕ) (exit : List ℕ) : Type 0 where
+-- a buffer of n cells that holds the row of car i, whichever row that is, with so many cells held
+pub record FilledRow (s : Sheet) (limit i n held : ℕ) (exit : List ℕ) : Type 0 where
   pub row : (r : ℕ) → rowCar s r ≡ i → exit ≡ tab (matrix s limit r) n
+  pub held-cells : (r : ℕ) → rowCar s r ≡ i → held ≡ heldInRow s limit r
 
 -- ---- what the pass has at hand when it fills rows
 
@@ -198,6 +216,14 @@ module _ (s : Sheet) (ids : List ℕ) (xs : List Float) (acar adest : List ℕ) 
       (rw e (h .weighed i l)) row dests
       (rw e hr) waiters (h .waiting) n
 
+  pub ready-held : (i limit : ℕ) (row : Row) {dests : List Float} → i < s .cars → HoldsRow s i limit row dests → (r : ℕ)
+      → rowCar s r ≡ i
+      → count (rowHeld row dests waiters xs (s .stops) stops) (stops .count) ≡ heldInRow s limit r
+  ready-held i limit row {dests} l hr r e =
+      held-are s (h .held .few) (masks .pending) (pending-are s (h .held .masks-are)) stops (h .listed) ids xs (h .held .stops-held) r limit
+      (rw e (h .weighed i l)) row dests
+      (rw e hr) waiters (h .waiting)
+
 -- what the row of a car needs, in a buffer of some cells
 pub record CarNeeds (b : List ℕ) (c : Counts) (ids : List ℕ) (xs : List Float) (acar adest : List ℕ) (masks : StopMasks) (waiters : List Waiters)
     (stops : Ones) (cells : ℕ) : Type 0 where
@@ -215,26 +241,30 @@ destsFor s ids xs acar adest car =
     destsIn ids (s .stops) acar adest (car .id) xs (s .aboards) ++ drop (ridersIn ids (s .stops) acar adest (car .id) (s .aboards) .count)
     (replicate 512 zero)
 
--- n cells hold the row of a car by value, and so many of its pairs are ranked
+-- n cells hold the row of a car by value, so many of its pairs are ranked, and so many of its cells are held
 pub record FilledCar (s : Sheet) (ids : List ℕ) (xs : List Float) (acar adest : List ℕ) (masks : StopMasks) (waiters : List Waiters) (stops : Ones)
-    (limit : ℕ) (car : Car) (n ranked : ℕ) (exit : List ℕ) : Type 0 where
+    (limit : ℕ) (car : Car) (n : ℕ) (counted : Counted) (exit : List ℕ) : Type 0 where
   pub row : exit ≡ tab (padded (rowCell (rowFor s ids xs acar adest masks limit car) (destsFor s ids xs acar adest car) waiters xs (s .stops) stops)
       (stops .count)) n
-  pub number : ranked ≡ count (keptOf s car limit) (s .stops)
+  pub number : counted .ranked ≡ count (keptOf s car limit) (s .stops)
+  pub held-cells : counted .held ≡ count (rowHeld (rowFor s ids xs acar adest masks limit car) (destsFor s ids xs acar adest car) waiters xs
+      (s .stops) stops) (stops .count)
 
 -- the row of car i of a list that holds the sheet's cars
 pub filled-at : (s : Sheet) (ids : List ℕ) (xs : List Float) (acar adest : List ℕ) (masks : StopMasks) (waiters : List Waiters) (stops : Ones)
-    → Ready s ids xs acar adest masks waiters stops → (limit i n ranked : ℕ) (cars : List Car) (exit : List ℕ) → HoldsCars s cars → i < s .cars
-    → FilledCar s ids xs acar adest masks waiters stops limit (getD cars i noCar) n ranked exit
-    → FilledRow s limit i n exit × (ranked ≡ keptNumber s limit i)
+    → Ready s ids xs acar adest masks waiters stops → (limit i n : ℕ) (counted : Counted) (cars : List Car) (exit : List ℕ) → HoldsCars s cars
+    → i < s .cars → FilledCar s ids xs acar adest masks waiters stops limit (getD cars i noCar) n counted exit
+    → FilledRow s limit i n (counted .held) exit × (counted .ranked ≡ keptNumber s limit i)
 unfolding destsFor keptNumber rowFor
-filled-at s ids xs acar adest masks waiters stops h limit i n ranked cars exit hc l f =
+filled-at s ids xs acar adest masks waiters stops h limit i n counted cars exit hc l f =
     let e = hc .each i l in
     let car = getD cars i noCar in
     let row = row-of s ids xs acar adest masks (h .held) limit car (rowFor s ids xs acar adest masks limit car) (replicate 512 zero) refl refl in (
       record {
         row = λ r q. f .row ∙ ready-row s ids xs acar adest masks waiters stops h i limit (rowFor s ids xs acar adest masks limit car) l
             (row .held i e) r n q;
+        held-cells = λ r q. f .held-cells ∙ ready-held s ids xs acar adest masks waiters stops h i limit (rowFor s ids xs acar adest masks limit car)
+            l (row .held i e) r q;
       },
       f .number ∙ count-cong (keptOf s car limit) (kept s i limit) (s .stops) (λ j _. ap (λ (k : Car). keptOf s k limit j) e),
     )
@@ -243,6 +273,11 @@ filled-at s ids xs acar adest masks waiters stops h limit i n ranked cars exit h
 pub kept-few : (s : Sheet) (limit i : ℕ) → s .stops ≤ 64 → keptNumber s limit i ≤ 64
 unfolding keptNumber
 kept-few s limit i few = omega (arith, count-le (kept s i limit) (s .stops))
+
+-- no more of its cells are held
+pub held-few : (s : Sheet) (limit r : ℕ) → s .stops ≤ 64 → heldInRow s limit r ≤ 64
+held-few s limit r few =
+    omega (arith, held-in-row s limit r, count-le (λ c. heldCell s limit (rowCar s r) (columnStop s c)) (pendingStops s), pending-le s)
 
 -- ---- the rows
 
@@ -253,20 +288,22 @@ pub record Rows (s : Sheet) (idle : Ones) : Type 0 where
   pub car-of : (r : ℕ) → r < idle .count → getD (idle .at) r 0 ≡ rowCar s r
   pub below : (r : ℕ) → r < idle .count → rowCar s r < s .cars
 
--- n rows stand in the buffer, and so many of their pairs are ranked
-pub record FilledRows (s : Sheet) (limit n columns : ℕ) (entry : List ℕ) (ranked : ℕ) (exit : List ℕ) : Type 0 where
+-- n rows stand in the buffer, so many of their pairs are ranked, and so many of their cells are held
+pub record FilledRows (s : Sheet) (limit n columns : ℕ) (entry : List ℕ) (counted : Counted) (exit : List ℕ) : Type 0 where
   pub size : length exit ≡ length entry
   pub rows : exit ≡ tabs (matrix s limit) columns n ++ drop (n * columns) entry
-  pub counted : ranked ≡ sum n (λ r. keptNumber s limit (rowCar s r))
+  pub ranked : counted .ranked ≡ sum n (λ r. keptNumber s limit (rowCar s r))
+  pub held : counted .held ≡ sum n (heldInRow s limit)
 
 -- r rows stand up to a cell
-pub record Filling (s : Sheet) (limit columns r at : ℕ) (entry : List ℕ) (ranked : ℕ) (now : List ℕ) : Type 0 where
+pub record Filling (s : Sheet) (limit columns r at : ℕ) (entry : List ℕ) (ranked held : ℕ) (now : List ℕ) : Type 0 where
   pub near : at ≤ r * 64
   pub exact : at ≡ r * columns
   pub few : ranked ≤ r * 64
-  pub held : FilledRows s limit r columns entry ranked now
+  pub few-held : held ≤ r * 64
+  pub filled : FilledRows s limit r columns entry (record { ranked = ranked; held = held }) now
 
-pub filling-start : (s : Sheet) (limit columns : ℕ) (entry : List ℕ) → Filling s limit columns 0 0 entry 0 entry
+pub filling-start : (s : Sheet) (limit columns : ℕ) (entry : List ℕ) → Filling s limit columns 0 0 entry 0 0 entry
 unfolding tabs sum
 filling-start s limit columns entry =
     let none : 0 ≡ 0 * columns = omega arith in
@@ -274,32 +311,36 @@ filling-start s limit columns entry =
       near = omega arith;
       exact = none;
       few = omega arith;
-      held = record { size = refl; rows = ap (λ (z : ℕ). drop z entry) none; counted = refl };
+      few-held = omega arith;
+      filled = record { size = refl; rows = ap (λ (z : ℕ). drop z entry) none; ranked = refl; held = refl };
     }
 
 -- a row of the buffer, lent
 pub part-length : (at columns : ℕ) (now : List ℕ) → at + columns ≤ length now → length (take (at + columns - at) (drop at now)) ≡ columns
 part-length at columns now l = simp (length-take, length-drop) (omega arith)
 
-pub filling-next : (s : Sheet) (limit columns r at i ranked few′ k n : ℕ) (entry now row : List ℕ) → columns ≤ 64 → s .stops ≤ 64
+pub filling-next : (s : Sheet) (limit columns r at i ranked held k n : ℕ) (counted : Counted) (entry now row : List ℕ) → columns ≤ 64 → s .stops ≤ 64
     → at + columns ≤ length entry
-    → Filling s limit columns r at entry ranked now → rowCar s r ≡ i → k ≡ columns → n ≡ columns → FilledRow s limit i n row
-    → few′ ≡ keptNumber s limit i
-    → Filling s limit columns (r + 1) (at + columns) entry (ranked + few′) (take at now ++ (row ++ drop k (drop at now)))
+    → Filling s limit columns r at entry ranked held now → rowCar s r ≡ i → k ≡ columns → n ≡ columns → FilledRow s limit i n (counted .held) row
+    → counted .ranked ≡ keptNumber s limit i
+    → Filling s limit columns (r + 1) (at + columns) entry (ranked + counted .ranked) (held + counted .held)
+    (take at now ++ (row ++ drop k (drop at now)))
 unfolding keptNumber
-filling-next s limit columns r at i ranked few′ k n entry now row lc few room h e ek en f number =
+filling-next s limit columns r at i ranked held k n counted entry now row lc few room h e ek en f number =
     let q : at + columns ≡ (r + 1) * columns = omega (arith, mul-next r columns, h .exact) in
     let rows : take at now ++ (row ++ drop k (drop at now)) ≡ tabs (matrix s limit) columns (r + 1) ++ drop (at + columns) entry =
     tabs-next (matrix s limit) columns r at k n entry now row (h .exact)
-    (h .held .rows ∙ ap (λ (z : ℕ). tabs (matrix s limit) columns r ++ drop z entry) (sym (h .exact))) ek (f .row r e) en in
+    (h .filled .rows ∙ ap (λ (z : ℕ). tabs (matrix s limit) columns r ++ drop z entry) (sym (h .exact))) ek (f .row r e) en in
     record {
       near = omega (arith, h .near);
       exact = q;
       few = omega (arith, h .few, number, count-le (kept s i limit) (s .stops));
-      held = record {
+      few-held = omega (arith, h .few-held, f .held-cells r e, held-few s limit r few);
+      filled = record {
         size = tabs-length (matrix s limit) columns (r + 1) (at + columns) entry _ q room rows;
         rows = rows ∙ ap (λ (z : ℕ). tabs (matrix s limit) columns (r + 1) ++ drop z entry) q;
-        counted = ap₂ (λ (a b : ℕ). a + b) (h .held .counted) (number ∙ ap (keptNumber s limit) (sym e))
+        ranked = ap₂ (λ (a b : ℕ). a + b) (h .filled .ranked) (number ∙ ap (keptNumber s limit) (sym e))
             ∙ sym (sum-next r (λ x. keptNumber s limit (rowCar s x)));
+        held = ap₂ (λ (a b : ℕ). a + b) (h .filled .held) (f .held-cells r e) ∙ sym (sum-next r (heldInRow s limit));
       };
     }

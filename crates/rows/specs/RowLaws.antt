@@ -1,7 +1,7 @@
 -- A row of the matrix, from what the code holds. Assumes nothing.
 use Prim.Native.Nat.{ℕ, _+_, _≤_, _<_}
 use mathlib.Core.Path.{_≡_, sym, ap, _∙_}
-use mathlib.Core.Bool.{true, false, cond}
+use mathlib.Core.Bool.{Bool, true, false, cond}
 use mathlib.Core.List.{List, _++_}
 use mathlib.Core.Logic.{⊎-elim}
 use native.Mathlib.Omega.{arith}
@@ -16,7 +16,7 @@ use Rattle.mask.specs.declared.Ones.{Ones}
 use Rattle.scale.specs.Scale.{sentinel}
 use Rattle.manifest.specs.declared.Waiters.{Waiters}
 use Rattle.ranking.specs.declared.Row.{Row}
-use Rattle.ranking.specs.Ranking.{cellBy}
+use Rattle.ranking.specs.Ranking.{cellBy, heldBy}
 
 -- what is read past the last stop
 abbrev pub noWaiters : Waiters
@@ -25,6 +25,10 @@ noWaiters = record { someone = false; call = false; waitsum = nan; squares = nan
 -- the cell of column k, whose stop is listed
 unfoldable pub rowCell : Row → List Float → List Waiters → List Float → ℕ → Ones → ℕ → ℕ
 rowCell row dests waiters xs n stops k = cellBy row dests (getD waiters (getD (stops .at) k 0) noWaiters) xs n (getD (stops .at) k 0)
+
+-- whether it is held
+unfoldable pub rowHeld : Row → List Float → List Waiters → List Float → ℕ → Ones → ℕ → Bool
+rowHeld row dests waiters xs n stops k = heldBy row dests (getD waiters (getD (stops .at) k 0) noWaiters) xs n (getD (stops .at) k 0)
 
 -- ---- spare cells
 

@@ -8,7 +8,8 @@ use native.Mathlib.Omega.{arith}
 use mathlib.Core.Path.{_≡_, refl, sym, ap, _∙_, subst}
 use mathlib.Core.Logic.{inl, inr}
 use mathlib.Core.Bool.{Bool, true, false, not, cond, true≢false}
-use lib.Dec.{T, eqb, lit<, lit≤}
+use lib.Dec.{T, eqb, ltb, lit<, lit≤}
+use borrow.Author.Tests.{lt-ltb}
 use lib.Pow.{pow-add, pow-pos, pow-mono, pow-lt}
 use lib.Ieee.{Float, nan, inf, fin, binary64, up, down, odd, fits, isNan, ofFields, toBits}
 use lib.Ieee.Fits.{down-pos}
@@ -16,33 +17,37 @@ use lib.Ieee.Bits.{ofBits-toBits}
 use lib.Ieee.Exact.{HasValue}
 use lib.Ieee.Nearest.{div-same}
 use Rattle.fp.specs.Fields.{fieldOne, signOne, inUnits, ofBits-clear, ofBits-set, bits-value}
-use Rattle.scale.specs.Scale.{whole, ceiling}
+use Rattle.scale.specs.Scale.{whole, aboveCeiling, ceiling, sentinel}
+
+-- a whole number that is the value of y, held to the ceiling
+abbrev pub Rounds : Float → ℕ → Type 0
+Rounds y n = (min n ceiling ≡ whole y) × (ltb ceiling n ≡ aboveCeiling y)
 
 -- ---- a sign that is set
 
-set-odd : (d q k l : ℕ) → whole (odd d true q k l) ≡ 0
-unfolding odd whole
-set-odd d zero k l = refl
-set-odd d (suc q) k l = refl
+set-odd : (d q k l : ℕ) → Rounds (odd d true q k l) 0
+unfolding odd whole aboveCeiling
+set-odd d zero k l = (refl, refl)
+set-odd d (suc q) k l = (refl, refl)
 
-set-fields : (x t : ℕ) → whole (ofFields binary64 true x t) ≡ 0
-unfolding ofFields whole
+set-fields : (x t : ℕ) → Rounds (ofFields binary64 true x t) 0
+unfolding ofFields whole aboveCeiling
 set-fields zero t = set-odd 53 t 0 1074
 set-fields (suc x) t = go (eqb (suc x) 2047) (eqb t 0)
   where
-    go : (a b : Bool) → whole (cond a (cond b (inf true) nan) (odd 53 true (fieldOne + t) x 1074)) ≡ 0
-    go true true = refl
-    go true false = refl
+    go : (a b : Bool) → Rounds (cond a (cond b (inf true) nan) (odd 53 true (fieldOne + t) x 1074)) 0
+    go true true = (refl, refl)
+    go true false = (refl, refl)
     go false b = set-odd 53 (fieldOne + t) x 1074
 
 -- ---- a value A / C: below a half, from the ceiling on, and between
 
-small : (y : Float) (A C : ℕ) → HasValue y false A C → 2 * A < C → whole y ≡ 0
-unfolding whole
-small nan A C v h = refl
-small (inf true) A C v h = refl
+small : (y : Float) (A C : ℕ) → HasValue y false A C → 2 * A < C → Rounds y 0
+unfolding whole aboveCeiling
+small nan A C v h = (refl, refl)
+small (inf true) A C v h = (refl, refl)
 small (inf false) A C v h = absurd v
-small (fin true m e) A C v h = refl
+small (fin true m e) A C v h = (refl, refl)
 small (fin false m e) A C v h =
     let d = down-pos e in
     let p : 2 * (m * up e) * C < down e * C =
@@ -50,25 +55,26 @@ small (fin false m e) A C v h =
     (lt-of-lt-of-le (mul-lt-mul-of-pos-right h d) (le-of-eq (mul-comm C (down e)))) in
     let q : 2 * (m * up e) < down e = lt-of-mul-lt-mul-right C p in
     let r : 2 * (m * up e) + down e < 2 * down e = omega arith in
-    rw (div-eq-of-lt r)
+    (rw (div-eq-of-lt r), rw (div-eq-of-lt r))
 
-big : (y : Float) (A C : ℕ) → 0 < C → HasValue y false A C → ceiling * C ≤ A → whole y ≡ ceiling
-unfolding whole
+big : (y : Float) (A C : ℕ) → 0 < C → HasValue y false A C → sentinel * C ≤ A → Rounds y sentinel
+unfolding whole aboveCeiling
 big nan A C c v h = absurd v
 big (inf true) A C c v h = absurd v
-big (inf false) A C c v h = refl
+big (inf false) A C c v h = (refl, refl)
 big (fin true m e) A C c v h = absurd (true≢false (v .0))
 big (fin false m e) A C c v h =
-    let p : ceiling * down e * C ≤ m * up e * C =
-    le-trans (le-of-eq (mul-right-comm ceiling (down e) C)) (le-trans (mul-le-mul-right (down e) h) (le-of-eq (sym (v .1)))) in
-    let q : ceiling * down e ≤ m * up e = le-of-mul-le-mul-right p c in
-    let r : ceiling * (2 * down e) ≤ 2 * (m * up e) + down e = omega arith in
-    min-eq-right (le-div-iff-mul-le (mul-pos (lit< tt) (down-pos e)) .1 r)
+    let p : sentinel * down e * C ≤ m * up e * C =
+    le-trans (le-of-eq (mul-right-comm sentinel (down e) C)) (le-trans (mul-le-mul-right (down e) h) (le-of-eq (sym (v .1)))) in
+    let q : sentinel * down e ≤ m * up e = le-of-mul-le-mul-right p c in
+    let r : sentinel * (2 * down e) ≤ 2 * (m * up e) + down e = omega arith in
+    let l : sentinel ≤ (2 * (m * up e) + down e) / (2 * down e) = le-div-iff-mul-le (mul-pos (lit< tt) (down-pos e)) .1 r in
+    (sym (min-eq-right (omega arith)), sym (lt-ltb ceiling ((2 * (m * up e) + down e) / (2 * down e)) (omega arith)))
 
 -- q * 2 ^ x units, where k + 1 of the digits of q lie below the point
 middle : (y : Float) (q x k : ℕ) → x + suc k ≡ 1074 → HasValue y false (q * 2 ^ x) (2 ^ 1074)
-    → whole y ≡ min ((q + 2 ^ k) / 2 ^ suc k) ceiling
-unfolding whole
+    → Rounds y ((q + 2 ^ k) / 2 ^ suc k)
+unfolding whole aboveCeiling
 middle nan q x k e v = absurd v
 middle (inf true) q x k e v = absurd v
 middle (inf false) q x k e v = absurd v
@@ -86,9 +92,10 @@ middle (fin false m c) q x k e v =
     add-mul (2 * (m * up c)) (down c) (2 * H) ∙ ap (λ (n : ℕ). n + down c * (2 * H)) (mul-assoc 2 (m * up c) (2 * H)) in
     let R : (q + H) * (2 * down c) ≡ 2 * (q * down c) + down c * (2 * H) = add-mul q H (2 * down c) ∙ simp (mul-comm, mul-left-comm) in
     let Z : (2 * (m * up c) + down c) * (2 * H) ≡ (q + H) * (2 * down c) = L ∙ ap (λ (n : ℕ). 2 * n + down c * (2 * H)) W ∙ sym R in
-    ap (λ (n : ℕ). min n ceiling)
-    (div-same (2 * (m * up c) + down c) (2 * down c) (q + H) (2 * H) (mul-pos (lit< tt) (down-pos c)) (mul-pos (lit< tt) (pow-pos k)) Z
-    ∙ ap (λ (n : ℕ). (q + H) / n) (sym S))
+    let D : (2 * (m * up c) + down c) / (2 * down c) ≡ (q + H) / 2 ^ suc k =
+    div-same (2 * (m * up c) + down c) (2 * down c) (q + H) (2 * H) (mul-pos (lit< tt) (down-pos c)) (mul-pos (lit< tt) (pow-pos k)) Z
+    ∙ ap (λ (n : ℕ). (q + H) / n) (sym S) in
+    (ap (λ (n : ℕ). min n ceiling) (sym D), ap (λ (n : ℕ). ltb ceiling n) (sym D))
 
 -- ---- the fields against a half and the ceiling
 
@@ -105,7 +112,7 @@ small-units (suc x) t h k =
     lt-of-lt-of-le (mul-lt-mul-of-pos-right q (pow-pos x)) (mul-le-mul-left (2 ^ 53) (pow-mono l)) in
     lt-of-lt-of-le (twice p) (lit≤ tt)
 
-big-units : (x t : ℕ) → 1071 ≤ x → ceiling * 2 ^ 1074 ≤ inUnits x t
+big-units : (x t : ℕ) → 1071 ≤ x → sentinel * 2 ^ 1074 ≤ inUnits x t
 big-units zero t h = absurd (omega arith)
 big-units (suc x) t h =
     let q : fieldOne ≤ fieldOne + t = omega arith in
@@ -114,23 +121,23 @@ big-units (suc x) t h =
 
 shifted : (y : Float) (x t k a b : ℕ) → a ≡ k → b ≡ suc k → k < 64 → x + suc k ≡ 1074
     → HasValue y false ((fieldOne + t) * 2 ^ x) (2 ^ 1074)
-    → min ((t + fieldOne + (1 * 2 ^ a) % 18446744073709551616) / 2 ^ b) ceiling ≡ whole y
+    → Rounds y ((t + fieldOne + (1 * 2 ^ a) % 18446744073709551616) / 2 ^ b)
 shifted y x t k a b p q r e v =
-    rw (p, q, one-mul (2 ^ k), mod-eq-of-lt (pow-lt r), add-comm t fieldOne) (sym (middle y (fieldOne + t) x k e v))
+    rw (p, q, one-mul (2 ^ k), mod-eq-of-lt (pow-lt r), add-comm t fieldOne) (middle y (fieldOne + t) x k e v)
 
 middle-units : (y : Float) (x t : ℕ) → 1022 ≤ x → x < 1071 → HasValue y false (inUnits x t) (2 ^ 1074)
-    → min ((t + fieldOne + (1 * 2 ^ (1075 - x - 1)) % 18446744073709551616) / 2 ^ (1075 - x)) ceiling ≡ whole y
+    → Rounds y ((t + fieldOne + (1 * 2 ^ (1075 - x - 1)) % 18446744073709551616) / 2 ^ (1075 - x))
 middle-units y zero t h k v = absurd (omega arith)
 middle-units y (suc x) t h k v =
     shifted y x t (1073 - x) (1075 - suc x - 1) (1075 - suc x) (omega arith) (omega arith) (omega arith) (omega arith) v
 
 -- a field of all ones is an infinity's
-endless : (t : ℕ) → T (not (isNan (ofFields binary64 false 2047 t))) → whole (ofFields binary64 false 2047 t) ≡ ceiling
-unfolding ofFields whole isNan
+endless : (t : ℕ) → T (not (isNan (ofFields binary64 false 2047 t))) → Rounds (ofFields binary64 false 2047 t) sentinel
+unfolding ofFields whole aboveCeiling isNan
 endless t = go (eqb t 0)
   where
-    go : (b : Bool) → T (not (isNan (cond b (inf false) nan))) → whole (cond b (inf false) nan) ≡ ceiling
-    go true n = refl
+    go : (b : Bool) → T (not (isNan (cond b (inf false) nan))) → Rounds (cond b (inf false) nan) sentinel
+    go true n = (refl, refl)
     go false n = absurd n
 
 field-le : (b : ℕ) → b < signOne → b / fieldOne ≤ 2047
@@ -139,27 +146,27 @@ field-le b p = omega arith
 -- ---- the ways of the code
 
 module _ (y : Float) (ok : T (fits binary64 y)) where
-  pub way-set : signOne ≤ toBits binary64 y → 0 ≡ whole y
-  way-set h = sym (ap whole (sym (ofBits-toBits binary64 y ok) ∙ ofBits-set (toBits binary64 y) h) ∙ set-fields _ _)
+  pub way-set : signOne ≤ toBits binary64 y → Rounds y 0
+  way-set h =
+      subst (λ (z : Float). Rounds z 0) (sym (sym (ofBits-toBits binary64 y ok) ∙ ofBits-set (toBits binary64 y) h)) (set-fields _ _)
 
-  pub way-small : toBits binary64 y < signOne → toBits binary64 y / fieldOne < 1022 → 0 ≡ whole y
-  way-small h k = sym (small y _ _ (bits-value y ok h (omega arith)) (small-units _ _ (omega arith) k))
+  pub way-small : toBits binary64 y < signOne → toBits binary64 y / fieldOne < 1022 → Rounds y 0
+  way-small h k = small y _ _ (bits-value y ok h (omega arith)) (small-units _ _ (omega arith) k)
 
   pub way-middle : toBits binary64 y < signOne → 1022 ≤ toBits binary64 y / fieldOne → toBits binary64 y / fieldOne < 1071
-      → min
+      → Rounds y
       ((toBits binary64 y % fieldOne + fieldOne + (1 * 2 ^ (1075 - toBits binary64 y / fieldOne - 1)) % 18446744073709551616)
       / 2 ^ (1075 - toBits binary64 y / fieldOne))
-      ceiling ≡ whole y
   way-middle h k l = middle-units y _ _ k l (bits-value y ok h (omega arith))
 
-  pub way-big : T (not (isNan y)) → toBits binary64 y < signOne → 1071 ≤ toBits binary64 y / fieldOne → ceiling ≡ whole y
+  pub way-big : T (not (isNan y)) → toBits binary64 y < signOne → 1071 ≤ toBits binary64 y / fieldOne → Rounds y sentinel
   way-big n h k = elim (eq-or-lt-of-le (field-le (toBits binary64 y) h)) [
     | inl e ↦
         let z : y ≡ ofFields binary64 false 2047 (toBits binary64 y % fieldOne) =
         sym (ofBits-toBits binary64 y ok) ∙ ofBits-clear (toBits binary64 y) h
         ∙ ap (λ (x : ℕ). ofFields binary64 false x (toBits binary64 y % fieldOne)) e in
-        sym (ap whole z ∙ endless _ (subst (λ (v : Float). T (not (isNan v))) z n))
-    | inr l ↦ sym (big y _ _ (pow-pos 1074) (bits-value y ok h l) (big-units _ _ k))
+        subst (λ (v : Float). Rounds v sentinel) (sym z) (endless _ (subst (λ (v : Float). T (not (isNan v))) z n))
+    | inr l ↦ big y _ _ (pow-pos 1074) (bits-value y ok h l) (big-units _ _ k)
   ]
 
 pub half-small : (x : ℕ) → 1022 ≤ x → (1 * 2 ^ (1075 - x - 1)) % 18446744073709551616 < 2 ^ 53

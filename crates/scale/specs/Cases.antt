@@ -1,52 +1,67 @@
 -- Costs on both sides of a half, of the ceiling and of the sentinel's tests, computed. Assumes nothing.
 use Prim.Native.Nat.{ℕ}
 use mathlib.Core.Path.{_≡_, refl}
+use mathlib.Core.Bool.{Bool, true, false}
 use lib.Ieee.{binary64, ofBits, mul, lt}
-use Rattle.scale.specs.Scale.{scaleCost, whole, sentinel, ceiling}
+use Rattle.scale.specs.Scale.{scaleCost, heldDown, whole, aboveCeiling, sentinel, ceiling}
 
--- the cell of the cost whose bits are n
-abbrev pub cell : ℕ → ℕ
-cell n = scaleCost (ofBits binary64 n)
+-- the cell of the cost whose bits are n, and whether its value was held down
+abbrev pub scaled : ℕ → ℕ × Bool
+scaled n = (scaleCost (ofBits binary64 n), heldDown (ofBits binary64 n))
 
 -- 0.0078125: 7,812.5 goes up, to an odd number
-pub half-up : cell 0x3f80_0000_0000_0000 ≡ 7_813
-unfolding scaleCost whole mul lt ofBits
+pub half-up : scaled 0x3f80_0000_0000_0000 ≡ (7_813, false)
+unfolding scaleCost heldDown whole aboveCeiling mul lt ofBits
 half-up = refl
 
 -- 0.00390625: 3,906.25
-pub below-half : cell 0x3f70_0000_0000_0000 ≡ 3_906
-unfolding scaleCost whole mul lt ofBits
+pub below-half : scaled 0x3f70_0000_0000_0000 ≡ (3_906, false)
+unfolding scaleCost heldDown whole aboveCeiling mul lt ofBits
 below-half = refl
 
 -- 281,474,976
-pub below-ceiling : cell 0x41b0_c6f7_a000_0000 ≡ 281_474_976_000_000
-unfolding scaleCost whole mul lt ofBits
+pub below-ceiling : scaled 0x41b0_c6f7_a000_0000 ≡ (281_474_976_000_000, false)
+unfolding scaleCost heldDown whole aboveCeiling mul lt ofBits
 below-ceiling = refl
 
 -- 281,474,977
-pub held : cell 0x41b0_c6f7_a100_0000 ≡ ceiling
-unfolding scaleCost whole mul lt ofBits
+pub held : scaled 0x41b0_c6f7_a100_0000 ≡ (ceiling, true)
+unfolding scaleCost heldDown whole aboveCeiling mul lt ofBits
 held = refl
 
+-- 281,474,976.710655: "A value that rounds exactly to the ceiling isn't held."
+pub exactly-ceiling : scaled 0x41b0_c6f7_a0b5_ed7c ≡ (ceiling, false)
+unfolding scaleCost heldDown whole aboveCeiling mul lt ofBits
+exactly-ceiling = refl
+
+-- the last cost that rounds to the ceiling, and the first beyond, whose product is 281,474,976,710,655.5
+pub last-not-held : scaled 0x41b0_c6f7_a0b5_ed84 ≡ (ceiling, false)
+unfolding scaleCost heldDown whole aboveCeiling mul lt ofBits
+last-not-held = refl
+
+pub first-held : scaled 0x41b0_c6f7_a0b5_ed85 ≡ (ceiling, true)
+unfolding scaleCost heldDown whole aboveCeiling mul lt ofBits
+first-held = refl
+
 -- minus zero isn't below zero
-pub minus-zero : cell 0x8000_0000_0000_0000 ≡ 0
-unfolding scaleCost whole mul lt ofBits
+pub minus-zero : scaled 0x8000_0000_0000_0000 ≡ (0, false)
+unfolding scaleCost heldDown whole aboveCeiling mul lt ofBits
 minus-zero = refl
 
 -- the greatest double: its product is infinite
-pub greatest : cell 0x7fef_ffff_ffff_ffff ≡ ceiling
-unfolding scaleCost whole mul lt ofBits
+pub greatest : scaled 0x7fef_ffff_ffff_ffff ≡ (ceiling, true)
+unfolding scaleCost heldDown whole aboveCeiling mul lt ofBits
 greatest = refl
 
 -- an infinity, a NaN, and the least double below zero
-pub infinite : cell 0x7ff0_0000_0000_0000 ≡ sentinel
-unfolding scaleCost whole mul lt ofBits
+pub infinite : scaled 0x7ff0_0000_0000_0000 ≡ (sentinel, false)
+unfolding scaleCost heldDown whole aboveCeiling mul lt ofBits
 infinite = refl
 
-pub no-number : cell 0x7ff8_0000_0000_0000 ≡ sentinel
-unfolding scaleCost whole mul lt ofBits
+pub no-number : scaled 0x7ff8_0000_0000_0000 ≡ (sentinel, false)
+unfolding scaleCost heldDown whole aboveCeiling mul lt ofBits
 no-number = refl
 
-pub below-zero : cell 0x8000_0000_0000_0001 ≡ sentinel
-unfolding scaleCost whole mul lt ofBits
+pub below-zero : scaled 0x8000_0000_0000_0001 ≡ (sentinel, false)
+unfolding scaleCost heldDown whole aboveCeiling mul lt ofBits
 below-zero = refl

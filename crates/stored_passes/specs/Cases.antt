@@ -21,7 +21,7 @@ use Rattle.stored_passes.specs.declared.Stored.{Stored}
 -- after a sheet that ends at byte end, with n idle cars and w columns; cut where some of it is not there
 unfoldable pub partsOf : List ℕ → ℕ → ℕ → ℕ → Place
 partsOf s end n w =
-    let front = 10 + 4 * n + 8 * (n * w) in
+    let front = 12 + 4 * n + 8 * (n * w) in
     let records = number s (end + front) 1 in
     cond (ltb front (length s - end))
     (cond (ltb 32 records) Cut
@@ -30,8 +30,8 @@ partsOf s end n w =
       end = end;
       cars = n;
       size = n * w;
-      decisions = end + 10;
-      cells = end + 10 + 4 * n;
+      decisions = end + 12;
+      cells = end + 12 + 4 * n;
       sweeps = end + front + 1;
       records = records;
       next = end + front + 2 + records;
@@ -46,7 +46,7 @@ caseOf s at =
     let n = number s end 1 in
     let w = max n (number s (end + 1) 1) in
     cond (ltb (length s - at) 2) Cut
-    (cond (ltb (length s - at) (bytes + 12)) Cut
+    (cond (ltb (length s - at) (bytes + 14)) Cut
     (cond (ltb 32 n) Cut
     (cond (ltb 64 w) Cut
     (partsOf s end n w))))
@@ -56,7 +56,7 @@ pub record Inside (s : List ℕ) (p : Stored) : Type 0 where
   pub few-cars : p .cars ≤ 32
   pub few-cells : p .size ≤ 2048
   pub few-records : p .records ≤ 32
-  pub decisions-from : p .decisions ≡ p .end + 10
+  pub decisions-from : p .decisions ≡ p .end + 12
   pub cells-from : p .cells ≡ p .decisions + 4 * p .cars
   pub sweeps-from : p .sweeps ≡ p .cells + 8 * p .size + 1
   pub ends : p .next ≡ p .sweeps + p .records + 1
@@ -77,10 +77,11 @@ apart ours theirs = bit (not (eqb ours theirs))
 unfoldable pub differing : List ℕ → ℕ → ℕ → List ℕ → ℕ → ℕ
 differing s at width ours n = count (λ k. not (eqb (getD ours k 0) (number s (at + width * k) width))) n
 
--- in how many entries a pass differs from the case: its three numbers, the decisions, the cells and the sweeps
-unfoldable pub caseDiffers : List ℕ → Stored → ℕ → ℕ → ℕ → List ℕ → List ℕ → List ℕ → ℕ
-caseDiffers s p cars stops total decisions matrix sweeps =
+-- in how many entries a pass differs from the case: its four numbers, the decisions, the cells and the sweeps
+unfoldable pub caseDiffers : List ℕ → Stored → ℕ → ℕ → ℕ → ℕ → List ℕ → List ℕ → List ℕ → ℕ
+caseDiffers s p cars stops total held decisions matrix sweeps =
     apart cars (number s (p .end) 1) + apart stops (number s (p .end + 1) 1) + apart total (number s (p .end + 2) 8)
+    + apart held (number s (p .end + 10) 2)
     + differing s (p .decisions) 4 decisions (p .cars) + differing s (p .cells) 8 matrix (p .size) + differing s (p .sweeps) 1 sweeps (p .records)
 
 -- ---- laws
@@ -111,9 +112,9 @@ pub differing-le : (s : List ℕ) (at width : ℕ) (ours : List ℕ) (n : ℕ) �
 unfolding differing
 differing-le s at width ours n = count-le (λ k. not (eqb (getD ours k 0) (number s (at + width * k) width))) n
 
-module _ (s : List ℕ) (p : Stored) (cars stops total : ℕ) (decisions matrix sweeps : List ℕ) where
+module _ (s : List ℕ) (p : Stored) (cars stops total held : ℕ) (decisions matrix sweeps : List ℕ) where
   -- no more than there are bytes after the sheet
-  pub differs-le : Inside s p → p .end + 1 + caseDiffers s p cars stops total decisions matrix sweeps ≤ p .next
+  pub differs-le : Inside s p → p .end + 1 + caseDiffers s p cars stops total held decisions matrix sweeps ≤ p .next
   unfolding caseDiffers
   differs-le i =
       omega (
@@ -125,25 +126,27 @@ module _ (s : List ℕ) (p : Stored) (cars stops total : ℕ) (decisions matrix 
         apart-le cars (number s (p .end) 1),
         apart-le stops (number s (p .end + 1) 1),
         apart-le total (number s (p .end + 2) 8),
+        apart-le held (number s (p .end + 10) 2),
         differing-le s (p .decisions) 4 decisions (p .cars),
         differing-le s (p .cells) 8 matrix (p .size),
         differing-le s (p .sweeps) 1 sweeps (p .records),
       )
 
   -- the parts of a comparison, one after the other
-  pub differs-is : {x y z a b c d e r : ℕ} → x ≡ number s (p .end) 1 → y ≡ number s (p .end + 1) 1 → z ≡ number s (p .end + 2) 8
-      → a ≡ 0 + apart cars x → b ≡ a + apart stops y → c ≡ b + apart total z
-      → d ≡ c + differing s (p .decisions) 4 decisions (p .cars) → e ≡ d + differing s (p .cells) 8 matrix (p .size)
-      → r ≡ e + differing s (p .sweeps) 1 sweeps (p .records) → r ≡ caseDiffers s p cars stops total decisions matrix sweeps
+  pub differs-is : {x y z u a b c d e f r : ℕ} → x ≡ number s (p .end) 1 → y ≡ number s (p .end + 1) 1 → z ≡ number s (p .end + 2) 8
+      → u ≡ number s (p .end + 10) 2 → a ≡ 0 + apart cars x → b ≡ a + apart stops y → c ≡ b + apart total z → d ≡ c + apart held u
+      → e ≡ d + differing s (p .decisions) 4 decisions (p .cars) → f ≡ e + differing s (p .cells) 8 matrix (p .size)
+      → r ≡ f + differing s (p .sweeps) 1 sweeps (p .records) → r ≡ caseDiffers s p cars stops total held decisions matrix sweeps
   unfolding caseDiffers
-  differs-is {x} {y} {z} {a} {b} {c} {d} {e} {r} ex ey ez ea eb ec ed ee er =
+  differs-is {x} {y} {z} {u} {a} {b} {c} {d} {e} {f} {r} ex ey ez eu ea eb ec ed ee ef er =
       let fa : a ≡ 0 + apart cars (number s (p .end) 1) = rw ex at ea in
       let fb : b ≡ a + apart stops (number s (p .end + 1) 1) = rw ey at eb in
       let fc : c ≡ b + apart total (number s (p .end + 2) 8) = rw ez at ec in
-      omega (arith, fa, fb, fc, ed, ee, er)
+      let fd : d ≡ c + apart held (number s (p .end + 10) 2) = rw eu at ed in
+      omega (arith, fa, fb, fc, fd, ee, ef, er)
 
--- its three numbers are there
-pub head-inside : (s : List ℕ) (p : Stored) → Inside s p → p .end + 10 ≤ length s
+-- its four numbers are there
+pub head-inside : (s : List ℕ) (p : Stored) → Inside s p → p .end + 12 ≤ length s
 head-inside s p i = omega (arith, i .decisions-from, i .cells-from, i .sweeps-from, i .ends, i .inside)
 
 pub small-size : (n w : ℕ) → n ≤ 32 → w ≤ 64 → n * w ≤ 2048
@@ -157,7 +160,7 @@ placed-from s a e Cut h i = tt
 
 module _ (s : List ℕ) (end n w : ℕ) where
   abbrev front : ℕ
-  front = 10 + 4 * n + 8 * (n * w)
+  front = 12 + 4 * n + 8 * (n * w)
 
   pub parts-short : length s - end ≤ front → Cut ≡ partsOf s end n w
   unfolding partsOf
@@ -177,8 +180,8 @@ module _ (s : List ℕ) (end n w : ℕ) where
           end = end;
           cars = n;
           size = n * w;
-          decisions = end + 10;
-          cells = end + 10 + 4 * n;
+          decisions = end + 12;
+          cells = end + 12 + 4 * n;
           sweeps = end + front + 1;
           records = records;
           next = end + front + 2 + records;
@@ -193,22 +196,22 @@ module _ (s : List ℕ) (at : ℕ) where
   case-headless h = rw (lt-ltb (length s - at) 2 h)
 
   module _ (long : 2 ≤ length s - at) {bytes : ℕ} (e : bytes ≡ number s at 2) where
-    pub case-short : length s - at < bytes + 12 → Cut ≡ caseOf s at
+    pub case-short : length s - at < bytes + 14 → Cut ≡ caseOf s at
     unfolding caseOf
-    case-short h = rw (le-ltb (length s - at) 2 long, sym e, lt-ltb (length s - at) (bytes + 12) h)
+    case-short h = rw (le-ltb (length s - at) 2 long, sym e, lt-ltb (length s - at) (bytes + 14) h)
 
-    module _ (whole : bytes + 12 ≤ length s - at) {n m w : ℕ} (en : n ≡ number s (at + 2 + bytes) 1) (em : m ≡ number s (at + 2 + bytes + 1) 1)
+    module _ (whole : bytes + 14 ≤ length s - at) {n m w : ℕ} (en : n ≡ number s (at + 2 + bytes) 1) (em : m ≡ number s (at + 2 + bytes + 1) 1)
         (ew : w ≡ max n m) where
       pub case-cars : 32 < n → Cut ≡ caseOf s at
       unfolding caseOf
-      case-cars h = rw (le-ltb (length s - at) 2 long, sym e, le-ltb (length s - at) (bytes + 12) whole, sym en, lt-ltb 32 n h)
+      case-cars h = rw (le-ltb (length s - at) 2 long, sym e, le-ltb (length s - at) (bytes + 14) whole, sym en, lt-ltb 32 n h)
 
       pub case-wide : n ≤ 32 → 64 < w → Cut ≡ caseOf s at
       unfolding caseOf
       case-wide h k =
-          rw (le-ltb (length s - at) 2 long, sym e, le-ltb (length s - at) (bytes + 12) whole, sym en, le-ltb 32 n h, sym em, sym ew, lt-ltb 64 w k)
+          rw (le-ltb (length s - at) 2 long, sym e, le-ltb (length s - at) (bytes + 14) whole, sym en, le-ltb 32 n h, sym em, sym ew, lt-ltb 64 w k)
 
       pub case-whole : n ≤ 32 → w ≤ 64 → partsOf s (at + 2 + bytes) n w ≡ caseOf s at
       unfolding caseOf
       case-whole h k =
-          rw (le-ltb (length s - at) 2 long, sym e, le-ltb (length s - at) (bytes + 12) whole, sym en, le-ltb 32 n h, sym em, sym ew, le-ltb 64 w k)
+          rw (le-ltb (length s - at) 2 long, sym e, le-ltb (length s - at) (bytes + 14) whole, sym en, le-ltb 32 n h, sym em, sym ew, le-ltb 64 w k)

@@ -14,7 +14,7 @@ use Rattle.stored_passes.specs.Cases.{Inside, caseDiffers, differs-le}
 -- in how many entries a pass differs; a refusal counts as one
 unfoldable pub passDiffers : List ℕ → Stored → Answer → List ℕ → List ℕ → List ℕ → ℕ
 passDiffers s p (Refused number offset) decisions cells sweeps = 1
-passDiffers s p (Passed n m total ranked) decisions cells sweeps = caseDiffers s p n m total decisions cells sweeps
+passDiffers s p (Passed n m total ranked held) decisions cells sweeps = caseDiffers s p n m total held decisions cells sweeps
 
 -- the sheet of the case at byte at
 abbrev pub sheetIn : List ℕ → ℕ → Stored → List ℕ
@@ -42,15 +42,15 @@ module _ (s : List ℕ) (p : Stored) {a : Answer} (d c w : List ℕ) where
   unfolding passDiffers
   differs-refused e = ap (λ (z : Answer). passDiffers s p z d c w) (sym e)
 
-  pub differs-passed : {n m t k r : ℕ} → a ≡ Passed n m t k → r ≡ caseDiffers s p n m t d c w → r ≡ passDiffers s p a d c w
+  pub differs-passed : {n m t k h r : ℕ} → a ≡ Passed n m t k h → r ≡ caseDiffers s p n m t h d c w → r ≡ passDiffers s p a d c w
   unfolding passDiffers
-  differs-passed e h = h ∙ ap (λ (z : Answer). passDiffers s p z d c w) (sym e)
+  differs-passed e q = q ∙ ap (λ (z : Answer). passDiffers s p z d c w) (sym e)
 
 -- no more than there are bytes after the sheet
 pub pass-differs-le : (s : List ℕ) (p : Stored) (a : Answer) (d c w : List ℕ) → Inside s p → p .end + 1 + passDiffers s p a d c w ≤ p .next
 unfolding passDiffers
 pass-differs-le s p (Refused number offset) d c w i = omega (arith, i .decisions-from, i .cells-from, i .sweeps-from, i .ends)
-pass-differs-le s p (Passed n m total ranked) d c w i = differs-le s p n m total d c w i
+pass-differs-le s p (Passed n m total ranked held) d c w i = differs-le s p n m total held d c w i
 
 pub differs-at-le : (s : List ℕ) (at : ℕ) (p : Stored) → Inside s p → p .end + 1 + differsAt s at p ≤ p .next
 unfolding differsAt
@@ -59,8 +59,8 @@ differs-at-le s at p i = pass-differs-le s p _ _ _ _ i
 module _ (s : List ℕ) (at : ℕ) (p : Stored) {a : Answer} {d c w : List ℕ} (h : IsPass (lentIn s at p) (done a d c w)) where
   pub differs-at : {r : ℕ} → r ≡ passDiffers s p a d c w → r ≡ differsAt s at p
   unfolding differsAt passDiffers
-  differs-at e = e ∙ unranked h (doneDiffers s p) (λ n m t k d c w. refl)
+  differs-at e = e ∙ unranked h (doneDiffers s p) (λ n m t k h d c w. refl)
 
   pub total-at : totalOf a ≡ totalAt s at p
   unfolding totalAt
-  total-at = unranked h (λ (y : Done). totalOf (y .answer)) (λ n m t k d c w. refl)
+  total-at = unranked h (λ (y : Done). totalOf (y .answer)) (λ n m t k h d c w. refl)

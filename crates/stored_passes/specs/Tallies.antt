@@ -27,20 +27,21 @@ talliedOf s at width kind ours t n = fold (λ d k. metOf d kind k (getD ours k 0
 abbrev pub noTally : Tally
 noTally = record { differ = 0; kind = 0; index = 0; ours = 0; theirs = 0 }
 
--- idle cars, pending stops, total; decisions, cells, sweeps
-unfoldable pub caseTally : List ℕ → Stored → ℕ → ℕ → ℕ → List ℕ → List ℕ → List ℕ → Tally
-caseTally s p cars stops total decisions matrix sweeps =
+-- idle cars, pending stops, total, held cells; decisions, cells, sweeps
+unfoldable pub caseTally : List ℕ → Stored → ℕ → ℕ → ℕ → ℕ → List ℕ → List ℕ → List ℕ → Tally
+caseTally s p cars stops total held decisions matrix sweeps =
     let a = metOf noTally 0 0 cars (number s (p .end) 1) in
     let b = metOf a 1 0 stops (number s (p .end + 1) 1) in
     let c = metOf b 2 0 total (number s (p .end + 2) 8) in
-    let d = talliedOf s (p .decisions) 4 3 decisions c (p .cars) in
-    let e = talliedOf s (p .cells) 8 4 matrix d (p .size) in
-    talliedOf s (p .sweeps) 1 5 sweeps e (p .records)
+    let d = metOf c 3 0 held (number s (p .end + 10) 2) in
+    let e = talliedOf s (p .decisions) 4 4 decisions d (p .cars) in
+    let f = talliedOf s (p .cells) 8 5 matrix e (p .size) in
+    talliedOf s (p .sweeps) 1 6 sweeps f (p .records)
 
 -- a refusal is one difference, of a kind of its own
 unfoldable pub passTally : List ℕ → Stored → Answer → List ℕ → List ℕ → List ℕ → Tally
-passTally s p (Refused number offset) decisions matrix sweeps = record { differ = 1; kind = 6; index = 0; ours = number; theirs = 0 }
-passTally s p (Passed n m total ranked) decisions matrix sweeps = caseTally s p n m total decisions matrix sweeps
+passTally s p (Refused number offset) decisions matrix sweeps = record { differ = 1; kind = 7; index = 0; ours = number; theirs = 0 }
+passTally s p (Passed n m total ranked held) decisions matrix sweeps = caseTally s p n m total held decisions matrix sweeps
 
 -- ---- laws
 
@@ -55,19 +56,20 @@ unfolding talliedOf
 tallied-next s at width kind ours t k {x} {y} {d} {e} ex ey ed ee =
     ee ∙ rw (ex, ey, ed) (sym (fold-next (λ d k. metOf d kind k (getD ours k 0) (number s (at + width * k) width)) t k))
 
-module _ (s : List ℕ) (p : Stored) (cars stops total : ℕ) (decisions matrix sweeps : List ℕ) where
-  pub tally-is : {x y z : ℕ} {a b c d e r : Tally} → x ≡ number s (p .end) 1 → y ≡ number s (p .end + 1) 1 → z ≡ number s (p .end + 2) 8
-      → a ≡ metOf noTally 0 0 cars x → b ≡ metOf a 1 0 stops y → c ≡ metOf b 2 0 total z → d ≡ talliedOf s (p .decisions) 4 3 decisions c (p .cars)
-      → e ≡ talliedOf s (p .cells) 8 4 matrix d (p .size) → r ≡ talliedOf s (p .sweeps) 1 5 sweeps e (p .records)
-      → r ≡ caseTally s p cars stops total decisions matrix sweeps
+module _ (s : List ℕ) (p : Stored) (cars stops total held : ℕ) (decisions matrix sweeps : List ℕ) where
+  pub tally-is : {x y z u : ℕ} {a b c d e f r : Tally} → x ≡ number s (p .end) 1 → y ≡ number s (p .end + 1) 1 → z ≡ number s (p .end + 2) 8
+      → u ≡ number s (p .end + 10) 2 → a ≡ metOf noTally 0 0 cars x → b ≡ metOf a 1 0 stops y → c ≡ metOf b 2 0 total z → d ≡ metOf c 3 0 held u
+      → e ≡ talliedOf s (p .decisions) 4 4 decisions d (p .cars)
+      → f ≡ talliedOf s (p .cells) 8 5 matrix e (p .size) → r ≡ talliedOf s (p .sweeps) 1 6 sweeps f (p .records)
+      → r ≡ caseTally s p cars stops total held decisions matrix sweeps
   unfolding caseTally
-  tally-is ex ey ez ea eb ec ed ee er = rw (er, ee, ed, ec, eb, ea, ex, ey, ez) refl
+  tally-is ex ey ez eu ea eb ec ed ee ef er = rw (er, ef, ee, ed, ec, eb, ea, ex, ey, ez, eu) refl
 
 module _ (s : List ℕ) (p : Stored) {a : Answer} (d c w : List ℕ) where
-  pub tally-refused : {i o : ℕ} → a ≡ Refused i o → record { differ = 1; kind = 6; index = 0; ours = i; theirs = 0 } ≡ passTally s p a d c w
+  pub tally-refused : {i o : ℕ} → a ≡ Refused i o → record { differ = 1; kind = 7; index = 0; ours = i; theirs = 0 } ≡ passTally s p a d c w
   unfolding passTally
   tally-refused e = ap (λ (z : Answer). passTally s p z d c w) (sym e)
 
-  pub tally-passed : {n m t k : ℕ} {r : Tally} → a ≡ Passed n m t k → r ≡ caseTally s p n m t d c w → r ≡ passTally s p a d c w
+  pub tally-passed : {n m t k h : ℕ} {r : Tally} → a ≡ Passed n m t k h → r ≡ caseTally s p n m t h d c w → r ≡ passTally s p a d c w
   unfolding passTally
-  tally-passed e h = h ∙ ap (λ (z : Answer). passTally s p z d c w) (sym e)
+  tally-passed e q = q ∙ ap (λ (z : Answer). passTally s p z d c w) (sym e)

@@ -1,7 +1,8 @@
 // What the programs that replay stored passes share: a case of a list, and a pass beside it.
 //
-// A case is the sheet's length in 16 bits, its bytes, n and m in 8 bits each, the total in 64, n decisions of 32, n × max(n, m) cells of 64, the
-// number of car records in 8, as many sweeps of 8, and 8 bits that are 1 where the Rust built the matrix; the most significant byte comes first.
+// A case is the sheet's length in 16 bits, its bytes, n and m in 8 bits each, the total in 64, the number of held cells in 16, n decisions of 32,
+// n × max(n, m) cells of 64, the number of car records in 8, as many sweeps of 8, and 8 bits that are 1 where the Rust built the matrix; the most
+// significant byte comes first.
 use bench::Answer;
 use libc::STDOUT_FILENO;
 ghost use mathlib.Core.Path.{_≡_};
@@ -46,12 +47,12 @@ fn columns(n: usize, m: usize) -> usize
 
 // The parts after a sheet that ends at byte end, with n idle cars and w columns.
 fn parts(s: &[u8], end: usize, n: usize, w: usize) -> Place
-    requires { ⌜ (end + 10 ≤ length (now s)) × (n ≤ 32) × (w ≤ 64) ⌝ }
+    requires { ⌜ (end + 12 ≤ length (now s)) × (n ≤ 32) × (w ≤ 64) ⌝ }
     ensures { λ r. ⌜ (r ≡ partsOf (now (s .entry)) end n w) × Placed (now (s .entry)) end r ⌝ }
 {
     let size = n * w;
     let left = s.len() - end;
-    let front = 10 + 4 * n + 8 * size;
+    let front = 12 + 4 * n + 8 * size;
     if left <= front {
         return Place::Cut;
     }
@@ -66,8 +67,8 @@ fn parts(s: &[u8], end: usize, n: usize, w: usize) -> Place
         end,
         cars: n,
         size,
-        decisions: end + 10,
-        cells: end + 10 + 4 * n,
+        decisions: end + 12,
+        cells: end + 12 + 4 * n,
         sweeps: end + front + 1,
         records,
         next: end + front + 2 + records,
@@ -84,7 +85,7 @@ pub fn case_at(s: &[u8], at: usize) -> Place
         return Place::Cut;
     }
     let bytes = lists::number(s, at, 2) as usize;
-    if left < bytes + 12 {
+    if left < bytes + 14 {
         return Place::Cut;
     }
     let end = at + 2 + bytes;
@@ -140,13 +141,13 @@ fn wide8(x: u8) -> u64
 
 fn decisions_met<'a>(s: &'a [u8], at: usize, ours: &'a [u32], n: usize, t: Tally) -> Tally
     requires { ⌜ (at + 4 * n ≤ length (now s)) × (n ≤ length (now ours)) × (n ≤ 2048) × (t .differ ≤ 9000) ⌝ }
-    ensures { λ r. ⌜ (r ≡ talliedOf (now (s .entry)) at 4 3 (now (ours .entry)) t n)
+    ensures { λ r. ⌜ (r ≡ talliedOf (now (s .entry)) at 4 4 (now (ours .entry)) t n)
         × (r .differ ≡ t .differ + differing (now (s .entry)) at 4 (now (ours .entry)) n) ⌝ }
 {
     let mut d = t;
     let mut k: usize = 0;
     while k < n {
-        d = met(d, 3, k, wide32(ours[k]), lists::number(s, at + 4 * k, 4));
+        d = met(d, 4, k, wide32(ours[k]), lists::number(s, at + 4 * k, 4));
         k += 1;
     }
     d
@@ -154,13 +155,13 @@ fn decisions_met<'a>(s: &'a [u8], at: usize, ours: &'a [u32], n: usize, t: Tally
 
 fn cells_met<'a>(s: &'a [u8], at: usize, ours: &'a [u64], n: usize, t: Tally) -> Tally
     requires { ⌜ (at + 8 * n ≤ length (now s)) × (n ≤ length (now ours)) × (n ≤ 2048) × (t .differ ≤ 9000) ⌝ }
-    ensures { λ r. ⌜ (r ≡ talliedOf (now (s .entry)) at 8 4 (now (ours .entry)) t n)
+    ensures { λ r. ⌜ (r ≡ talliedOf (now (s .entry)) at 8 5 (now (ours .entry)) t n)
         × (r .differ ≡ t .differ + differing (now (s .entry)) at 8 (now (ours .entry)) n) ⌝ }
 {
     let mut d = t;
     let mut k: usize = 0;
     while k < n {
-        d = met(d, 4, k, ours[k], lists::number(s, at + 8 * k, 8));
+        d = met(d, 5, k, ours[k], lists::number(s, at + 8 * k, 8));
         k += 1;
     }
     d
@@ -168,13 +169,13 @@ fn cells_met<'a>(s: &'a [u8], at: usize, ours: &'a [u64], n: usize, t: Tally) ->
 
 fn sweeps_met<'a>(s: &'a [u8], at: usize, ours: &'a [u8], n: usize, t: Tally) -> Tally
     requires { ⌜ (at + 1 * n ≤ length (now s)) × (n ≤ length (now ours)) × (n ≤ 2048) × (t .differ ≤ 9000) ⌝ }
-    ensures { λ r. ⌜ (r ≡ talliedOf (now (s .entry)) at 1 5 (now (ours .entry)) t n)
+    ensures { λ r. ⌜ (r ≡ talliedOf (now (s .entry)) at 1 6 (now (ours .entry)) t n)
         × (r .differ ≡ t .differ + differing (now (s .entry)) at 1 (now (ours .entry)) n) ⌝ }
 {
     let mut d = t;
     let mut k: usize = 0;
     while k < n {
-        d = met(d, 5, k, wide8(ours[k]), lists::number(s, at + 1 * k, 1));
+        d = met(d, 6, k, wide8(ours[k]), lists::number(s, at + 1 * k, 1));
         k += 1;
     }
     d
@@ -187,13 +188,15 @@ fn compared<'a>(
     cars: u64,
     stops: u64,
     total: u64,
+    held: u64,
     decisions: &'a [u32],
     matrix: &'a [u64],
     sweeps: &'a [u8],
 ) -> Tally
     requires { ⌜ Inside (now s) p × (length (now decisions) ≡ 32) × (length (now matrix) ≡ 2048) × (length (now sweeps) ≡ 32) ⌝ }
-    ensures tally { λ r. ⌜ r ≡ caseTally (now (s .entry)) p cars stops total (now (decisions .entry)) (now (matrix .entry)) (now (sweeps .entry)) ⌝ }
-    ensures differ { λ r. ⌜ r .differ ≡ caseDiffers (now (s .entry)) p cars stops total (now (decisions .entry)) (now (matrix .entry))
+    ensures tally { λ r. ⌜ r ≡ caseTally (now (s .entry)) p cars stops total held (now (decisions .entry)) (now (matrix .entry))
+        (now (sweeps .entry)) ⌝ }
+    ensures differ { λ r. ⌜ r .differ ≡ caseDiffers (now (s .entry)) p cars stops total held (now (decisions .entry)) (now (matrix .entry))
         (now (sweeps .entry)) ⌝ }
 {
     let none = Tally {
@@ -206,9 +209,10 @@ fn compared<'a>(
     let a = met(none, 0, 0, cars, lists::number(s, p.end, 1));
     let b = met(a, 1, 0, stops, lists::number(s, p.end + 1, 1));
     let c = met(b, 2, 0, total, lists::number(s, p.end + 2, 8));
-    let d = decisions_met(s, p.decisions, decisions, p.cars, c);
-    let e = cells_met(s, p.cells, matrix, p.size, d);
-    sweeps_met(s, p.sweeps, sweeps, p.records, e)
+    let d = met(c, 3, 0, held, lists::number(s, p.end + 10, 2));
+    let e = decisions_met(s, p.decisions, decisions, p.cars, d);
+    let f = cells_met(s, p.cells, matrix, p.size, e);
+    sweeps_met(s, p.sweeps, sweeps, p.records, f)
 }
 
 // The answer of a pass beside the case; a refusal counts as one difference.
@@ -227,7 +231,7 @@ pub fn answered<'a>(
     match answer {
         Answer::Refused { number, offset: _ } => Tally {
             differ: 1,
-            kind: 6,
+            kind: 7,
             index: 0,
             ours: number as u64,
             theirs: 0,
@@ -237,7 +241,8 @@ pub fn answered<'a>(
             stops,
             total,
             ranked: _,
-        } => compared(s, p, cars, stops, total, decisions, matrix, sweeps),
+            held,
+        } => compared(s, p, cars, stops, total, held, decisions, matrix, sweeps),
     }
 }
 
@@ -246,9 +251,10 @@ fn print_kind(kind: u8) {
         0 => io::write_all(STDOUT_FILENO, b"cars"),
         1 => io::write_all(STDOUT_FILENO, b"stops"),
         2 => io::write_all(STDOUT_FILENO, b"total"),
-        3 => io::write_all(STDOUT_FILENO, b"decision"),
-        4 => io::write_all(STDOUT_FILENO, b"cell"),
-        5 => io::write_all(STDOUT_FILENO, b"sweep"),
+        3 => io::write_all(STDOUT_FILENO, b"held"),
+        4 => io::write_all(STDOUT_FILENO, b"decision"),
+        5 => io::write_all(STDOUT_FILENO, b"cell"),
+        6 => io::write_all(STDOUT_FILENO, b"sweep"),
         _ => io::write_all(STDOUT_FILENO, b"refusal"),
     }
     ;

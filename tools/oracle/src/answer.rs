@@ -13,6 +13,11 @@ use crate::rust_pass::{Rust, RustPass};
 
 pub const SENTINEL: i64 = 1 << 48;
 
+/// "A value that rounds exactly to the ceiling isn't held": a cost of assignment.rs, scaled and rounded as there, was above what it is clamped to.
+pub fn is_held(cost: f64) -> bool {
+    cost.is_finite() && cost >= 0.0 && (cost * 1_000_000.0).round() > (SENTINEL - 1) as f64
+}
+
 #[derive(Clone, Debug, PartialEq)]
 pub struct Pass {
     pub cars: u64,
@@ -20,12 +25,22 @@ pub struct Pass {
     pub total: u64,
     /// The most pairs that may be ranked.
     pub rank_bound: u64,
+    /// How many cells were held down to the ceiling.
+    pub held: u64,
     pub decisions: Vec<u32>,
     pub cells: Vec<u64>,
     pub sweeps: Vec<u8>,
     /// The ids of the pending stops, in column order.
     pub pending: Vec<u32>,
     pub source: Source,
+}
+
+impl Pass {
+    /// How many cells are the ceiling, held down to it or not.
+    pub fn at_ceiling(&self) -> u64 {
+        let ceiling = SENTINEL as u64 - 1;
+        self.cells.iter().filter(|cell| **cell == ceiling).count() as u64
+    }
 }
 
 /// Where the cells come from.
@@ -130,6 +145,7 @@ pub fn of_rust(sheet: &Sheet, pass: &RustPass) -> Pass {
         stops: m as u64,
         total: total as u64,
         rank_bound: bound as u64,
+        held: pass.scaled.iter().filter(|cost| is_held(**cost)).count() as u64,
         decisions,
         cells: cells.iter().map(|c| *c as u64).collect(),
         sweeps: pass.sweeps.clone(),
@@ -149,8 +165,8 @@ pub fn passprint(rust: &mut Rust, bytes: &[u8]) -> String {
         Answer::Passed(pass) => {
             let sheet = Sheet::of_accepted(bytes);
             let mut out = format!(
-                "cars {} stops {} total {}\n",
-                pass.cars, pass.stops, pass.total
+                "cars {} stops {} total {} held {}\n",
+                pass.cars, pass.stops, pass.total, pass.held
             );
             let idle: Vec<usize> = (0..sheet.cars.len())
                 .filter(|i| sheet.cars[*i].idle)
@@ -183,8 +199,8 @@ pub fn details(rust: &mut Rust, bytes: &[u8], with_ranks: bool) -> String {
     };
     let columns = pass.cars.max(pass.stops) as usize;
     let mut out = format!(
-        "cars {} stops {} columns {columns} total {}",
-        pass.cars, pass.stops, pass.total
+        "cars {} stops {} columns {columns} total {} held {}",
+        pass.cars, pass.stops, pass.total, pass.held
     );
     out += &match pass.source {
         Source::Model => "\n".into(),
@@ -230,7 +246,7 @@ pub fn details(rust: &mut Rust, bytes: &[u8], with_ranks: bool) -> String {
 #[cfg(test)]
 mod tests {
     use super::*;
-    use sheetgen::sheet::{ETD, RSR, SCAN, mask_bit};
+    use sheetgen::sheet::{ETD, NO_LIMIT, RSR, SCAN, mask_bit};
     use sheetgen::{Aboard, Demand, Stop, Waiting};
 
     /// One car at 0 on a line with all stops, a rider-less call at the first.
@@ -296,6 +312,58 @@ mod tests {
         s.policy.traffic = 1;
         (s.cars[0].phase, s.cars[0].stop) = (1, 2);
         assert_eq!(cells(&s), [35_000_000]);
+    }
+
+    /// Document 02's held cells, with a cost that is the weight: what rounds to the ceiling is not held, what rounds to more is. A pair that the
+    /// limit cut, a pair without a rank and a spare cell are not.
+    #[test]
+    fn held_cells() {
+        let counted = |s: &Sheet| {
+            let Answer::Passed(pass) = answer(&mut Rust::new(), &s.write()) else {
+                panic!()
+            };
+            let model = paper::answered(s);
+            assert_eq!((pass.held, &pass.cells), (model.held, &model.cells));
+            (pass.held, pass.at_ceiling())
+        };
+        let mut s = one_car(ETD, &[2.0]);
+        for (weight, counts) in [
+            (281_474_976.0, (0, 0)),
+            (281_474_976.710_654, (0, 0)),
+            (281_474_976.710_654_6, (0, 1)),
+            (281_474_976.710_655, (0, 1)),
+            (281_474_976.710_655_4, (0, 1)),
+            (281_474_976.710_655_6, (1, 1)),
+            (281_474_977.0, (1, 1)),
+            (1e9, (1, 1)),
+        ] {
+            s.policy.weights[0] = weight;
+            assert_eq!(counted(&s), counts, "{weight}");
+        }
+        // Two stops farther on, one of them barred, then cut.
+        let mut s = one_car(ETD, &[2.0, 4.0, 6.0]);
+        s.policy.weights[0] = 281_474_976.710_655;
+        let call = |stop| Demand {
+            stop,
+            riding: 0,
+            call: true,
+        };
+        s.demands.extend([call(2), call(3)]);
+        assert_eq!(counted(&s), (2, 3));
+        s.policy.limit = 2;
+        assert_eq!(counted(&s), (1, 2));
+        s.policy.limit = NO_LIMIT;
+        s.cars[0].restricted = mask_bit(1);
+        assert_eq!(counted(&s), (1, 2));
+        // Spare cells, and a car that stands still.
+        for id in 2..6 {
+            s.cars.push(Car {
+                id,
+                speed: 0.0,
+                ..s.cars[0]
+            });
+        }
+        assert_eq!(counted(&s), (1, 2));
     }
 
     /// Document 02's load term: eta 1 and travel 5, weight 3. A full car has a rank where a rider gets off.
@@ -374,7 +442,7 @@ mod tests {
 
     #[test]
     fn example_of_document_01() {
-        let lines = "cars 2 stops 2 total 10000000\ncar 7 stop 2\ncar 8 stop 3\nsweep 7 up strict\nsweep 8 down lenient\n";
+        let lines = "cars 2 stops 2 total 10000000 held 0\ncar 7 stop 2\ncar 8 stop 3\nsweep 7 up strict\nsweep 8 down lenient\n";
         assert_eq!(
             passprint(&mut Rust::new(), &Sheet::example().write()),
             lines

@@ -25,6 +25,7 @@ pub struct Lent {
     pub stops: u64,
     pub total: u64,
     pub ranked: u64,
+    pub held: u64,
     pub offset: u64,
 }
 
@@ -39,6 +40,7 @@ impl Lent {
             stops: 0xa2a2_a2a2_a2a2,
             total: 0xa3a3_a3a3_a3a3,
             ranked: 0xa4a4_a4a4_a4a4,
+            held: 0xa7a7_a7a7_a7a7,
             offset: KEPT,
         }
     }
@@ -82,6 +84,10 @@ pub trait Bench {
     fn pending(&mut self, sheet: &[u8], places: &mut Places) -> u32;
 }
 
+/// The interface whose pass has the parameters below.
+const INTERFACE: u32 = 2;
+
+type Version = unsafe extern "C" fn() -> u32;
 type Read = unsafe extern "C" fn(*const u8, usize, *mut u64) -> u32;
 type Pass = unsafe extern "C" fn(
     *const u8,
@@ -92,6 +98,7 @@ type Pass = unsafe extern "C" fn(
     usize,
     *mut u8,
     usize,
+    *mut u64,
     *mut u64,
     *mut u64,
     *mut u64,
@@ -129,13 +136,24 @@ impl Linked {
         }
         let find = |name: &std::ffi::CStr| unsafe { dlsym(library, name.as_ptr()) };
         unsafe {
+            let version = std::mem::transmute::<*mut c_void, Option<Version>>(find(
+                c"dispatch_bench_version",
+            ));
+            let interface = version.map_or(0, |version| version());
+            let pass = match interface {
+                INTERFACE => find(c"dispatch_bench_pass"),
+                _ => std::ptr::null_mut(),
+            };
+            if pass.is_null() {
+                println!(
+                    "the library's interface is {interface}, not {INTERFACE}: its pass is not called"
+                );
+            }
             Ok(Self {
                 read: std::mem::transmute::<*mut c_void, Option<Read>>(find(
                     c"dispatch_bench_read",
                 )),
-                pass: std::mem::transmute::<*mut c_void, Option<Pass>>(find(
-                    c"dispatch_bench_pass",
-                )),
+                pass: std::mem::transmute::<*mut c_void, Option<Pass>>(pass),
                 choose: std::mem::transmute::<*mut c_void, Option<Choose>>(find(
                     c"dispatch_bench_choose",
                 )),
@@ -178,6 +196,7 @@ impl Bench for Linked {
                 &mut lent.stops,
                 &mut lent.total,
                 &mut lent.ranked,
+                &mut lent.held,
                 &mut lent.offset,
             )
         }

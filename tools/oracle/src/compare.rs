@@ -55,6 +55,10 @@ pub struct Tally {
     pub document_passes: u64,
     pub closed_passes: u64,
     pub cells: u64,
+    /// Passes with held cells, these cells, and the cells that are the ceiling and not held.
+    pub held_passes: u64,
+    pub held: u64,
+    pub exact: u64,
     /// Pending stops whose ids the Rust gave.
     pub pending: u64,
     /// Ranks whose bits the Rust gave.
@@ -256,6 +260,9 @@ impl<'a> Comparison<'a> {
                 if pass.source != Source::Document {
                     self.tally.cells += pass.cells.len() as u64;
                 }
+                self.tally.held_passes += u64::from(pass.held > 0);
+                self.tally.held += pass.held;
+                self.tally.exact += pass.at_ceiling() - pass.held;
                 found
             }
         }
@@ -280,6 +287,9 @@ impl<'a> Comparison<'a> {
         }
         if lent.total != pass.total {
             return differ("pass: total", pass.total, lent.total);
+        }
+        if lent.held != pass.held {
+            return differ("pass: held", pass.held, lent.held);
         }
         let d = pass.decisions.len();
         if lent.decisions[..d] != pass.decisions[..] {
@@ -432,7 +442,7 @@ pub fn library(bench: &mut dyn Bench, seed: u64, count: u64, only: Option<&str>)
         let what = match (there, wanted) {
             (true, true) => "compared",
             (true, false) => "not compared, another profile was asked for",
-            (false, _) => "NOT COMPARED, the library has no such function",
+            (false, _) => "NOT COMPARED, the library has no such function of this interface",
         };
         println!("{name}: {what}");
     };
@@ -500,13 +510,17 @@ fn run(
                 .collect();
             println!(
                 "{name}: {} sheets, {} with cells of the Rust ({} of RSR with a load weight), {} with closed landings by the \
-                 definitions ({} cells), {} of document 01 alone, {ranks}{} pending stops, refused {} in {seconds:.1} s",
+                 definitions ({} cells), {} of document 01 alone, {} with held cells ({}, and {} at the ceiling that are not), \
+                 {ranks}{} pending stops, refused {} in {seconds:.1} s",
                 t.sheets,
                 t.rust_passes,
                 t.load_passes,
                 t.closed_passes,
                 t.cells,
                 t.document_passes,
+                t.held_passes,
+                t.held,
+                t.exact,
                 t.pending,
                 if numbers.is_empty() {
                     "none".into()
@@ -612,8 +626,8 @@ pub fn survey(seed: u64, count: u64) {
         } else {
             count
         };
-        let (mut passes, mut cells, mut sent, mut idle, mut zero, mut held) =
-            (0, 0u64, 0u64, 0u64, 0u64, 0u64);
+        let (mut passes, mut cells, mut sent, mut idle, mut zero, mut held, mut ceiling) =
+            (0, 0u64, 0u64, 0u64, 0u64, 0u64, 0u64);
         let (mut ranks, mut ranked, mut minus_zero, mut covered, mut cut) =
             (0u64, 0u64, 0u64, 0u64, 0u64);
         let mut closed = 0u64;
@@ -644,10 +658,9 @@ pub fn survey(seed: u64, count: u64) {
             sent += pass.decisions.iter().filter(|d| **d != 0).count() as u64;
             idle += pass.decisions.iter().filter(|d| **d == 0).count() as u64;
             zero += found.iter().filter(|c| **c == 0).count() as u64;
-            held += found
-                .iter()
-                .filter(|c| **c == crate::answer::SENTINEL - 1)
-                .count() as u64;
+            let answered = crate::answer::of_rust(&sheet, &pass);
+            held += answered.held;
+            ceiling += answered.at_ceiling();
             ranks += pass.ranks.len() as u64;
             ranked += pass.ranks.iter().filter(|r| r.2.is_some()).count() as u64;
             minus_zero += pass
@@ -658,7 +671,7 @@ pub fn survey(seed: u64, count: u64) {
             cut += u64::from((pass.ranked as usize) < pass.idle.len() * pass.pending.len());
         }
         println!(
-            "{name}: {passes} matrices of {count} sheets, {cells} cells ({zero} zero, {held} at the ceiling), \
+            "{name}: {passes} matrices of {count} sheets, {cells} cells ({zero} zero, {ceiling} at the ceiling, {held} of them held), \
              {ranked} of {ranks} pairs have a rank ({minus_zero} minus zero), {sent} cars sent, {idle} idle, \
              {covered} sheets with covered stops, {cut} with unranked pairs; {closed} with closed landings are not looked at"
         );

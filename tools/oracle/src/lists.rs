@@ -314,6 +314,8 @@ fn telling(seed: u64, count: u64, each: usize) -> Cases {
             let is_shown = match profile {
                 Profile::Closed => fault.is_of_closures(),
                 Profile::Load => fault.is_of_loads(),
+                Profile::Ceiling => fault.is_of_held(),
+                _ if fault.is_of_held() => false,
                 Profile::Valid | Profile::Extreme | Profile::Fine => !fault.is_of_closures(),
                 _ => !fault.is_of_closures() && !fault.is_of_loads(),
             };
@@ -358,6 +360,7 @@ fn put_pass(list: &mut Vec<u8>, pass: &Pass) {
     list.push(pass.cars as u8);
     list.push(pass.stops as u8);
     list.extend(pass.total.to_be_bytes());
+    list.extend((pass.held as u16).to_be_bytes());
     for decision in &pass.decisions {
         list.extend(decision.to_be_bytes());
     }

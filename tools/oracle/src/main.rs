@@ -88,7 +88,11 @@ fn run(args: &[&str]) -> Result<(), String> {
         }
         ["time", library, rest @ ..] if rest.len() < 2 => {
             let rounds = rest.first().map_or(Ok(9), |word| number(word))?;
-            timing::table(&mut bench::Linked::load(library)?, rounds.max(1) as usize);
+            let mut bench = bench::Linked::load(library)?;
+            if !bench::Bench::has(&bench).pass {
+                return Err("nothing timed: there is no pass of this interface".into());
+            }
+            timing::table(&mut bench, rounds.max(1) as usize);
             return Ok(());
         }
         ["beside", older, newer, rest @ ..] if rest.len() < 2 => {

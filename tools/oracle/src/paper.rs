@@ -176,6 +176,26 @@ faults! {
     LoadAfterAge
     /// The ratio is that of what is left to the capacity.
     LoadOfRemaining
+    /// No cell is said to be held.
+    HeldNever
+    /// A value that rounds to the ceiling is held.
+    HeldAtCeiling
+    /// A value above the ceiling is held, though it rounds to it.
+    HeldUnrounded
+    /// A value is held where it is above the ceiling with its fraction cut off.
+    HeldCutOff
+    /// Cells without a rank are held too, spare ones not.
+    HeldWithoutRank
+    /// Spare cells are held too.
+    HeldSpare
+    /// Pairs that the limit cut are held too.
+    HeldBeyondLimit
+    /// The chosen cells alone are counted.
+    HeldOfChosen
+    /// A car is counted once, however many of its cells are held.
+    HeldCars
+    /// A sheet without a held cell keeps what stood there.
+    HeldKeptAtZero
 }
 
 impl Fault {
@@ -192,6 +212,23 @@ impl Fault {
                 | Fault::ClosedNotCounted
                 | Fault::ClosedNotAhead
                 | Fault::ClosedByPlace
+        )
+    }
+
+    /// The number of held cells alone shows it.
+    pub fn is_of_held(self) -> bool {
+        matches!(
+            self,
+            Fault::HeldNever
+                | Fault::HeldAtCeiling
+                | Fault::HeldUnrounded
+                | Fault::HeldCutOff
+                | Fault::HeldWithoutRank
+                | Fault::HeldSpare
+                | Fault::HeldBeyondLimit
+                | Fault::HeldOfChosen
+                | Fault::HeldCars
+                | Fault::HeldKeptAtZero
         )
     }
 
@@ -904,6 +941,43 @@ impl<'a> Pass<'a> {
         rank.map_or(SENTINEL as u64, |cost| self.scale(cost))
     }
 
+    /// "whether it held the value down": the cost's cell is less than its rounded value. "A value that rounds exactly to the ceiling isn't
+    /// held."
+    fn held_down(&self, cost: f64) -> bool {
+        let scaled = cost * 1_000_000.0;
+        let ceiling = (SENTINEL - 1) as f64;
+        match self.fault {
+            Fault::HeldNever => false,
+            Fault::HeldAtCeiling => scaled.round() >= ceiling,
+            Fault::HeldUnrounded => scaled > ceiling,
+            Fault::HeldCutOff => scaled.trunc() > ceiling,
+            _ => scaled.round() > ceiling,
+        }
+    }
+
+    /// Whether the cell of a car and a stop was held down: that of a pair without a rank, or that the limit cut, was not.
+    fn held(&self, i: usize, j: usize) -> bool {
+        let is_kept = self.kept(&self.sheet.cars[i], j) || self.is(Fault::HeldBeyondLimit);
+        let rank = self.rank(i, j).filter(|_| is_kept);
+        rank.map_or(self.is(Fault::HeldWithoutRank), |cost| self.held_down(cost))
+    }
+
+    /// "the number of held cells" of some rows, by car and stop records; `chosen` are their columns.
+    fn held_cells(&self, idle: &[usize], pending: &[usize], chosen: &[usize]) -> u64 {
+        let spare = idle.len().saturating_sub(pending.len());
+        let of_row = |row: usize| {
+            let held = |column: &usize| self.held(idle[row], pending[*column]);
+            let columns = (0..pending.len()).filter(held);
+            match self.fault {
+                Fault::HeldOfChosen => columns.filter(|column| *column == chosen[row]).count(),
+                Fault::HeldCars => columns.count().min(1),
+                Fault::HeldSpare => columns.count() + spare,
+                _ => columns.count(),
+            }
+        };
+        (0..idle.len()).map(|row| of_row(row) as u64).sum()
+    }
+
     /// The places of the idle cars' records.
     fn idle(&self) -> Vec<usize> {
         let cars = 0..self.sheet.cars.len();
@@ -939,6 +1013,7 @@ pub fn answered(sheet: &Sheet) -> answer::Pass {
         stops: lent.stops,
         total: lent.total,
         rank_bound: (n * m.min(usize::from(sheet.policy.limit))) as u64,
+        held: lent.held,
         decisions: lent.decisions[..n].to_vec(),
         cells: lent.matrix[..n * n.max(m)].to_vec(),
         sweeps: lent.sweeps[..sheet.cars.len()].to_vec(),
@@ -1007,6 +1082,10 @@ impl Bench for Paper {
         lent.cars = n as u64;
         lent.stops = m as u64;
         lent.ranked = (n * m.min(usize::from(sheet.policy.limit))) as u64;
+        let held = pass.held_cells(&idle, &pending, &chosen);
+        if held > 0 || self.fault != Fault::HeldKeptAtZero {
+            lent.held = held;
+        }
         lent.matrix[..cells.len()].copy_from_slice(&cells);
         if self.fault == Fault::OneEntryMore && cells.len() < lent.matrix.len() {
             lent.matrix[cells.len()] = SENTINEL as u64;

@@ -2,6 +2,7 @@
 //! `pre_dispatch` and `assign_with_scratch` run.
 
 use std::collections::{HashMap, HashSet};
+use std::sync::Mutex;
 use std::sync::atomic::{AtomicU64, Ordering};
 use std::time::{Duration, Instant};
 
@@ -38,6 +39,8 @@ pub struct RustPass {
     pub sweeps: Vec<u8>,
     /// How often `rank` was called.
     pub ranked: u64,
+    /// The ranks of the pass itself: those that were scaled for the cells.
+    pub scaled: Vec<f64>,
     /// Every idle car with every pending stop, before scaling; empty unless asked for.
     pub ranks: Vec<(u32, u32, Option<f64>)>,
 }
@@ -47,6 +50,8 @@ struct Limited {
     inner: Box<dyn DispatchStrategy>,
     limit: Option<usize>,
     ranked: AtomicU64,
+    /// The ranks handed out, where they are kept.
+    ranks: Option<Mutex<Vec<f64>>>,
 }
 
 impl DispatchStrategy for Limited {
@@ -73,7 +78,11 @@ impl DispatchStrategy for Limited {
 
     fn rank(&self, ctx: &RankContext<'_>) -> Option<f64> {
         self.ranked.fetch_add(1, Ordering::Relaxed);
-        self.inner.rank(ctx)
+        let rank = self.inner.rank(ctx);
+        if let Some(ranks) = &self.ranks {
+            ranks.lock().unwrap().extend(rank);
+        }
+        rank
     }
 
     fn fallback(
@@ -467,6 +476,7 @@ impl Rust {
             inner,
             limit,
             ranked: AtomicU64::new(0),
+            ranks: None,
         }
     }
 
@@ -502,8 +512,10 @@ impl Rust {
         let mut built = build(sheet, &self.traffic);
         let p = &sheet.policy;
         let mut strategy = self.strategy(sheet, &built.cars);
+        strategy.ranks = Some(Mutex::default());
         let result = self.group_pass(&mut strategy, &mut built);
         let ranked = strategy.ranked.load(Ordering::Relaxed);
+        let scaled = strategy.ranks.take().unwrap().into_inner().unwrap();
         let id_of: HashMap<EntityId, u32> = built
             .stops
             .iter()
@@ -564,6 +576,7 @@ impl Rust {
             decisions,
             sweeps,
             ranked,
+            scaled,
             ranks,
         }
     }

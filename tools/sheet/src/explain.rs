@@ -1,7 +1,7 @@
 //! A verdict in words. The verdict is the proved library's; what stands here only looks for the field
 //! that the refusal's number is about, and says so where it finds none.
 
-use dispatch_bench::Refusal;
+use dispatch_bench::{CEILING, Refusal};
 
 use crate::cut::{Cut, Record};
 use crate::faults;
@@ -69,7 +69,17 @@ fn accepted(cut: &Cut) -> String {
             " If it is 4 at {at}, the host has a bench of the first release, which takes no closed landings: renew it, or write the sheet without them."
         );
     }
-    lines + "\n"
+    lines += "\n";
+    if let Ok(pass) = dispatch_bench::pass(cut.bytes)
+        && pass.held > 0
+    {
+        let cells = number_of(pass.held as usize, "cell");
+        let (are, ceiling) = (if pass.held == 1 { "is" } else { "are" }, grouped(CEILING));
+        lines += &format!(
+            "held: {cells} of its pass {are} held at the ceiling, {ceiling}: the cost is larger there. Cells at the ceiling look alike, but nothing says that their costs are equal: lower the weights to tell them apart.\n"
+        );
+    }
+    lines
 }
 
 /// The policy is RSR's, which alone has a field of this name, and its load weight is above 0.

@@ -15,8 +15,8 @@ usage: sheet COMMAND
   write IN.txt [OUT]   turn text into a sheet, in OUT or on standard output
   show SHEET           print a sheet as text that `write` turns into the same bytes
   explain SHEET        say whether the bench accepts a sheet, and if not, what to do
-  draw SHEET [OUT]     draw a sheet and its pass, or where it is refused, as SVG
-  pass SHEET           print the pass, or the refusal, in the lines of the program passprint
+  draw SHEET [OUT]     draw a sheet and its pass, or where it is refused, as SVG; cells that are held at the ceiling are marked
+  pass SHEET           print the pass, or the refusal, in the lines of the program passprint; the first ends with the number of held cells
   rule [NUMBER]        print a refusal's rule, or all of them
   store example        print the text of a store of weights to start from
   store write IN.txt [OUT]
@@ -222,19 +222,31 @@ fn replace(path: &Path, bytes: &[u8]) -> Result<(), Stop> {
     })
 }
 
+/// A library of another interface was linked: what it answers is not what this program takes it for.
+#[cfg(feature = "pass")]
+fn of_the_interface() -> Result<(), Stop> {
+    let (found, wanted) = (dispatch_bench::version(), dispatch_bench::VERSION);
+    match found == wanted {
+        true => Ok(()),
+        false => Err(failed(format!(
+            "this program was built with a library of interface {found}, and takes interface {wanted}"
+        ))),
+    }
+}
+
 #[cfg(feature = "pass")]
 fn explain(bytes: &[u8]) -> Result<String, Stop> {
-    Ok(sheet::explain::explain(bytes))
+    of_the_interface().map(|()| sheet::explain::explain(bytes))
 }
 
 #[cfg(feature = "pass")]
 fn draw(bytes: &[u8]) -> Result<String, Stop> {
-    Ok(sheet::draw::draw(bytes))
+    of_the_interface().map(|()| sheet::draw::draw(bytes))
 }
 
 #[cfg(feature = "pass")]
 fn pass(bytes: &[u8]) -> Result<String, Stop> {
-    Ok(dispatch_bench::lines(bytes))
+    of_the_interface().map(|()| dispatch_bench::lines(bytes))
 }
 
 #[cfg(not(feature = "pass"))]

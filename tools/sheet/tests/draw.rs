@@ -4,7 +4,7 @@
 mod common;
 
 use common::{files, here, name, run, text};
-use dispatch_bench::{Pass, SENTINEL, choose, pass};
+use dispatch_bench::{CEILING, Pass, SENTINEL, choose, pass};
 use sheet::draw::draw;
 use sheetgen::generate::{self, Profile};
 use sheetgen::rng::Rng;
@@ -22,14 +22,19 @@ impl Answer<'_> {
     }
 
     fn is(&mut self, pass: &Pass) -> bool {
-        let numbers = [self.number(1), self.number(1), self.number(8)];
+        let numbers = [
+            self.number(1),
+            self.number(1),
+            self.number(8),
+            self.number(2),
+        ];
         let decisions: Vec<u64> = (0..numbers[0]).map(|_| self.number(4)).collect();
         let cells = numbers[0] * numbers[0].max(numbers[1]);
         let matrix: Vec<u64> = (0..cells).map(|_| self.number(8)).collect();
         let sweeps: Vec<u64> = (0..self.number(1)).map(|_| self.number(1)).collect();
         let _built = self.number(1);
         let stop = |d: &dispatch_bench::Decision| d.map_or(0, |id| u64::from(id.get()));
-        let found = [pass.cars as u64, pass.stops as u64, pass.total];
+        let found = [pass.cars as u64, pass.stops as u64, pass.total, pass.held];
         let codes = pass.sweeps.iter().map(|sweep| u64::from(sweep.code()));
         numbers == found
             && decisions == pass.decisions.iter().map(stop).collect::<Vec<_>>()
@@ -114,7 +119,11 @@ fn explained(svg: &str, sheet: &Sheet, answered: &Pass) -> [usize; 5] {
         let (place, said) = words.split_once(": ").unwrap();
         let (_, column) = place.split_once(", ").unwrap();
         if value < SENTINEL {
-            assert!(said.parse::<f64>().is_ok(), "{words}");
+            let cost = match said.strip_prefix("&gt; ") {
+                Some(above) => above.strip_suffix(", held at the ceiling").unwrap(),
+                None => said,
+            };
+            assert!(cost.parse::<f64>().is_ok(), "{words}");
             assert_eq!(lifted[k], value);
             continue;
         }
@@ -148,6 +157,29 @@ fn has_total(svg: &str, pass: &Pass) {
     }
 }
 
+/// The title says how many cells are held; each of them has its bar and its words, and they are cells at the ceiling.
+fn has_held(svg: &str, pass: &Pass) {
+    let words = match pass.held {
+        0 => "",
+        1 => "; 1 cell held at the ceiling<",
+        held => &format!("; {held} cells held at the ceiling<"),
+    };
+    let (title, _) = svg.split_once("</text>").unwrap();
+    assert_eq!(title.contains("held at"), pass.held > 0, "{title}");
+    assert!(svg.contains(words), "{title}");
+    let legends = svg.matches(">held at the ceiling, the cost is larger<");
+    assert_eq!(legends.count(), usize::from(pass.held > 0));
+    let svg = without_legends(svg);
+    assert_eq!(count(&svg, "<rect class=\"held\"") as u64, pass.held);
+    let ceiling = format!("{CEILING})");
+    let held = cells(&svg).into_iter().filter(|cell| {
+        let is = cell.0.contains(": &gt; 2.81e8, held at the ceiling");
+        assert!(!is || cell.1 == ceiling, "{cell:?}");
+        is
+    });
+    assert_eq!(held.count() as u64, pass.held);
+}
+
 /// The drawing of a pass: the chosen columns' total is the answered one, each sent car has its arrow, each idle
 /// car its row, each rider a mark. Answers how often each reason for no rank is given.
 fn drawn(bytes: &[u8], pass: &Pass, file: &str) -> [usize; 5] {
@@ -158,6 +190,7 @@ fn drawn(bytes: &[u8], pass: &Pass, file: &str) -> [usize; 5] {
     std::fs::write(folder.join(format!("{file}.svg")), &svg).unwrap();
     is_well_formed(&svg);
     has_total(&svg, pass);
+    has_held(&svg, pass);
     let svg = without_legends(&svg);
     let sent = pass.decisions.iter().flatten().count();
     let arrows = count(&svg, "<line class=\"arrow\"") + count(&svg, "<circle class=\"arrow\"");
@@ -213,6 +246,21 @@ fn generated_passes() {
         }
     }
     assert!(seen.iter().all(|often| *often > 20), "{seen:?}");
+}
+
+/// Sheets with cells at the ceiling, held and not: where a pass has both, which are held is asked of each by itself.
+#[test]
+fn passes_at_the_ceiling() {
+    let (mut held, mut both) = (0, 0);
+    for index in 0..120 {
+        let bytes = generate::generate(Profile::Ceiling, 17, index);
+        let pass = pass(&bytes).unwrap();
+        drawn(&bytes, &pass, &format!("Ceiling_{index}"));
+        let ceiling = pass.matrix.iter().filter(|cell| **cell == CEILING).count();
+        held += usize::from(pass.held > 0);
+        both += usize::from(pass.held > 0 && pass.held < ceiling as u64);
+    }
+    assert!(held > 30 && both > 5, "{held} {both}");
 }
 
 /// Every table full: the size and form of the largest drawing.
@@ -282,6 +330,32 @@ fn load_weight_as_stored() {
     ];
     assert!(ranked.iter().all(|cost| costs.contains(cost)), "{costs:?}");
     assert!(drawn.contains("the load of a car"));
+}
+
+/// Three stops at the ceiling: two are held and one rounds to it, and the car goes to the lowest, which is the farthest. With a lower weight
+/// none is held, and it goes to the nearest.
+#[test]
+fn ceiling_as_stored() {
+    let path = here("examples/ceiling.txt");
+    let sheet = text(&std::fs::read(&path).unwrap());
+    let drawn = |sheet: &str| {
+        let written = run(&["write", "-"], sheet.as_bytes());
+        text(&run(&["draw", "-"], &written.stdout).stdout)
+    };
+    let svg = drawn(&sheet);
+    let stored = text(&std::fs::read(path.with_extension("svg")).unwrap());
+    assert_eq!(svg, stored);
+    let costs: Vec<&str> = cells(&svg).into_iter().map(|cell| cell.0).collect();
+    let wanted = [
+        "car 1, stop 1: &gt; 2.81e8, held at the ceiling",
+        "car 1, stop 2: &gt; 2.81e8, held at the ceiling",
+        "car 1, stop 3: 2.81e8",
+    ];
+    assert_eq!(costs, wanted);
+    let title = "1 sent at a cost above 281474976.710655; 2 cells held at the ceiling<";
+    assert!(svg.contains(title) && svg.contains(">to 1<"));
+    let lower = drawn(&sheet.replace("wait=140737488.3553275", "wait=1"));
+    assert!(lower.contains("3 pending stops; 1 sent at a cost of 2<") && lower.contains(">to 3<"));
 }
 
 #[test]

@@ -91,7 +91,7 @@ fn passes_as_stored() {
             assert_eq!(lines.lines().count(), 1);
         }
     }
-    assert_eq!(passes, 8);
+    assert_eq!(passes, 9);
     let example = run(&["pass", "-"], &sheetgen::Sheet::example().write());
     let stored = std::fs::read(here("../../crates/passprint/stdout")).unwrap();
     assert_eq!(example.stdout, stored);
@@ -118,6 +118,25 @@ fn a_first_release_is_named() {
     }
     let example = explain::explain(&sheetgen::Sheet::example().write());
     assert!(!example.contains("first release"), "{example}");
+}
+
+/// Held cells are said of an accepted sheet where its pass has some, and nowhere else.
+#[test]
+fn held_cells_are_named() {
+    let mut seen = [0; 2];
+    for index in 0..200 {
+        let bytes = generate(Profile::Ceiling, 11, index);
+        let held = dispatch_bench::pass(&bytes).unwrap().held;
+        let said = explain::explain(&bytes);
+        let words = match held {
+            1 => "\nheld: 1 cell of its pass is held at the ceiling, 281,474,976,710,655: ",
+            _ => &format!("\nheld: {held} cells of its pass are held at the ceiling, "),
+        };
+        assert_eq!(said.contains(words), held > 0, "{said}");
+        assert_eq!(said.contains("\nheld: "), held > 0, "{said}");
+        seen[usize::from(held > 0)] += 1;
+    }
+    assert!(seen.iter().all(|often| *often > 50), "{seen:?}");
 }
 
 /// The number of the line that `explain` says is to be put right.

@@ -41,7 +41,7 @@ fn stored_passes() {
         let case = common::stored(left);
         assert_eq!(again(case.sheet), case.sheet, "sheet {sheets}");
         let (cars, stops) = (usize::from(case.after[0]), usize::from(case.after[1]));
-        let answer = 10 + 4 * cars + 8 * cars * cars.max(stops);
+        let answer = 12 + 4 * cars + 8 * cars * cars.max(stops);
         left = &case.after[answer + 2 + usize::from(case.after[answer])..];
         sheets += 1;
     }

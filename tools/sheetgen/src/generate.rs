@@ -37,9 +37,11 @@ pub enum Profile {
     Closed,
     /// Accepted, RSR with a load weight above 0; the idle-listed cars are not in phase idle and carry loads.
     Load,
+    /// Accepted, ETD and RSR with costs at the ceiling, within last places of it, and above.
+    Ceiling,
 }
 
-pub const PROFILES: [(&str, Profile); 13] = [
+pub const PROFILES: [(&str, Profile); 14] = [
     ("valid", Profile::Valid),
     ("full", Profile::Full),
     ("ties", Profile::Ties),
@@ -49,6 +51,7 @@ pub const PROFILES: [(&str, Profile); 13] = [
     ("fine", Profile::Fine),
     ("cover", Profile::Cover),
     ("load", Profile::Load),
+    ("ceiling", Profile::Ceiling),
     ("closed", Profile::Closed),
     ("damaged", Profile::Damaged),
     ("provoked", Profile::Provoked),
@@ -122,6 +125,7 @@ pub fn crowded(profile: Profile, strategy: u8, seed: u64, index: u64) -> Sheet {
     match profile {
         Profile::Fine if strategy != SCAN => cancel(rng, &mut sheet),
         Profile::Load => loads(rng, &mut sheet),
+        Profile::Ceiling if strategy != SCAN => to_the_ceiling(rng, &mut sheet),
         _ => {}
     }
     sheet
@@ -139,6 +143,7 @@ pub fn accepted(profile: Profile, rng: &mut Rng) -> Sheet {
         Profile::Fine => cancel(rng, &mut sheet),
         Profile::Cover => cover(rng, &mut sheet),
         Profile::Load => loads(rng, &mut sheet),
+        Profile::Ceiling => to_the_ceiling(rng, &mut sheet),
         _ => {}
     }
     sheet
@@ -389,6 +394,53 @@ fn against_the_bonus(rng: &mut Rng, sheet: &mut Sheet) {
     car.calls = (0..sheet.stops.len()).fold(0, |mask, i| mask | mask_bit(i));
 }
 
+/// The first weight makes the travel term of an idle-listed car and a stop with demand the ceiling, give or take last places, or some of it; in most
+/// sheets that is the whole cost. The car stands still, empty, and so do others beside it.
+fn to_the_ceiling(rng: &mut Rng, sheet: &mut Sheet) {
+    const CEILING: f64 = 281_474_976.710_655;
+    let waiting = sheet.waiting.iter().map(|w| w.stop);
+    let wanted: Vec<u32> = waiting
+        .chain(sheet.demands.iter().map(|d| d.stop))
+        .collect();
+    let idle: Vec<usize> = (0..sheet.cars.len())
+        .filter(|i| sheet.cars[*i].idle && sheet.cars[*i].speed > 0.0)
+        .collect();
+    if wanted.is_empty() || idle.is_empty() {
+        return;
+    }
+    let stop = rng.pick(&wanted);
+    let at = sheet.stops.iter().find(|s| s.id == stop).unwrap().position;
+    let first = &sheet.cars[rng.pick(&idle)];
+    let (position, speed) = (first.position, first.speed);
+    let travel = (position - at).abs() / speed;
+    if travel < 0.3 {
+        return;
+    }
+    for i in idle {
+        let car = &mut sheet.cars[i];
+        if car.position != position && rng.flag() {
+            continue;
+        }
+        (car.position, car.speed) = (position, speed);
+        (car.phase, car.stop, car.target) = (rng.pick(&[3, 4, 5, 6]), 0, None);
+        (car.load, car.capacity) = (0.0, 1e9);
+        (car.going_up, car.going_down) = (true, true);
+        let id = car.id;
+        sheet.aboard.retain(|a| a.car != id);
+    }
+    let share = match rng.below(6) {
+        0 => rng.between(0.5, 2.0),
+        1 => rng.pick(&[0.999_999_9, 1.000_000_1, 2.0]),
+        _ => 1.0,
+    };
+    let weight = f64::from_bits((share * CEILING / travel).to_bits() + rng.below(49) as u64 - 24);
+    let weights = &mut sheet.policy.weights;
+    if !rng.one_in(4) {
+        *weights = [0.0; 6];
+    }
+    weights[0] = weight.min(1e9);
+}
+
 /// A small accepted sheet with at least one record of each kind but 8, which one in two has.
 pub fn any_small(rng: &mut Rng) -> Sheet {
     let profile = rng.pick(&[
@@ -591,7 +643,7 @@ impl Maker<'_> {
 
     fn policy(&mut self) -> Policy {
         let strategy = match self.profile {
-            Profile::Fine => self.rng.pick(&[ETD, RSR]),
+            Profile::Fine | Profile::Ceiling => self.rng.pick(&[ETD, RSR]),
             Profile::Load => RSR,
             _ => self.rng.pick(&[ETD, RSR, SCAN]),
         };
@@ -1132,7 +1184,7 @@ mod tests {
     #[test]
     fn crowded_sheets_are_accepted_and_of_their_strategy() {
         let but_closed = PROFILES.iter().filter(|p| p.1 != Profile::Closed);
-        for (name, profile) in but_closed.take(9) {
+        for (name, profile) in but_closed.take(10) {
             for strategy in [ETD, RSR, SCAN] {
                 for index in 0..1000 {
                     let sheet = crowded(*profile, strategy, 3, index);
@@ -1193,6 +1245,29 @@ mod tests {
             }
         }
         assert!(seen.iter().all(|often| *often > 15), "{seen:?}");
+    }
+
+    /// Most sheets have a car whose travel term is at the ceiling: below it, at it and above it, by last places.
+    #[test]
+    fn travel_terms_are_at_the_ceiling() {
+        let mut seen = [0; 3];
+        for index in 0..2_000 {
+            let sheet = Sheet::of_accepted(&generate(Profile::Ceiling, 3, index));
+            assert!(sheet.policy.strategy != SCAN, "{index}");
+            let idle = sheet.cars.iter().filter(|c| c.idle && c.speed > 0.0);
+            let cells = idle.flat_map(|c| {
+                let travel = |s: &Stop| (c.position - s.position).abs() / c.speed;
+                let weight = sheet.policy.weights[0];
+                let term = move |s: &Stop| weight * travel(s) * 1_000_000.0;
+                sheet.stops.iter().map(term)
+            });
+            let ceiling = (1u64 << 48) as f64 - 1.0;
+            for cell in cells.filter(|cell| (cell - ceiling).abs() < 2.0) {
+                let place = cell.round() - ceiling;
+                seen[(place.clamp(-1.0, 1.0) + 1.0) as usize] += 1;
+            }
+        }
+        assert!(seen.iter().all(|often| *often > 300), "{seen:?}");
     }
 
     /// Of the other profiles too, with a load weight and without one.

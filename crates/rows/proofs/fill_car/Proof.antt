@@ -28,19 +28,20 @@ car-row-requires c κs =
     )
 
 same-length : tie.Need-same-length
-same-length c = c .before .before .before .car-row .ensures .0
+same-length c = c .before .before .before .car-row .ensures .0 .0
 
 returns : tie.Need-returns
 unfolding sheetOf destsFor rowFor
 returns c =
     let a = c .before .before .before .before .before .before .before .before .before .before .before .before .before .before .before .before .args in
     let p = c .before .before .before .before .before .before .before .before .before .before .before .before .before .before .before .before .pre in
-    let held = c .before .before .before .before .before .before .before .before .row-for in
+    let of = c .before .before .before .before .before .before .before .before .row-for in
     let filled = c .before .before .before .car-row .ensures in
     let s = sheetOf (a .s .now) (a .c) in
     record {
-      row = filled .1 ∙ rw (held .ensures .1 .2, held .ensures .0) refl;
-      number = c .size .ensures ∙ kept-size s (a .limit) (held .result .kept) (a .car) (p .ready .held .few) (ap (λ (r : Row). r .kept) (held .ensures .0));
+      row = filled .0 .1 ∙ rw (of .ensures .1 .2, of .ensures .0) refl;
+      number = c .size .ensures ∙ kept-size s (a .limit) (of .result .kept) (a .car) (p .ready .held .few) (ap (λ (r : Row). r .kept) (of .ensures .0));
+      held-cells = filled .1 ∙ rw (of .ensures .1 .2, of .ensures .0) refl;
     }
 
 pub fill-car-spec : {M : Type 1} → statement M

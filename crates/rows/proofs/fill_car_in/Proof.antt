@@ -52,6 +52,9 @@ use denote.Signature.Array.{arrayOf}
 use Rattle.cars.specs.Cars.{noCar}
 use Rattle.layout.specs.Records.{sheetOf}
 use Rattle.rows.specs.MatrixLaws.{CarNeeds, FilledCar}
+use Rattle.rows.specs.declared.Counted.{Counted}
+use Rattle.rows.proofs.Counted as M-Counted
+use Rattle.rows.proofs.Counted.Laws as M-Counted-laws
 use Rattle.layout.specs.declared.Counts.{Counts}
 use Rattle.layout.proofs.Counts as M-Counts
 use Rattle.layout.proofs.Counts.Laws as M-Counts-laws
@@ -129,7 +132,7 @@ module _ {M : Type 1} (𝓤 : URA M) (H : Heap 𝓤) (A : Atoms 𝓤) (W : Given
   abbrev e : Car
   e = getD cars i noCar
 
-  abbrev Said : ℕ → List ℕ → Type 0
+  abbrev Said : Counted → List ℕ → Type 0
   Said r zs = FilledCar (sheetOf (now s) c) (now ids) (now xs) (now acar) (now adest) masks waiters stops limit e (length (now row)) r zs
 
   -- the slice that is lent for κ under γ, and the array's part while it is lent
@@ -146,9 +149,9 @@ module _ {M : Type 1} (𝓤 : URA M) (H : Heap 𝓤) (A : Atoms 𝓤) (W : Given
   asked : (b : ℕ) (κ : Lft) (γ : GName) → (i < length cars) × CarNeeds (now s) c (now ids) (now xs) (now acar) (now adest) masks waiters stops (length (now row)) → ent 𝓤 (onEntry 𝓤 H A fill-car-of.signature (κ, (κr, (κ1, tt))) (fullShare, (qr, (q1, tt))) (lent b γ, (i, (row, (s, (c, (limit, (ids, (xs, (acar, (adest, (masks, (waiters, (stops, tt))))))))))))) (sliceVal (b, 0) (length cars) ∷ [], (vint w64 i ∷ [], (slice-vals row, (slice-vals s, (LL.vals M-Counts.the-type M-Counts-laws.the-laws c, (vint w32 limit ∷ [], (slice-vals ids, (slice-vals xs, (slice-vals acar, (slice-vals adest, (LL.vals M-StopMasks.the-type M-StopMasks-laws.the-laws masks, (arrayVal (map (λ x. LL.val M-Waiters.the-type M-Waiters-laws.the-laws x) waiters) ∷ [], (LL.vals M-Ones.the-type M-Ones-laws.the-laws stops, tt)))))))))))))) (Callee 𝓤 H A mem run .pre (to b κ γ))
   asked b κ γ h = qed W ((‵ (flft κ fullShare) ⊛ ‵ (flft κr qr) ⊛ ‵ (flft κ1 q1) ⊛ ‵ ftrue) ∷ ‵ (owns (ShrSlice (named 0) κ T.the-row ∷ usize ∷ MutSlice (named 1) κr u64 ∷ ShrSlice (named 2) κ1 u8 ∷ M-Counts.the-row ∷ u32 ∷ ShrSlice (named 2) κ1 u32 ∷ ShrSlice (named 2) κ1 f64 ∷ ShrSlice (named 2) κ1 u32 ∷ ShrSlice (named 2) κ1 u32 ∷ M-StopMasks.the-row ∷ (Array M-Waiters.the-row 64) ∷ M-Ones.the-row ∷ []) (lent b γ, (i, (row, (s, (c, (limit, (ids, (xs, (acar, (adest, (masks, (waiters, (stops, tt))))))))))))) (sliceVal (b, 0) (length cars) ∷ [], (vint w64 i ∷ [], (slice-vals row, (slice-vals s, (LL.vals M-Counts.the-type M-Counts-laws.the-laws c, (vint w32 limit ∷ [], (slice-vals ids, (slice-vals xs, (slice-vals acar, (slice-vals adest, (LL.vals M-StopMasks.the-type M-StopMasks-laws.the-laws masks, (arrayVal (map (λ x. LL.val M-Waiters.the-type M-Waiters-laws.the-laws x) waiters) ∷ [], (LL.vals M-Ones.the-type M-Ones-laws.the-laws stops, tt)))))))))))))) ∷ []) ∵ says ! h $ frame ! $ done !
 
-  exits : (r : ℕ) (u : Val) (zs : List ℕ) → Said r zs → length zs ≡ length (now row) → ent 𝓤 (⋆ 𝓤 H A ((‵ (flft κr qr) ⊛ ‵ (flft κ1 q1) ⊛ ‵ ftrue) ∷ ‵ (finally u64 (row .name) zs) ∷ ‵ (usize .own r (u ∷ [])) ∷ [])) (Post u)
+  exits : (r : Counted) (u : Val) (zs : List ℕ) → Said r zs → length zs ≡ length (now row) → ent 𝓤 (⋆ 𝓤 H A ((‵ (flft κr qr) ⊛ ‵ (flft κ1 q1) ⊛ ‵ ftrue) ∷ ‵ (finally u64 (row .name) zs) ∷ ‵ (M-Counted.the-row .own r (u ∷ [])) ∷ [])) (Post u)
   exits r u zs is l =
-      qed W ((‵ (flft κr qr) ⊛ ‵ (flft κ1 q1) ⊛ ‵ ftrue) ∷ ‵ (finally u64 (row .name) zs) ∷ ‵ (usize .own r (u ∷ [])) ∷ []) ∵
+      qed W ((‵ (flft κr qr) ⊛ ‵ (flft κ1 q1) ⊛ ‵ ftrue) ∷ ‵ (finally u64 (row .name) zs) ∷ ‵ (M-Counted.the-row .own r (u ∷ [])) ∷ []) ∵
       suffices ! _ (ends-at 𝓤 H A fill-car-in.ended stayed (fill-car-in.clauses 𝓤 H A mem run) W bound u r (tt, (tt, (zs, (tt, (tt, (tt, (tt, (tt, (tt, (tt, (tt, (tt, (tt, tt))))))))))))) (tt, (tt, (l, (tt, (tt, (tt, (tt, (tt, (tt, (tt, (tt, (tt, (tt, tt)))))))))))))) $ says ! is $
       frame ! $ nothing ! $ nothing ! $ fjoin ! $ nothing ! $ fjoin ! $ nothing ! $ fjoin ! $ nothing ! $ fjoin ! $ nothing ! $ fjoin ! $ nothing ! $ fjoin ! $ nothing ! $ fjoin ! $ nothing ! $ fjoin ! $ nothing ! $ fjoin ! $ nothing ! $ fjoin ! $ move ! (1 ∷ 0 ∷ []) $ fjoin ! $ nothing ! $ fjoin ! $ nothing ! $ fjoin ! $ frame ! $ done !
 
@@ -176,15 +179,15 @@ module _ {M : Type 1} (𝓤 : URA M) (H : Heap 𝓤) (A : Atoms 𝓤) (W : Given
         move ! (41 ∷ []) $ fsplit ! $ drop ! $ move ! (1 ∷ 0 ∷ []) $ fjoin ! $ move ! (2 ∷ 40 ∷ []) $ join ! $ use2 W (raw (Callee 𝓤 H A mem run .pre (to l₁₄ (α ∷ []) γ))) (asked l₁₄ (α ∷ []) γ pre) $
         -- [what the callee asks; the lender's part; the locals]
         calls-at ! fm (Callee 𝓤 H A mem run) known (to l₁₄ (α ∷ []) γ) (and-then ! (load ! (from ! (stop !)) (look ! 6 refl)) (and-then ! (load ! (from ! (stop !)) (look ! 33 refl)) (and-then ! (load ! (from ! (stop !)) (look ! 2 refl)) (and-then ! (load ! (from ! (stop !)) (look ! 29 refl)) (and-then ! (load ! (from ! (stop !)) (look ! 27 refl)) (and-then ! (load ! (from ! (stop !)) (look ! 25 refl)) (and-then ! (load ! (from ! (stop !)) (look ! 23 refl)) (and-then ! (load ! (from ! (stop !)) (look ! 21 refl)) (and-then ! (load ! (from ! (stop !)) (look ! 19 refl)) (and-then ! (load ! (from ! (stop !)) (look ! 17 refl)) (and-then ! (load ! (from ! (stop !)) (look ! 15 refl)) (and-then ! (load ! (from ! (stop !)) (look ! 13 refl)) (and-then ! (load ! (from ! (stop !)) (look ! 11 refl)) (no-more !)))))))))))))) (λ u.
-        use1 W (later (some (λ (r : ℕ). ((‵ (flft (α ∷ []) fullShare) ⊛ ‵ (flft κr qr) ⊛ ‵ (flft κ1 q1) ⊛ ‵ ftrue) ⊛ ‵ (usize .own r (u ∷ []))) ⊛ raw (ensured 𝓤 H A fill-car-of.ended (fill-car-of.clauses 𝓤 H A mem run) ((α ∷ []), (κr, (κ1, tt))) (lent l₁₄ γ, (i, (row, (s, (c, (limit, (ids, (xs, (acar, (adest, (masks, (waiters, (stops, tt))))))))))))) tt r)))) (id⊢ 𝓤 _) $ await ! tt $ pick ! (λ r.
+        use1 W (later (some (λ (r : Counted). ((‵ (flft (α ∷ []) fullShare) ⊛ ‵ (flft κr qr) ⊛ ‵ (flft κ1 q1) ⊛ ‵ ftrue) ⊛ ‵ (M-Counted.the-row .own r (u ∷ []))) ⊛ raw (ensured 𝓤 H A fill-car-of.ended (fill-car-of.clauses 𝓤 H A mem run) ((α ∷ []), (κr, (κ1, tt))) (lent l₁₄ γ, (i, (row, (s, (c, (limit, (ids, (xs, (acar, (adest, (masks, (waiters, (stops, tt))))))))))))) tt r)))) (id⊢ 𝓤 _) $ await ! tt $ pick ! (λ r.
         split ! $ move ! (1 ∷ []) $ use1 W (some (λ (zs : Unit {0} × (Unit {0} × (List ℕ × (Unit {0} × (Unit {0} × (Unit {0} × (Unit {0} × (Unit {0} × (Unit {0} × (Unit {0} × (Unit {0} × (Unit {0} × (Unit {0} × Unit {0}))))))))))))). ‵ (lasts fill-car-of.ended ((α ∷ []), (κr, (κ1, tt))) (lent l₁₄ γ, (i, (row, (s, (c, (limit, (ids, (xs, (acar, (adest, (masks, (waiters, (stops, tt))))))))))))) zs) ⊛ raw (fact 𝓤 (Said r (zs .1 .1 .0))))) (id⊢ 𝓤 _) $ pick ! (λ zs.
         split ! $ move ! (1 ∷ []) $ heard ! (Said r (zs .1 .1 .0)) (λ is. fsplit ! $ drop ! $ fsplit ! $ drop ! $ fsplit ! $ fsplit ! $ move ! (1 ∷ []) $ feqL ! (λ l.
         -- [the last row; …; the tokens and the result; the lender's part; the locals]: the lifetime ends, and the array is back
         move ! (2 ∷ []) $ split ! $ split ! $ lft-end ! tt $ move ! (0 ∷ 5 ∷ []) $ lent-back ! tt $ rewrite ! 0 (λ (w : ℕ). ‵ (Held w l₁₄)) n refl $
         use1 W (‵ (partAt Cars fullShare cars l₁₄ 0)) (array-whole 𝓤 H A W T.the-row fullShare 32 cars l₁₄ 0) $ use1 W (‵ (fat fullShare τ l₁₄ 0 (arr cars))) (from-part 𝓤 H A W cars l₁₄) $
         -- [the array's local; the tokens; the result; the last row; …; the locals]
-        move ! (2 ∷ []) $ peeks ! usize (Is usize) (shows 𝓤 H A usize) r (u ∷ []) (λ gu.
-        land ! (from ! (stop !)) (init ! 40 refl (uint-lawful 𝓤 H A W w64 .typed r _ gu .0)) $
+        move ! (2 ∷ []) $ peeks ! M-Counted.the-row (Is M-Counted.the-row) (shows 𝓤 H A M-Counted.the-row) r (u ∷ []) (λ gu.
+        land ! (from ! (stop !)) (init ! 40 refl (LL.lawful M-Counted.the-type M-Counted-laws.the-laws 𝓤 H A W .typed r _ gu .0)) $
         returns ! (look ! 40 refl) $ forget ! 1 refl $ forget ! 5 refl $ forget ! 7 refl $ forget ! 9 refl $ forget ! 11 refl $ forget ! 14 refl $ forget ! 16 refl $ forget ! 18 refl $ forget ! 20 refl $ forget ! 22 refl $ forget ! 24 refl $ forget ! 26 refl $ forget ! 28 refl $ forget ! 30 refl $ forget ! 32 refl $ forget ! 34 refl $ forget ! 36 refl $ forget ! 38 refl $ forget ! 40 refl $
         move ! (40 ∷ 41 ∷ []) $ free1 ! $ move ! (38 ∷ 39 ∷ []) $ free1 ! $ move ! (36 ∷ 37 ∷ []) $ free1 ! $ move ! (34 ∷ 35 ∷ []) $ free1 ! $ move ! (32 ∷ 33 ∷ []) $ free1 ! $ move ! (30 ∷ 31 ∷ []) $ free1 ! $ move ! (28 ∷ 29 ∷ []) $ free1 ! $ move ! (26 ∷ 27 ∷ []) $ free1 ! $ move ! (24 ∷ 25 ∷ []) $ free1 ! $ move ! (22 ∷ 23 ∷ []) $ free1 ! $ move ! (20 ∷ 21 ∷ []) $ free1 ! $ move ! (18 ∷ 19 ∷ []) $ free1 ! $ move ! (16 ∷ 17 ∷ []) $ free1 ! $ move ! (14 ∷ 15 ∷ []) $ free1 ! $ move ! (1 ∷ 13 ∷ []) $ free1 ! $ move ! (10 ∷ 11 ∷ []) $ free1 ! $ move ! (8 ∷ 9 ∷ []) $ free1 ! $ move ! (6 ∷ 7 ∷ []) $ free1 ! $ move ! (4 ∷ 5 ∷ []) $ free1 ! $ free0 ! $
         keep ! (1 ∷ 2 ∷ 0 ∷ []) $ by ! (exits r u (zs .1 .1 .0) is l))))))))))))))))))))))))))))

@@ -48,6 +48,9 @@ use denote.Signature.Array.{arrayOf}
 use Rattle.cars.specs.Cars.{noCar}
 use Rattle.layout.specs.Records.{sheetOf}
 use Rattle.rows.specs.MatrixLaws.{CarNeeds, FilledCar}
+use Rattle.rows.specs.declared.Counted.{Counted}
+use Rattle.rows.proofs.Counted as M-Counted
+use Rattle.rows.proofs.Counted.Laws as M-Counted-laws
 use Rattle.layout.specs.declared.Counts.{Counts}
 use Rattle.layout.proofs.Counts as M-Counts
 use Rattle.layout.proofs.Counts.Laws as M-Counts-laws
@@ -97,7 +100,7 @@ module _ {M : Type 1} (𝓤 : URA M) (H : Heap 𝓤) (A : Atoms 𝓤) (W : Given
   abbrev e : Car
   e = getD (now cars) i noCar
 
-  abbrev Said : ℕ → List ℕ → Type 0
+  abbrev Said : Counted → List ℕ → Type 0
   Said r zs = FilledCar (sheetOf (now s) c) (now ids) (now xs) (now acar) (now adest) masks waiters stops limit e (length (now row)) r zs
 
   -- what the callee's triple binds outside
@@ -107,9 +110,9 @@ module _ {M : Type 1} (𝓤 : URA M) (H : Heap 𝓤) (A : Atoms 𝓤) (W : Given
   asked : CarNeeds (now s) c (now ids) (now xs) (now acar) (now adest) masks waiters stops (length (now row)) → ent 𝓤 (onEntry 𝓤 H A fill-car.signature (κr, (κ1, tt)) (qr, (q1, tt)) (row, (e, (s, (c, (limit, (ids, (xs, (acar, (adest, (masks, (waiters, (stops, tt)))))))))))) (slice-vals row, (vals e, (slice-vals s, (LL.vals M-Counts.the-type M-Counts-laws.the-laws c, (vint w32 limit ∷ [], (slice-vals ids, (slice-vals xs, (slice-vals acar, (slice-vals adest, (LL.vals M-StopMasks.the-type M-StopMasks-laws.the-laws masks, (arrayVal (map (λ x. LL.val M-Waiters.the-type M-Waiters-laws.the-laws x) waiters) ∷ [], (LL.vals M-Ones.the-type M-Ones-laws.the-laws stops, tt))))))))))))) (Callee 𝓤 H A mem run .pre (to))
   asked h = qed W ((‵ (flft κr qr) ⊛ ‵ (flft κ1 q1) ⊛ ‵ ftrue) ∷ ‵ (owns (MutSlice (named 0) κr u64 ∷ T.the-row ∷ ShrSlice (named 1) κ1 u8 ∷ M-Counts.the-row ∷ u32 ∷ ShrSlice (named 1) κ1 u32 ∷ ShrSlice (named 1) κ1 f64 ∷ ShrSlice (named 1) κ1 u32 ∷ ShrSlice (named 1) κ1 u32 ∷ M-StopMasks.the-row ∷ (Array M-Waiters.the-row 64) ∷ M-Ones.the-row ∷ []) (row, (e, (s, (c, (limit, (ids, (xs, (acar, (adest, (masks, (waiters, (stops, tt)))))))))))) (slice-vals row, (vals e, (slice-vals s, (LL.vals M-Counts.the-type M-Counts-laws.the-laws c, (vint w32 limit ∷ [], (slice-vals ids, (slice-vals xs, (slice-vals acar, (slice-vals adest, (LL.vals M-StopMasks.the-type M-StopMasks-laws.the-laws masks, (arrayVal (map (λ x. LL.val M-Waiters.the-type M-Waiters-laws.the-laws x) waiters) ∷ [], (LL.vals M-Ones.the-type M-Ones-laws.the-laws stops, tt))))))))))))) ∷ []) ∵ says ! h $ frame ! $ done !
 
-  exits : (r : ℕ) (u : Val) (zs : List ℕ) → Said r zs → length zs ≡ length (now row) → ent 𝓤 (⋆ 𝓤 H A (‵ (flft κ q) ∷ (‵ (flft κr qr) ⊛ ‵ (flft κ1 q1) ⊛ ‵ ftrue) ∷ ‵ (finally u64 (row .name) zs) ∷ ‵ (usize .own r (u ∷ [])) ∷ [])) (Post u)
+  exits : (r : Counted) (u : Val) (zs : List ℕ) → Said r zs → length zs ≡ length (now row) → ent 𝓤 (⋆ 𝓤 H A (‵ (flft κ q) ∷ (‵ (flft κr qr) ⊛ ‵ (flft κ1 q1) ⊛ ‵ ftrue) ∷ ‵ (finally u64 (row .name) zs) ∷ ‵ (M-Counted.the-row .own r (u ∷ [])) ∷ [])) (Post u)
   exits r u zs is l =
-      qed W (‵ (flft κ q) ∷ (‵ (flft κr qr) ⊛ ‵ (flft κ1 q1) ⊛ ‵ ftrue) ∷ ‵ (finally u64 (row .name) zs) ∷ ‵ (usize .own r (u ∷ [])) ∷ []) ∵
+      qed W (‵ (flft κ q) ∷ (‵ (flft κr qr) ⊛ ‵ (flft κ1 q1) ⊛ ‵ ftrue) ∷ ‵ (finally u64 (row .name) zs) ∷ ‵ (M-Counted.the-row .own r (u ∷ [])) ∷ []) ∵
       suffices ! _ (ends-at 𝓤 H A fill-car-of.ended stayed (fill-car-of.clauses 𝓤 H A mem run) W bound u r (tt, (tt, (zs, (tt, (tt, (tt, (tt, (tt, (tt, (tt, (tt, (tt, (tt, tt))))))))))))) (tt, (tt, (l, (tt, (tt, (tt, (tt, (tt, (tt, (tt, (tt, (tt, (tt, tt)))))))))))))) $ says ! is $
       join ! $ frame ! $ nothing ! $ nothing ! $ fjoin ! $ nothing ! $ fjoin ! $ nothing ! $ fjoin ! $ nothing ! $ fjoin ! $ nothing ! $ fjoin ! $ nothing ! $ fjoin ! $ nothing ! $ fjoin ! $ nothing ! $ fjoin ! $ nothing ! $ fjoin ! $ nothing ! $ fjoin ! $ move ! (1 ∷ 0 ∷ []) $ fjoin ! $ nothing ! $ fjoin ! $ nothing ! $ fjoin ! $ frame ! $ done !
 
@@ -140,12 +143,12 @@ module _ {M : Type 1} (𝓤 : URA M) (H : Heap 𝓤) (A : Atoms 𝓤) (W : Given
         move ! (3 ∷ 0 ∷ []) $ use2 W (raw (Callee 𝓤 H A mem run .pre to)) (asked (pre .1)) $
         -- [what the callee asks; the token; the fractured borrow; res; the slice's fact; the locals]
         calls-at ! fm (Callee 𝓤 H A mem run) known to (and-then ! (load ! (from ! (stop !)) (look ! 5 refl)) (and-then ! (load ! (from ! (stop !)) (look ! 15 refl)) (and-then ! (load ! (from ! (stop !)) (look ! 35 refl)) (and-then ! (load ! (from ! (stop !)) (look ! 33 refl)) (and-then ! (load ! (from ! (stop !)) (look ! 31 refl)) (and-then ! (load ! (from ! (stop !)) (look ! 29 refl)) (and-then ! (load ! (from ! (stop !)) (look ! 27 refl)) (and-then ! (load ! (from ! (stop !)) (look ! 25 refl)) (and-then ! (load ! (from ! (stop !)) (look ! 23 refl)) (and-then ! (load ! (from ! (stop !)) (look ! 21 refl)) (and-then ! (load ! (from ! (stop !)) (look ! 19 refl)) (and-then ! (load ! (from ! (stop !)) (look ! 17 refl)) (no-more !))))))))))))) (λ u.
-        use1 W (later (some (λ (r : ℕ). ((‵ (flft κr qr) ⊛ ‵ (flft κ1 q1) ⊛ ‵ ftrue) ⊛ ‵ (usize .own r (u ∷ []))) ⊛ raw (ensured 𝓤 H A fill-car.ended (fill-car.clauses 𝓤 H A mem run) (κr, (κ1, tt)) (row, (e, (s, (c, (limit, (ids, (xs, (acar, (adest, (masks, (waiters, (stops, tt)))))))))))) tt r)))) (id⊢ 𝓤 _) $ await ! tt $ pick ! (λ r.
+        use1 W (later (some (λ (r : Counted). ((‵ (flft κr qr) ⊛ ‵ (flft κ1 q1) ⊛ ‵ ftrue) ⊛ ‵ (M-Counted.the-row .own r (u ∷ []))) ⊛ raw (ensured 𝓤 H A fill-car.ended (fill-car.clauses 𝓤 H A mem run) (κr, (κ1, tt)) (row, (e, (s, (c, (limit, (ids, (xs, (acar, (adest, (masks, (waiters, (stops, tt)))))))))))) tt r)))) (id⊢ 𝓤 _) $ await ! tt $ pick ! (λ r.
         split ! $ move ! (1 ∷ []) $ use1 W (some (λ (zs : List ℕ × (Unit {0} × (Unit {0} × (Unit {0} × (Unit {0} × (Unit {0} × (Unit {0} × (Unit {0} × (Unit {0} × (Unit {0} × (Unit {0} × (Unit {0} × Unit {0})))))))))))). ‵ (lasts fill-car.ended (κr, (κ1, tt)) (row, (e, (s, (c, (limit, (ids, (xs, (acar, (adest, (masks, (waiters, (stops, tt)))))))))))) zs) ⊛ raw (fact 𝓤 (Said r (zs .0))))) (id⊢ 𝓤 _) $ pick ! (λ zs.
         split ! $ move ! (1 ∷ []) $ heard ! (Said r (zs .0)) (λ is. fsplit ! $ fsplit ! $ move ! (1 ∷ []) $ feqL ! (λ l.
         -- [the last row; …; the other tokens and the result; the token; the fractured borrow; res; the slice's fact; the locals]
-        move ! (2 ∷ []) $ split ! $ move ! (1 ∷ []) $ peeks ! usize (Is usize) (shows 𝓤 H A usize) r (u ∷ []) (λ gu.
-        land ! (from ! (stop !)) (init ! 46 refl (uint-lawful 𝓤 H A W w64 .typed r _ gu .0)) $
+        move ! (2 ∷ []) $ split ! $ move ! (1 ∷ []) $ peeks ! M-Counted.the-row (Is M-Counted.the-row) (shows 𝓤 H A M-Counted.the-row) r (u ∷ []) (λ gu.
+        land ! (from ! (stop !)) (init ! 46 refl (LL.lawful M-Counted.the-type M-Counted-laws.the-laws 𝓤 H A W .typed r _ gu .0)) $
         returns ! (look ! 46 refl) $ forget ! 8 refl $ forget ! 10 refl $ forget ! 12 refl $ forget ! 14 refl $ forget ! 16 refl $ forget ! 18 refl $ forget ! 20 refl $ forget ! 22 refl $ forget ! 24 refl $ forget ! 26 refl $ forget ! 28 refl $ forget ! 30 refl $ forget ! 32 refl $ forget ! 34 refl $ forget ! 36 refl $ forget ! 38 refl $ forget ! 40 refl $ forget ! 42 refl $ forget ! 44 refl $ forget ! 46 refl $
         move ! (46 ∷ 47 ∷ []) $ free1 ! $ move ! (44 ∷ 45 ∷ []) $ free1 ! $ move ! (42 ∷ 43 ∷ []) $ free1 ! $ move ! (40 ∷ 41 ∷ []) $ free1 ! $ move ! (38 ∷ 39 ∷ []) $ free1 ! $ move ! (36 ∷ 37 ∷ []) $ free1 ! $ move ! (34 ∷ 35 ∷ []) $ free1 ! $ move ! (32 ∷ 33 ∷ []) $ free1 ! $ move ! (30 ∷ 31 ∷ []) $ free1 ! $ move ! (28 ∷ 29 ∷ []) $ free1 ! $ move ! (26 ∷ 27 ∷ []) $ free1 ! $ move ! (24 ∷ 25 ∷ []) $ free1 ! $ move ! (22 ∷ 23 ∷ []) $ free1 ! $ move ! (20 ∷ 21 ∷ []) $ free1 ! $ move ! (18 ∷ 19 ∷ []) $ free1 ! $ move ! (16 ∷ 17 ∷ []) $ free1 ! $ move ! (14 ∷ 15 ∷ []) $ free1 ! $ move ! (12 ∷ 13 ∷ []) $ free1 ! $ move ! (10 ∷ 11 ∷ []) $ free1 ! $ move ! (8 ∷ 9 ∷ []) $ free1 ! $ free0 ! $
         keep ! (4 ∷ 1 ∷ 2 ∷ 0 ∷ []) $ by ! (exits r u (zs .0) is l)))))))))))))))))))))))))))))

@@ -1,7 +1,9 @@
 -- rows::fill_row meets its contract.
-use Prim.Native.Nat.{ℕ, _≤_, _-_}
+use Prim.Native.Nat.{ℕ, _≤_, _+_, _-_}
 use Rattle.laws.specs.Tables.{tab, tab-next}
-use Rattle.rows.specs.RowLaws.{rowCell}
+use Rattle.laws.specs.Bools.{bit-lt}
+use Rattle.laws.specs.Folds.{count, count-le, count-step}
+use Rattle.rows.specs.RowLaws.{rowCell, rowHeld}
 use borrow.Author.Needs.{needs}
 use lib.ListN.{length, drop, length-set}
 use mathlib.Core.List.{List, _++_}
@@ -11,14 +13,16 @@ use Rattle.rows.proofs.fill_row.Statement.{statement}
 use Rattle.rows.proofs.fill_row.Tie as tie
 
 abbrev Inv-loop : tie.InvT-loop
-Inv-loop row dests xs n out₀ waiters stops k₀ out k = (k ≤ stops .count) × (length out ≡ length out₀) × (out ≡ tab (rowCell row dests waiters xs n stops) k ++ drop k out₀)
+Inv-loop row dests xs n out₀ waiters stops held₀ k₀ out held k =
+    (k ≤ stops .count) × (length out ≡ length out₀) × (out ≡ tab (rowCell row dests waiters xs n stops) k ++ drop k out₀)
+    × (held ≡ count (rowHeld row dests waiters xs n stops) k)
 
 abbrev μ-loop : tie.MeasureT-loop
-μ-loop row dests xs n out₀ waiters stops k₀ out k = stops .count - k
+μ-loop row dests xs n out₀ waiters stops held₀ k₀ out held k = stops .count - k
 
 loop-holds : tie.Need-loop-holds Inv-loop μ-loop
-unfolding tab
-loop-holds c = (omega arith, refl, refl)
+unfolding tab count
+loop-holds c = (omega arith, refl, refl, refl)
 
 mul-v : tie.Need-mul-v Inv-loop μ-loop
 mul-v c = let p = c .before .before .before .before .before .before .pre in omega (arith, p .5 (c .before .before .loop .k) (c .before .loop-test .taken))
@@ -29,25 +33,42 @@ array-copy-out-v c = let p = c .before .before .before .before .before .before .
 cell-requires : tie.Need-cell-requires Inv-loop μ-loop
 cell-requires c κs = let p = c .before .before .before .before .before .before .before .pre in (p .0, p .1, p .2, p .5 (c .before .before .before .loop .k) (c .before .before .loop-test .taken))
 
+add-held : tie.Need-add-held Inv-loop μ-loop
+add-held c =
+    let l = c .before .before .before .before .before .loop in
+    let a = c .before .before .before .before .before .before .before .before .before .args in
+    let p = c .before .before .before .before .before .before .before .before .before .pre in
+    let few = count-le (rowHeld (a .row) (a .dests .now) (a .t3) (a .xs .now) (a .n) (a .t6)) (l .k) in
+    omega (arith, l .inv .3, few, c .held-count .ensures, bit-lt (c .before .cell .result .held), c .before .before .before .before .loop-test .taken, p .4)
+
 loop-again : tie.Need-loop-again Inv-loop μ-loop
-unfolding rowCell
+unfolding rowCell rowHeld
 loop-again c =
-    let l = c .before .before .before .before .loop in
-    let a = c .before .before .before .before .before .before .before .before .args in (
+    let l = c .before .before .before .before .before .loop in
+    let a = c .before .before .before .before .before .before .before .before .before .args in
+    let cell = c .before .cell in (
       omega arith,
       simp length-set (l .inv .1),
-      tab-next (rowCell (a .row) (a .dests .now) (a .t3) (a .xs .now) (a .n) (a .t6)) (a .out .now) (l .out) (l .k) (c .cell .result) (omega arith) (l .inv .2) (c .cell .ensures),
+      tab-next (rowCell (a .row) (a .dests .now) (a .t3) (a .xs .now) (a .n) (a .t6)) (a .out .now) (l .out) (l .k) (cell .result .cell) (omega arith)
+          (l .inv .2) (cell .ensures .0),
+      ap (λ (z : ℕ). l .held + z) (c .held-count .ensures)
+          ∙ count-step (rowHeld (a .row) (a .dests .now) (a .t3) (a .xs .now) (a .n) (a .t6)) (l .k) (l .inv .3) (cell .ensures .1),
     )
 
 returns : tie.Need-returns Inv-loop μ-loop
 returns c =
     let l = c .before .loop in
     let a = c .before .before .before .before .before .args in
-    let e : l .k ≡ a .t6 .count = omega arith in
-    (l .inv .1, l .inv .2 ∙ ap (λ (n : ℕ). tab (rowCell (a .row) (a .dests .now) (a .t3) (a .xs .now) (a .n) (a .t6)) n ++ drop n (a .out .now)) e)
+    let e : l .k ≡ a .t6 .count = omega arith in (
+      (
+        l .inv .1,
+        l .inv .2 ∙ ap (λ (n : ℕ). tab (rowCell (a .row) (a .dests .now) (a .t3) (a .xs .now) (a .n) (a .t6)) n ++ drop n (a .out .now)) e,
+      ),
+      l .inv .3 ∙ ap (count (rowHeld (a .row) (a .dests .now) (a .t3) (a .xs .now) (a .n) (a .t6))) e,
+    )
 
 pub fill-row-spec : {M : Type 1} → statement M
 fill-row-spec =
     tie.close
     (tie.spec Inv-loop μ-loop loop-holds (λ c. search needs) (λ c. search needs) mul-v array-copy-out-v cell-requires (λ c. search needs)
-    (λ c. search needs) (λ c. search needs) (λ c. search needs) loop-again (λ c. search needs) returns)
+    (λ c. search needs) (λ c κs. search needs) add-held (λ c. search needs) (λ c. search needs) loop-again (λ c. search needs) returns)

@@ -8,7 +8,7 @@ use super::heights::{self, Heights};
 use super::legend::Legend;
 use super::riders::{Riders, Way};
 use super::svg::{self, Anchor, Svg, short};
-use super::{Chosen, LEGEND, LONG_ID, car_name, cost};
+use super::{Chosen, LEGEND, LONG_ID, car_name};
 use crate::fields::PHASES;
 
 const SHAFT: f64 = 100.0;
@@ -379,9 +379,12 @@ impl Building<'_> {
             svg.line("arrow", (x, from), (x, to + back));
             svg.triangle("head", (x, to + back), (7.0, 7.0), up);
         }
-        let cell = self.row(k).and_then(|row| self.chosen.cell(row));
-        if let Some(cell) = cell {
-            svg.text("cost halo", x + 8.0, to + 3.5, Anchor::Start, &cost(cell));
+        let cost = self.row(k).and_then(|row| {
+            let column = *self.chosen.columns.get(row)?;
+            self.chosen.cost(row, column as usize)
+        });
+        if let Some(cost) = cost {
+            svg.text("cost halo", x + 8.0, to + 3.5, Anchor::Start, &cost);
         }
     }
 

@@ -1,6 +1,6 @@
-//! The cost matrix as a heat map, the chosen cells framed, the cells without a rank marked by their reasons.
+//! The cost matrix as a heat map, the chosen cells framed, the cells without a rank marked by their reasons, the held ones by a bar.
 
-use dispatch_bench::SENTINEL;
+use dispatch_bench::{CEILING, SENTINEL};
 use sheetgen::Sheet;
 
 use super::legend::Legend;
@@ -22,6 +22,10 @@ const COSTS: [&str; 3] = [
 ];
 const DIGITS: &str = "Here and at the arrows it is rounded; under the pointer stands the cell itself, which counts 1,000,000 for a cost of 1, as the total does.";
 const TIES: &str = "Where several choices have the least total, the bench takes the lowest columns in car order: the lowest for the first car, then for the second, and so on.";
+
+/// What is said of a held cell after its cost.
+const HELD: &str = ", held at the ceiling";
+const NO_TIE: &str = "A held cell counts 281474976710655, the ceiling; its cost is larger. Cells at the ceiling are alike to the choice, but nothing says that their costs are equal: lower the weights to tell them apart.";
 
 /// Where the cells stand, and what their rows and columns are called.
 struct Table<'a> {
@@ -115,13 +119,19 @@ impl<'a> Table<'a> {
             mark(svg, at, self.size, reason, &tip);
             return;
         }
-        let tip = format!("{name}: {} (cell {value})", cost(value));
+        let cost = self.chosen.cost(row, column).unwrap_or_default();
+        let is_held = self.chosen.is_held(row, column);
+        let said = if is_held { HELD } else { "" };
+        let tip = format!("{name}: {cost}{said} (cell {value})");
         svg.tile(at, self.size, self.shades.of(value), "cell", &tip);
+        if is_held {
+            bar(svg, at, w);
+        }
         if w > 40.0 {
             let is_dark = self.shades.shade(value) >= 4;
             let class = if is_dark { "number pale" } else { "number" };
             let (x, y) = (at.0 + w / 2.0, at.1 + h / 2.0 + 3.5);
-            svg.text(class, x, y, Anchor::Middle, &cost(value));
+            svg.text(class, x, y, Anchor::Middle, &cost);
         }
     }
 
@@ -140,7 +150,8 @@ impl<'a> Table<'a> {
     fn legend(&self, svg: &mut Svg, sheet: &Sheet, at: (f64, f64), right: f64) -> (f64, f64) {
         let width = (right - at.0).clamp(LEGEND.0, LEGEND.1);
         let mut legend = Legend::new(at.0, at.1, width);
-        self.shades.legend(svg, &mut legend);
+        self.shades
+            .legend(svg, &mut legend, self.chosen.pass.held > 0);
         let kinds = [
             NoRank::Line,
             NoRank::Barred,
@@ -153,6 +164,14 @@ impl<'a> Table<'a> {
                 mark(svg, (x - 8.0, y - 8.0), (16.0, 14.0), kind, "");
             });
         }
+        if self.chosen.pass.held > 0 {
+            let words = "held at the ceiling, the cost is larger";
+            legend.entry(svg, words, |svg, x, y| {
+                let (at, size) = ((x - 8.0, y - 8.0), (16.0, 14.0));
+                svg.tile(at, size, self.shades.of(CEILING), "cell", "");
+                bar(svg, at, size.0);
+            });
+        }
         legend.next_row();
         legend.entry(svg, "chosen, the car is sent", |svg, x, y| {
             svg.rect("chosen", x - 7.0, y - 5.0, 14.0, 10.0);
@@ -163,6 +182,9 @@ impl<'a> Table<'a> {
         let costs = COSTS.get(usize::from(sheet.policy.strategy));
         legend.sentence(svg, &format!("{} {DIGITS}", costs.unwrap_or(&"")));
         legend.sentence(svg, TIES);
+        if self.chosen.pass.held > 0 {
+            legend.sentence(svg, NO_TIE);
+        }
         legend.end()
     }
 
@@ -181,6 +203,7 @@ impl<'a> Table<'a> {
 /// A reason in words, with the rank that the limit cut.
 fn said(reason: NoRank) -> String {
     match reason {
+        NoRank::Cut(CEILING) => format!("no rank, {}: {} or more", reason.words(), cost(CEILING)),
         NoRank::Cut(rank) => format!("no rank, {}: {}", reason.words(), cost(rank)),
         NoRank::Open => reason.words().into(),
         _ => format!("no rank, {}", reason.words()),
@@ -204,6 +227,11 @@ fn mark(svg: &mut Svg, at: (f64, f64), size: (f64, f64), reason: NoRank, tip: &s
         NoRank::Open => svg.line("dash", (x - 3.5, y), (x + 3.5, y)),
         NoRank::Spare | NoRank::Line => {}
     }
+}
+
+/// The ceiling, along the upper edge of a cell.
+fn bar(svg: &mut Svg, at: (f64, f64), width: f64) {
+    svg.rect("held", at.0 + 0.5, at.1 + 0.5, width - 1.0, 4.0);
 }
 
 /// What each column stands for.
@@ -240,17 +268,18 @@ impl Shades {
         COLOURS[self.shade(cell)]
     }
 
-    /// The costs from the least to the most.
-    fn legend(&self, svg: &mut Svg, legend: &mut Legend) {
+    /// The costs from the least to the most; where cells are held, there are costs above the most.
+    fn legend(&self, svg: &mut Svg, legend: &mut Legend, is_held: bool) {
+        let more = if is_held { " or more" } else { "" };
         match self.cells.as_slice() {
             [] => legend.sentence(svg, "No cell has a rank."),
             [one] => {
-                let words = format!("every cost is {}", cost(*one));
+                let words = format!("every cost is {}{more}", cost(*one));
                 legend.colours(svg, &COLOURS[..1], &words);
             }
             [least, .., most] => {
                 let (least, most) = (cost(*least), cost(*most));
-                let words = format!("costs from {least} to {most}, by their order");
+                let words = format!("costs from {least} to {most}{more}, by their order");
                 legend.colours(svg, &COLOURS, &words);
             }
         }

@@ -2,6 +2,7 @@
 
 mod building;
 mod heights;
+mod held;
 mod legend;
 mod matrix;
 mod reasons;
@@ -37,17 +38,41 @@ struct Chosen {
     columns: Vec<u32>,
     /// The stop of each column that is not spare.
     pending: Vec<u32>,
+    /// The cells that are held at the ceiling, row by row.
+    held: Vec<bool>,
 }
 
 impl Chosen {
     fn of(bytes: &[u8]) -> Result<Self, Refusal> {
         let pass = dispatch_bench::pass(bytes)?;
         let choice = dispatch_bench::choose(pass.cars, pass.columns(), &pass.matrix);
+        let pending = dispatch_bench::pending(bytes)?;
         Ok(Self {
+            held: held::held(&Sheet::of_accepted(bytes), &pass, &pending),
             pass,
             columns: choice.map_or(Vec::new(), |choice| choice.columns),
-            pending: dispatch_bench::pending(bytes)?,
+            pending,
         })
+    }
+
+    fn is_held(&self, row: usize, column: usize) -> bool {
+        let cell = self.held.get(row * self.pass.columns() + column);
+        cell.is_some_and(|held| *held)
+    }
+
+    /// The cell of an idle car as a cost: of a held one, that it is more.
+    fn cost(&self, row: usize, column: usize) -> Option<String> {
+        let cost = cost(cell(&self.pass, row, column)?);
+        Some(match self.is_held(row, column) {
+            true => format!("> {cost}"),
+            false => cost,
+        })
+    }
+
+    /// Some sent car's cell is held, so that the sum of their cells is less than their cost.
+    fn sends_held(&self) -> bool {
+        let mut columns = self.columns.iter().enumerate();
+        columns.any(|(row, column)| self.is_held(row, *column as usize))
     }
 
     /// The chosen cell of an idle car.
@@ -94,12 +119,17 @@ fn title(sheet: &Sheet, chosen: &Chosen) -> String {
     let (sent, costs) = chosen.sent();
     let mut parts = vec![format!("{cars}, {stops}")];
     if sent > 0 {
-        parts.push(format!("{sent} sent at a cost of {}", exact(costs)));
+        let than = if chosen.sends_held() { "above" } else { "of" };
+        parts.push(format!("{sent} sent at a cost {than} {}", exact(costs)));
     }
     match pass.cars - sent {
         0 => {}
         1 => parts.push("1 stays idle".into()),
         idle => parts.push(format!("{idle} stay idle")),
+    }
+    if pass.held > 0 {
+        let held = number_of(pass.held as usize, "cell");
+        parts.push(format!("{held} held at the ceiling"));
     }
     format!("{strategy}, limit {limit}: {}", parts.join("; "))
 }

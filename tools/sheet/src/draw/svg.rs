@@ -54,6 +54,7 @@ text{font-family:DejaVu Sans,Verdana,sans-serif;font-size:10px;fill:#222}\
 .guide{stroke:#dcdcdc;stroke-width:0.8}\
 .served{fill:#777}\
 .closed{fill:#7a1f1f;stroke:none}\
+.held{fill:#e3173e;stroke:none}\
 .shut{font-size:9px;font-weight:bold;fill:#7a1f1f}\
 .barred{stroke:#b00020;stroke-width:1.6}\
 .cut{stroke:#222;stroke-width:1.8}\
