@@ -118,6 +118,16 @@ static void spoil_held(const uint64_t *matrix, uint64_t n, uint64_t m, uint64_t 
     *held = is("held_unwritten") && *held == 0 ? before : *held;
 }
 
+/* The highest stop with a closed landing takes the place of a stop, where it is above that. */
+static void name_closed(const uint8_t *sheet, size_t length, uint32_t *last) {
+    size_t at = 24;
+    for (uint64_t left = bits_at(sheet, length, 8, 16); left > 0; left--) {
+        uint32_t stop = (uint32_t)bits_at(sheet, length, at + 22, 32);
+        *last = bits_at(sheet, length, at, 6) == 8 && stop > *last ? stop : *last;
+        at += 22 + bits_at(sheet, length, at + 6, 16);
+    }
+}
+
 uint32_t __wrap_dispatch_bench_pass(const uint8_t *sheet, size_t length, uint32_t *decisions, size_t decision_count, uint64_t *matrix, size_t cell_count,
                                     uint8_t *sweeps, size_t sweep_count, uint64_t *cars, uint64_t *stops, uint64_t *total, uint64_t *ranked,
                                     uint64_t *held, uint64_t *offset) {
@@ -129,6 +139,9 @@ uint32_t __wrap_dispatch_bench_pass(const uint8_t *sheet, size_t length, uint32_
         spoil_held(matrix, *cars, *stops, held, before);
         *held = is("held_of_loads") && weighs_loads(sheet, length) ? 0 : *held;
         spoil_pass(decisions, decision_count, matrix, sweeps, sweep_count, *cars, *stops, total, ranked, offset);
+        if (*cars > 0 && decisions[0] != 0 && is("sent_closed")) {
+            name_closed(sheet, length, &decisions[0]);
+        }
         if (weighs_loads(sheet, length)) {
             spoil_loads(matrix, *cars, *cars < *stops ? *stops : *cars);
         }
@@ -161,24 +174,16 @@ static uint32_t stop_at(const uint8_t *sheet, size_t length, size_t place) {
     return record >> 48 == 2 ? (uint32_t)record : 0;
 }
 
-/* The last of the pending stops is named as the stop record after it. */
+/* The last of the pending stops is named as the stop record after it, where neither that nor a higher one is closed. */
 static void name_next(const uint8_t *sheet, size_t length, uint32_t *last) {
     size_t place = 0;
     while (stop_at(sheet, length, place) != *last) {
         place++;
     }
     uint32_t next = stop_at(sheet, length, place + 1);
-    *last = next != 0 ? next : *last;
-}
-
-/* The highest stop with a closed landing takes the place of the last pending one, where it is above that. */
-static void name_closed(const uint8_t *sheet, size_t length, uint32_t *last) {
-    size_t at = 24;
-    for (uint64_t left = bits_at(sheet, length, 8, 16); left > 0; left--) {
-        uint32_t stop = (uint32_t)bits_at(sheet, length, at + 22, 32);
-        *last = bits_at(sheet, length, at, 6) == 8 && stop > *last ? stop : *last;
-        at += 22 + bits_at(sheet, length, at + 6, 16);
-    }
+    uint32_t below = next - 1;
+    name_closed(sheet, length, &below);
+    *last = next != 0 && below == next - 1 ? next : *last;
 }
 
 /* The faults of pending stops that were found; held is what stood in the places. */

@@ -42,12 +42,14 @@ static uint64_t unwritten(uint8_t pattern) {
     return pattern * UINT64_C(0x0101010101010101);
 }
 
-/* How many inputs had which answer: passes by strategy, those with closed landings, load weights and held cells among them, refusals by number. */
-static unsigned long passes[3], closed_passes, load_passes, held_passes, refusals[17];
+/* How many inputs had which answer: passes by strategy, those with closed landings, with a rider of an idle-listed car bound for one, with load
+   weights and with held cells among them, refusals by number. */
+static unsigned long passes[3], closed_passes, bound_passes, load_passes, held_passes, refusals[17];
 
 static void print_counts(void) {
-    fprintf(stderr, "answers: passes %lu ETD, %lu RSR, %lu SCAN, %lu with closed landings, %lu with a load weight, %lu with held cells; refusals",
-            passes[0], passes[1], passes[2], closed_passes, load_passes, held_passes);
+    fprintf(stderr, "answers: passes %lu ETD, %lu RSR, %lu SCAN, %lu with closed landings, %lu with riders bound for them, ", passes[0], passes[1],
+            passes[2], closed_passes, bound_passes);
+    fprintf(stderr, "%lu with a load weight, %lu with held cells; refusals", load_passes, held_passes);
     for (int number = 2; number <= 16; number++) {
         if (number != DISPATCH_BENCH_LOAD_WEIGHT) {
             fprintf(stderr, " %d: %lu", number, refusals[number]);
@@ -199,14 +201,14 @@ static void run_pending(struct pending *p, const struct answer *read, const uint
     require(again.number == 1 && again.offset == 0, "too few places are refusal 1 at 0");
 }
 
-/* They are as many as the pass has, stops of the sheet, and rise; a closed one is there for a rider of an idle car alone. */
+/* They are as many as the pass has, stops of the sheet, and rise; no closed one is there, whoever is bound for it. */
 static void check_pending(const struct pending *p, const struct answer *a, const struct facts *f) {
     require(p->count == a->value[STOPS], "the pending stops are as many as the pass has");
     for (size_t k = 0; k < p->count; k++) {
         require(stop_place(f, p->stops[k]) < f->stops, "a pending stop is one of the sheet");
         require(k == 0 || p->stops[k - 1] < p->stops[k], "the pending stops rise");
         uint64_t stop = UINT64_C(1) << (63 - stop_place(f, p->stops[k]));
-        require((f->closed & ~f->wanted & stop) == 0, "a closed stop is pending only where an idle car's rider is bound for it");
+        require((f->closed & stop) == 0, "no closed stop is pending");
     }
 }
 
@@ -233,7 +235,7 @@ static void run_choose(const struct answer *a, size_t columns, uint32_t *picked)
     require(sum == total, "the total is the sum of the chosen cells");
 }
 
-/* Each decision is what the chosen column says, the pending stop of that column, and a stop that the car may go to; no two are the same. */
+/* Each decision is what the chosen column says, the pending stop of that column, open, and a stop that the car may go to; no two are the same. */
 static void check_decisions(const struct answer *a, const struct pending *p, const struct facts *f) {
     size_t cars = a->value[CARS], stops = a->value[STOPS], columns = cars < stops ? stops : cars;
     uint32_t picked[DISPATCH_BENCH_DECISIONS];
@@ -245,6 +247,7 @@ static void check_decisions(const struct answer *a, const struct pending *p, con
         if (goes) {
             size_t stop = stop_place(f, a->decisions[i]);
             require(stop < f->stops, "a decision is the id of a stop record");
+            require((f->closed >> (63 - stop) & 1) == 0, "no car is sent to a closed stop");
             require((sent >> stop & 1) == 0, "no two cars are sent to one stop");
             require(p->stops[picked[i]] == a->decisions[i], "a sent car's stop is the pending stop of its column");
             require(may_go(f, f->idle_car[i], stop), "a sent car's line serves the stop, which is not barred to it");
@@ -438,6 +441,7 @@ int LLVMFuzzerTestOneInput(const uint8_t *data, size_t size) {
     passes[facts.strategy]++;
     tell_pass(&first, &pending, &facts);
     closed_passes += facts.closed != 0;
+    bound_passes += (facts.closed & facts.wanted) != 0;
     load_passes += facts.weighs_loads;
     held_passes += first.value[HELD] > 0;
     return 0;

@@ -97,9 +97,9 @@ uint32_t dispatch_bench_pass(const uint8_t *sheet, size_t length, uint32_t *deci
                              uint64_t *offset);
 
 /* The pending stops of a sheet. 0: *count of them, as many as *stops of a pass, and their ids in column order, which rise, first in stops; what
-   stands past these is left, and so is *offset. A stop whose landing is closed (kind 8) is among them only where a rider in an idle-listed car is
-   bound for it. Otherwise the refusal's number with the bit offset where the refused record starts in *offset, and nothing else is written: 1 at 0
-   where fewer than DISPATCH_BENCH_STOPS places are lent, else what dispatch_bench_read answers. */
+   stands past these is left, and so is *offset. A stop whose landing is closed (kind 8) is never among them, and no pass sends a car there. Otherwise
+   the refusal's number with the bit offset where the refused record starts in *offset, and nothing else is written: 1 at 0 where fewer than
+   DISPATCH_BENCH_STOPS places are lent, else what dispatch_bench_read answers. */
 uint32_t dispatch_bench_pending(const uint8_t *sheet, size_t length, uint32_t *stops, size_t places, uint64_t *count, uint64_t *offset);
 
 /* The weights of a store for a day. A store is up to 256 records of 15 bytes, most significant bit first: setting 8 bits (0 to 5, the weight slots),

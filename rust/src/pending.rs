@@ -5,7 +5,7 @@ pub const STOPS: usize = 64;
 
 /// The ids of the pending stops, in the order of a pass's columns, which is that of the ids; into places that can be lent again. Further
 /// places are kept, and a refusal leaves all. With fewer than [`STOPS`] places every sheet is refused by number 1. A stop whose landing is
-/// closed is pending only where a rider in an idle-listed car is bound for it.
+/// closed is never pending.
 ///
 /// ```
 /// # let sheet = include_bytes!(concat!(env!("CARGO_MANIFEST_DIR"), "/../crates/passprint/stdin"));

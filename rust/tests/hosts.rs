@@ -226,7 +226,7 @@ fn a_value_that_rounds_to_the_ceiling_is_not_held() {
     assert!(seen.iter().all(|often| *often > 15), "{seen:?}");
 }
 
-/// A closed landing counts as covered whoever waits there; one that a rider of an idle car is bound for stays pending.
+/// A closed landing is not pending, whoever waits there, and not where a rider of an idle car is bound for it: no car is sent there.
 #[test]
 fn closed_landings() {
     let sheet = |name: &str| {
@@ -235,9 +235,9 @@ fn closed_landings() {
     };
     assert_eq!(pending(&sheet("closed_landing")), Ok(vec![1]));
     let bound = sheet("closed_bound");
-    assert_eq!(pending(&bound), Ok(vec![1, 3]));
+    assert_eq!(pending(&bound), Ok(vec![1]));
     let decisions = pass(&bound).unwrap().decisions;
-    assert_eq!(decisions, [NonZeroU32::new(1), NonZeroU32::new(3)]);
+    assert_eq!(decisions, [NonZeroU32::new(1), None]);
     let ids: Vec<u32> = cars(&bound).map(|car| car.id).collect();
     assert_eq!(ids, [1, 2]);
     for (name, number, offset) in [

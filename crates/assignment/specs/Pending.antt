@@ -56,9 +56,10 @@ module _ (s : Sheet) where
   idleBound j =
       any (λ a. eqb (s .aboard a .destination) (stopId s j) && any (λ i. idle i && eqb (s .car i .id) (s .aboard a .car)) (s .cars)) (s .aboards)
 
-  -- "Pending stops: demand stops of the group, except covered ones no idle car's rider is bound for."
+  -- "Pending stops: demand stops of the group, except covered ones no idle car's rider is bound for."; request F-6: "closure comes first and no car is
+  -- sent there"
   unfoldable pub pending : ℕ → Bool
-  pending j = demandStop s j && (idleBound j || not (covered j))
+  pending j = not (closedAt j) && (demandStop s j && (idleBound j || not (covered j)))
 
   -- n, the number of idle cars, and the car record of row r
   unfoldable pub idleCars : ℕ

@@ -1,20 +1,23 @@
--- What document 01 says of the limit, of a cell at the sentinel and of coverage, on small sheets, by computation. Assumes nothing.
+-- What document 01 says of the limit, of a cell at the sentinel and of coverage, and request F-6 of closure, on small sheets, by computation. Assumes
+-- nothing.
 use Prim.Native.Nat.{ℕ}
 use mathlib.Core.Path.{_≡_, refl}
 use mathlib.Core.Bool.{true, false}
 use mathlib.Core.List.{List, [], _∷_, _++_}
 use lib.ListN.{set}
 use Rattle.scale.specs.Scale.{sentinel}
-use Rattle.components.specs.declared.Kind.the-variants.{Car, Waiting}
+use Rattle.components.specs.declared.Kind.the-variants.{Car, Aboard, Waiting, Closed}
 use Rattle.components.specs.Sheet.{Sheet}
 use Rattle.layout.specs.declared.Counts.{Counts}
 use Rattle.layout.specs.declared.Reading.the-variants.{Accepted}
 use Rattle.layout.specs.Records.{sheetOf}
 use Rattle.layout.specs.Verdict.{verdict}
-use Rattle.layout.specs.Smallest.{Bits, number, widths, bytes, written, body, of, sheet, one, policy, scan, stop, line}
-use Rattle.assignment.specs.Pending.{covered, pendingStops}
+use Rattle.layout.specs.Smallest.{Bits, number, widths, bytes, written, body, of, sheet, one, policy, scan, stop, line, waiting}
+use Rattle.sweep.specs.Sweeps.{sweepCode}
+use Rattle.manifest.specs.Manifest.{demandStop}
+use Rattle.assignment.specs.Pending.{closedAt, covered, idleBound, pending, pendingStops}
 use Rattle.assignment.specs.Candidates.{kept}
-use Rattle.assignment.specs.Cells.{matrix, column, decision}
+use Rattle.assignment.specs.Cells.{matrix, column, decision, answeredTotal, sweepAfter}
 use Rattle.assignment.specs.Example as example
 use Rattle.assignment.specs.Example.{everything}
 
@@ -103,3 +106,39 @@ covered-to-the-last = (refl, refl)
 covered-by-line : (covered (crowd (any-line sixty ++ that-line 1 forty)) 0 ≡ true) × (covered (crowd (any-line sixty ++ that-line 2 forty)) 0 ≡ false)
 unfolding everything number widths bytes written body of sheet policy scan stop line opening any-line that-line crowdBytes crowdCounts crowd
 covered-by-line = (refl, refl)
+
+-- ---- a closed landing with demand, and a rider who is bound for it in an idle-listed car
+
+-- car 1 of line 1 at 1, idle-listed, its sweep up and strict
+unfoldable pub above : Bits
+above = of Car (1 ∷ 1 ∷ 0 ∷ 0 ∷ 0 ∷ 0 ∷ 1 ∷ 1 ∷ 1 ∷ 0 ∷ 0 ∷ one ∷ one ∷ hundred ∷ 0 ∷ 0 ∷ 0 ∷ 0 ∷ 0 ∷ 0 ∷ 0 ∷ 0 ∷ 0 ∷ [])
+
+-- its rider is bound for stop 1, where someone waits and which is closed
+unfoldable pub shutBytes : List ℕ
+shutBytes =
+    sheet 7 (scan ++ stop 1 ++ line 1 0x8000_0000_0000_0000 ++ above ++ of Aboard (1 ∷ 1 ∷ 1 ∷ []) ++ waiting 0 ++ of Closed (1 ∷ []))
+
+unfoldable pub shutCounts : Counts
+shutCounts = record { policies = 1; stops = 1; lines = 1; cars = 1; aboards = 1; waits = 1; demands = 0; closures = 1 }
+
+unfoldable pub shut : Sheet
+shut = sheetOf shutBytes shutCounts
+
+-- one name that opens it
+unfoldable pub shutOpened : ℕ
+unfolding everything number widths bytes written body of sheet policy scan stop line waiting above shutBytes shutCounts shut
+shutOpened = 0
+
+shut-accepted : verdict shutBytes ≡ Accepted shutCounts
+unfolding shutOpened
+shut-accepted = refl
+
+-- request F-6: "closure comes first and no car is sent there"
+closure-first : (demandStop shut 0 ≡ true) × (idleBound shut 0 ≡ true) × (closedAt shut 0 ≡ true) × (pending shut 0 ≡ false)
+unfolding shutOpened
+closure-first = (refl, refl, refl, refl)
+
+-- "it is no longer pending, and cells, choice and total follow, as do SCAN's sweeps where no pending stop is left"
+shut-passed : (pendingStops shut ≡ 0) × (decision shut 65535 0 ≡ 0) × (answeredTotal shut 65535 ≡ sentinel) × (sweepCode (sweepAfter shut 0) ≡ 0)
+unfolding shutOpened
+shut-passed = (refl, refl, refl, refl)

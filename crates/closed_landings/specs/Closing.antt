@@ -1,7 +1,7 @@
 -- What closed landings change. Request F-2: "A new kind 8 names a stop (32 bits) that counts as covered whoever waits there." Assumes nothing.
 use Prim.Native.Nat.{ℕ, _+_, _<_}
 use mathlib.Core.Path.{_≡_, refl, sym, ap₂, _∙_}
-use mathlib.Core.Bool.{Bool, true, false, not, _&&_, _||_, cond}
+use mathlib.Core.Bool.{Bool, true, false, not, _&&_, _||_, cond, and-true, and-false}
 use mathlib.Core.Logic.{⊎-elim}
 use native.Mathlib.Omega.{arith}
 use lib.Dec.{eqb}
@@ -66,19 +66,15 @@ cars-kept : (s : Sheet) (id j : ℕ) → coveredByCars (withClosed s id) j ≡ c
 unfolding withClosed coveredByCars serves lineCapacity capacityAt weightAt lineServed
 cars-kept s id j = refl
 
--- which stops are pending then: those of before, less that one, but where a rider in an idle car is bound for it
-pub closing-one : (s : Sheet) (id j : ℕ) → pending (withClosed s id) j ≡ (pending s j && (idleBound s j || not (eqb id (stopId s j))))
+-- which stops are pending then: those of before, less that one. Request F-6: "closure comes first and no car is sent there"
+pub closing-one : (s : Sheet) (id j : ℕ) → pending (withClosed s id) j ≡ (pending s j && not (eqb id (stopId s j)))
 unfolding pending covered
 closing-one s id j =
     rw (demand-kept s id j, bound-kept s id j, cars-kept s id j)
     (by (demandStop s j) (idleBound s j) (closedAt s j) (coveredByCars s j) (eqb id (stopId s j)) (closed-more s id j))
   where
     by : (d b k c e : Bool) {k′ : Bool} → k′ ≡ (k || e)
-        → (d && (b || not (k′ || c))) ≡ ((d && (b || not (k || c))) && (b || not e))
-    by false b k c e q = refl
-    by true true k c e q = refl
-    by true false true c e {k′} q = rw q
-    by true false false true true {k′} q = rw q
-    by true false false false true {k′} q = rw q
-    by true false false true false {k′} q = rw q
-    by true false false false false {k′} q = rw q
+        → (not k′ && (d && (b || not (k′ || c)))) ≡ ((not k && (d && (b || not (k || c)))) && not e)
+    by d b true c e {k′} q = rw q
+    by d b false c true {k′} q = rw (q, and-false)
+    by d b false c false {k′} q = rw (q, and-true)

@@ -221,7 +221,7 @@ fn covered_by_cars<'a>(s: &'a [u8], c: Counts, asked: u64, names: &'a [u32]) -> 
 }
 
 // The places whose names are those of closed landings.
-fn closed_stops<'a>(s: &'a [u8], c: Counts, names: &'a [u32]) -> u64
+pub fn closed_stops<'a>(s: &'a [u8], c: Counts, names: &'a [u32]) -> u64
     requires { ⌜ Small c × (c .closures ≤ 64) × (length (now names) ≡ 64) ⌝ }
     ensures { λ r. ⌜ r ≡ built (closedIn (sheetOf (now (s .entry)) c) (now (names .entry))) 64 ⌝ }
 {
@@ -238,12 +238,12 @@ fn closed_stops<'a>(s: &'a [u8], c: Counts, names: &'a [u32]) -> u64
     fields::named_stops(&ids, n, names, 64)
 }
 
-// The stops of the mask that are covered, by cars or since they are closed.
-pub fn covered_stops<'a>(s: &'a [u8], c: Counts, asked: u64, names: &'a [u32]) -> u64
-    requires { ⌜ Small c × (c .closures ≤ 64) × (length (now names) ≡ 64) × HoldsIds (sheetOf (now s) c) asked (now names) ⌝ }
+// The stops of the mask that are covered, by cars or since they are closed; the closed ones are at hand.
+pub fn covered_stops<'a>(s: &'a [u8], c: Counts, asked: u64, closed: u64, names: &'a [u32]) -> u64
+    requires { ⌜ Small c × (length (now names) ≡ 64) × HoldsIds (sheetOf (now s) c) asked (now names) ⌝ }
+    requires { ⌜ closed ≡ built (closedIn (sheetOf (now s) c) (now names)) 64 ⌝ }
     ensures { λ r. ⌜ r ≡ built (λ j. has asked j && covered (sheetOf (now (s .entry)) c) j) 64 ⌝ }
 {
     let cars = covered_by_cars(s, c, asked, names);
-    let closed = closed_stops(s, c, names);
     mask::either(mask::both(asked, closed), cars)
 }

@@ -17,8 +17,9 @@ use Rattle.mask.specs.MaskLaws.{built-cong, has-built, none-built}
 use Rattle.components.specs.Sheet.{Sheet}
 use Rattle.manifest.specs.World.{stopId, inGroup}
 use Rattle.manifest.specs.Manifest.{someoneWaits, riderlessCall, riddenTo, hasDemand, demandStop}
-use Rattle.assignment.specs.Pending.{covered, idleBound, pending}
+use Rattle.assignment.specs.Pending.{closedAt, covered, idleBound, pending}
 use Rattle.covered.specs.Columns.{HoldsIds}
+use Rattle.covered.specs.Same.{closedIn}
 use Rattle.fields.specs.Named.{contains, named, guarded}
 use Rattle.pending.specs.Masks.{stopMask, lineStop, HoldsNames}
 
@@ -121,26 +122,42 @@ module _ (s : Sheet) where
       ∙ ap₂ (λ (a b : Bool). a || b) (mask-has (riddenTo s) ridden er j l) (mask-has (riderlessCall s) calls ec j l)))
       ∙ demand-parts (ltb j (s .stops)) (inGroup s j) (someoneWaits s j) (riddenTo s j) (riderlessCall s j))
 
-  pending-parts : (b d c i : Bool) → ((b && d) && not (((b && d) && c) && not (b && i))) ≡ (b && (d && (i || not c)))
-  pending-parts true true true true = refl
-  pending-parts true true true false = refl
-  pending-parts true true false true = refl
-  pending-parts true true false false = refl
-  pending-parts true false c i = refl
-  pending-parts false d c i = refl
+  -- a mask of names of closed landings, at the stops with a record
+  pub closed-has : (names : List ℕ) (m : ℕ) → HoldsNames s names → m ≡ built (closedIn s names) 64 → (j : ℕ) → j < 64 → j < s .stops
+      → has m j ≡ closedAt s j
+  unfolding closedIn closedAt
+  closed-has names m h e j l k = ap (λ (n : ℕ). has n j) e ∙ has-built (closedIn s names) j l ∙ rw (h .held j k)
 
-  pub pending-mask : (demand bound cover : ℕ) → demand ≡ stopMask s (demandStop s) → bound ≡ stopMask s (idleBound s)
-      → cover ≡ built (λ j. has demand j && covered s j) 64
-      → built (λ j. has demand j && not (has (built (λ k. has cover k && not (has bound k)) 64) j)) 64 ≡ stopMask s (pending s)
+  pending-parts : (d x c i : Bool) → ((d && not x) && not ((d && c) && not i)) ≡ (not x && (d && (i || not c)))
+  pending-parts true true c i = refl
+  pending-parts true false true true = refl
+  pending-parts true false true false = refl
+  pending-parts true false false true = refl
+  pending-parts true false false false = refl
+  pending-parts false true c i = refl
+  pending-parts false false c i = refl
+
+  pub pending-mask : (names : List ℕ) (demand bound closed cover : ℕ) → HoldsNames s names → demand ≡ stopMask s (demandStop s)
+      → bound ≡ stopMask s (idleBound s) → closed ≡ built (closedIn s names) 64 → cover ≡ built (λ j. has demand j && covered s j) 64
+      → built (λ j. has (built (λ k. has demand k && not (has closed k)) 64) j && not (has (built (λ k. has cover k && not (has bound k)) 64) j)) 64
+      ≡ stopMask s (pending s)
   unfolding pending
-  pending-mask demand bound cover ed eb ec =
-      built-cong (λ j. has demand j && not (has (built (λ k. has cover k && not (has bound k)) 64) j)) (λ j. ltb j (s .stops) && pending s j) 64
+  pending-mask names demand bound closed cover h ed eb ex ec =
+      built-cong (λ j. has (built (λ k. has demand k && not (has closed k)) 64) j && not (has (built (λ k. has cover k && not (has bound k)) 64) j))
+      (λ j. ltb j (s .stops) && pending s j) 64
       (λ j l.
       let hd = mask-has (demandStop s) demand ed j l in
       let hb = mask-has (idleBound s) bound eb j l in
       let hc : has cover j ≡ (has demand j && covered s j) = ap (λ (n : ℕ). has n j) ec ∙ has-built (λ k. has demand k && covered s k) j l in
-      ap (λ (x : Bool). has demand j && not x) (has-built (λ k. has cover k && not (has bound k)) j l)
-      ∙ rw (hc, hd, hb) (pending-parts (ltb j (s .stops)) (demandStop s j) (covered s j) (idleBound s j)))
+      ap₂ (λ (x y : Bool). x && not y)
+      (has-built (λ k. has demand k && not (has closed k)) j l)
+      (has-built (λ k. has cover k && not (has bound k)) j l)
+      ∙ ⊎-elim
+      (λ (k : j < s .stops).
+      rw (hc, hd, hb, lt-ltb j (s .stops) k, closed-has names closed h ex j l k)
+      (pending-parts (demandStop s j) (closedAt s j) (covered s j) (idleBound s j)))
+      (λ (k : s .stops ≤ j). rw (hc, hd, hb, le-ltb j (s .stops) k))
+      (less? j (s .stops)))
 
   -- the stops of a mask have a record, and their names are held
   pub asked-ids : (names : List ℕ) (m : ℕ) (p : ℕ → Bool) → HoldsNames s names → m ≡ stopMask s p → HoldsIds s m names

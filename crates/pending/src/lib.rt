@@ -167,8 +167,9 @@ fn pending_stops<'a>(s: &'a [u8], c: Counts, demand: u64, names: &'a [u32]) -> u
     ensures { λ r. ⌜ r ≡ stopMask (sheetOf (now (s .entry)) c) (pending (sheetOf (now (s .entry)) c)) ⌝ }
 {
     let bound = bound_stops(s, c, names);
-    let covered = covered::covered_stops(s, c, demand, names);
-    mask::without(demand, mask::without(covered, bound))
+    let closed = covered::closed_stops(s, c, names);
+    let covered = covered::covered_stops(s, c, demand, closed, names);
+    mask::without(mask::without(demand, closed), mask::without(covered, bound))
 }
 
 // The masks of a sheet's stops: those with a call without a rider, those with demand, the pending ones.

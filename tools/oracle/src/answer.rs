@@ -6,7 +6,7 @@ use std::collections::BTreeSet;
 use std::fmt::Write;
 
 use pathfinding::least_choice;
-use sheetgen::{Car, Line, Refusal, Sheet, read};
+use sheetgen::{Car, Line, Refusal, Sheet, Stop, read};
 
 use crate::paper;
 use crate::rust_pass::{Rust, RustPass};
@@ -74,6 +74,7 @@ pub fn answer(rust: &mut Rust, bytes: &[u8]) -> Answer {
 
 /// The Rust's answer to an accepted sheet with closed landings: it passes the sheet without them, in which further cars
 /// cover those stops for whoever waits there. They are loading there and not idle, so that they take part in nothing else.
+/// Riders of idle cars who are bound for such a stop get off beside it instead, so that the Rust does not hold it pending.
 pub fn by_covering(rust: &mut Rust, sheet: &Sheet) -> Pass {
     let covering = covering(sheet);
     let mut pass = of_rust(&covering, &rust.pass(&covering, false));
@@ -89,6 +90,7 @@ fn covering(sheet: &Sheet) -> Sheet {
             ..twin
         };
     };
+    beside(&mut twin);
     for stop in std::mem::take(&mut twin.closed) {
         let waiting = sheet.waiting.iter().filter(|w| w.stop == stop);
         let required: BTreeSet<u32> = waiting.filter_map(|w| w.line).collect();
@@ -108,6 +110,33 @@ fn covering(sheet: &Sheet) -> Sheet {
         }
     }
     twin
+}
+
+/// The riders of idle cars who are bound for a closed landing are bound for a further stop at its place, which no line serves.
+fn beside(twin: &mut Sheet) {
+    let idle: Vec<u32> = twin.cars.iter().filter(|c| c.idle).map(|c| c.id).collect();
+    // Ids without a record have no position, and must stay so.
+    let mut named: BTreeSet<u32> = twin.stops.iter().map(|s| s.id).collect();
+    named.extend(
+        twin.cars
+            .iter()
+            .flat_map(|c| [Some(c.stop), c.target])
+            .flatten(),
+    );
+    named.extend(twin.aboard.iter().filter_map(|a| a.destination));
+    named.extend(twin.waiting.iter().filter_map(|w| w.destination));
+    for stop in twin.closed.clone() {
+        let riders = twin.aboard.iter_mut().filter(|a| idle.contains(&a.car));
+        let mut bound = riders.filter(|a| a.destination == Some(stop)).peekable();
+        if bound.peek().is_none() {
+            continue;
+        }
+        let id = (1..).find(|id| !named.contains(id)).unwrap();
+        named.insert(id);
+        bound.for_each(|a| a.destination = Some(id));
+        let position = twin.stops.iter().find(|s| s.id == stop).unwrap().position;
+        twin.stops.push(Stop { id, position });
+    }
 }
 
 pub fn of_rust(sheet: &Sheet, pass: &RustPass) -> Pass {
@@ -449,7 +478,8 @@ mod tests {
         );
     }
 
-    /// A closed landing counts as covered whoever waits there; a stop wanted by an idle car's rider stays pending.
+    /// A closed landing counts as covered whoever waits there, and closure comes first: it is not pending where an idle car's
+    /// rider is bound for it either. A covered stop is.
     #[test]
     fn closed_landings() {
         let mut s = one_car(SCAN, &[5.0, 9.0]);
@@ -489,8 +519,8 @@ mod tests {
             destination: Some(1),
         };
         s.aboard.push(rider);
-        assert_eq!(pending(&s), [1]);
-        s.cars[0].idle = false;
         assert_eq!(pending(&s), []);
+        s.closed = vec![2];
+        assert_eq!(pending(&s), [1]);
     }
 }

@@ -54,6 +54,8 @@ pub struct Tally {
     pub load_passes: u64,
     pub document_passes: u64,
     pub closed_passes: u64,
+    /// Passes of sheets where riders of idle cars are bound for a closed stop with demand (document 02, F-6).
+    pub bound_passes: u64,
     pub cells: u64,
     /// Passes with held cells, these cells, and the cells that are the ceiling and not held.
     pub held_passes: u64,
@@ -257,6 +259,8 @@ impl<'a> Comparison<'a> {
                     Source::Document => self.tally.document_passes += 1,
                     Source::Model => self.tally.closed_passes += 1,
                 }
+                let closed_first = Sheet::of_accepted(bytes).closed_first();
+                self.tally.bound_passes += u64::from(!closed_first.is_empty());
                 if pass.source != Source::Document {
                     self.tally.cells += pass.cells.len() as u64;
                 }
@@ -510,12 +514,13 @@ fn run(
                 .collect();
             println!(
                 "{name}: {} sheets, {} with cells of the Rust ({} of RSR with a load weight), {} with closed landings by the \
-                 definitions ({} cells), {} of document 01 alone, {} with held cells ({}, and {} at the ceiling that are not), \
-                 {ranks}{} pending stops, refused {} in {seconds:.1} s",
+                 definitions ({} with riders bound for one), {} cells, {} of document 01 alone, {} with held cells ({}, and {} at the \
+                 ceiling that are not), {ranks}{} pending stops, refused {} in {seconds:.1} s",
                 t.sheets,
                 t.rust_passes,
                 t.load_passes,
                 t.closed_passes,
+                t.bound_passes,
                 t.cells,
                 t.document_passes,
                 t.held_passes,

@@ -146,12 +146,14 @@ faults! {
     SecondClosure
     /// A closed stop is like any other.
     ClosureIgnored
-    /// A closed stop where somebody waits is not covered.
+    /// A closed stop where somebody waits is like any other.
     ClosedUnlessWaited
-    /// A closed stop is covered only where a car serves it.
+    /// Closure counts only where a car has the stop for its target.
     ClosedIfServed
-    /// A closed stop is never pending.
-    ClosedFirst
+    /// A closed stop that an idle car's rider is bound for is pending, as before F-6.
+    BoundFirst
+    /// A closed stop that any car's rider is bound for is like any other.
+    ClosedUnlessBound
     /// Closed stops don't intervene.
     ClosedNotCounted
     /// SCAN doesn't look ahead to closed stops.
@@ -208,7 +210,8 @@ impl Fault {
                 | Fault::ClosureIgnored
                 | Fault::ClosedUnlessWaited
                 | Fault::ClosedIfServed
-                | Fault::ClosedFirst
+                | Fault::BoundFirst
+                | Fault::ClosedUnlessBound
                 | Fault::ClosedNotCounted
                 | Fault::ClosedNotAhead
                 | Fault::ClosedByPlace
@@ -398,20 +401,10 @@ impl<'a> Pass<'a> {
                 pass.demand |= mask_bit(j);
             }
         }
-        let bound = |j: usize| {
-            let id = sheet.stops[j].id;
-            sheet.cars.iter().filter(|c| c.idle).any(|c| {
-                sheet
-                    .aboard
-                    .iter()
-                    .any(|a| a.car == c.id && a.destination == Some(id))
-            })
-        };
         for j in 0..sheet.stops.len() {
-            let wanted = bound(j)
-                && !pass.is(Fault::BoundForDropped)
-                && !(pass.is(Fault::ClosedFirst) && pass.closed(j));
-            if nth(group, j) && nth(pass.demand, j) && (wanted || !pass.covered(j)) {
+            let wanted = pass.bound(j, |c| c.idle) && !pass.is(Fault::BoundForDropped);
+            let is_open = !pass.shut(j) && (wanted || !pass.covered(j));
+            if nth(group, j) && nth(pass.demand, j) && is_open {
                 pass.pending |= mask_bit(j);
             }
         }
@@ -467,17 +460,27 @@ impl<'a> Pass<'a> {
         self.sheet.closed.contains(&id)
     }
 
-    /// Whether a closure covers a stop, "whoever waits there".
-    fn covered_by_closure(&self, j: usize) -> bool {
+    /// A rider of one of these cars is bound for the stop.
+    fn bound(&self, j: usize, of: impl Fn(&Car) -> bool) -> bool {
         let id = self.sheet.stops[j].id;
-        match self.fault {
-            Fault::ClosureIgnored => false,
-            Fault::ClosedUnlessWaited => self.closed(j) && self.waiters(j).next().is_none(),
-            Fault::ClosedIfServed => {
-                self.closed(j) && self.sheet.cars.iter().any(|c| c.target == Some(id))
-            }
-            _ => self.closed(j),
-        }
+        let sheet = self.sheet;
+        let riders = sheet.aboard.iter().filter(|a| a.destination == Some(id));
+        let cars = |car: u32| sheet.cars.iter().filter(move |c| c.id == car);
+        riders.flat_map(|a| cars(a.car)).any(of)
+    }
+
+    /// Whether a closure keeps cars away from a stop: "closure comes first and no car is sent there", "whoever waits there".
+    fn shut(&self, j: usize) -> bool {
+        let id = self.sheet.stops[j].id;
+        let is_open = match self.fault {
+            Fault::ClosureIgnored => true,
+            Fault::ClosedUnlessWaited => self.waiters(j).next().is_some(),
+            Fault::ClosedIfServed => self.sheet.cars.iter().all(|c| c.target != Some(id)),
+            Fault::BoundFirst => self.bound(j, |c| c.idle),
+            Fault::ClosedUnlessBound => self.bound(j, |_| true),
+            _ => false,
+        };
+        self.closed(j) && !is_open
     }
 
     fn closed_mask(&self) -> u64 {
@@ -486,7 +489,7 @@ impl<'a> Pass<'a> {
     }
 
     fn covered(&self, j: usize) -> bool {
-        if self.covered_by_closure(j) {
+        if self.shut(j) {
             return true;
         }
         let id = self.sheet.stops[j].id;

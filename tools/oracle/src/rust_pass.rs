@@ -182,9 +182,10 @@ fn build(sheet: &Sheet, traffic: &[TrafficDetector; 4]) -> Built {
         );
         stops.push(entity);
     }
+    // A mask has a bit for each of the first 64.
     let masked = |mask: u64| {
         let stops = &stops;
-        (0..stops.len())
+        (0..stops.len().min(64))
             .filter(move |i| mask & mask_bit(*i) != 0)
             .map(move |i| stops[i])
     };

@@ -2,6 +2,7 @@
 //! that the refusal's number is about, and says so where it finds none.
 
 use dispatch_bench::{CEILING, Refusal};
+use sheetgen::Sheet;
 
 use crate::cut::{Cut, Record};
 use crate::faults;
@@ -69,6 +70,7 @@ fn accepted(cut: &Cut) -> String {
             " If it is 4 at {at}, the host has a bench of the first release, which takes no closed landings: renew it, or write the sheet without them."
         );
     }
+    lines += &bound_for_closed(&Sheet::of_accepted(cut.bytes).closed_first());
     lines += "\n";
     if let Ok(pass) = dispatch_bench::pass(cut.bytes)
         && pass.held > 0
@@ -80,6 +82,20 @@ fn accepted(cut: &Cut) -> String {
         );
     }
     lines
+}
+
+/// What a bench of before request F-6 does with closed stops that riders of idle-listed cars are bound for.
+fn bound_for_closed(stops: &[u32]) -> String {
+    let named: Vec<String> = stops.iter().map(u32::to_string).collect();
+    let noun = match named.len() {
+        0 => return String::new(),
+        1 => "stop",
+        _ => "stops",
+    };
+    format!(
+        " Riders of idle-listed cars are bound for closed {noun} {}: no car is sent there. If a host's pass has another number of stops, the host may have a bench in which such riders come before closure: renew it.",
+        named.join(", ")
+    )
 }
 
 /// The policy is RSR's, which alone has a field of this name, and its load weight is above 0.

@@ -430,7 +430,7 @@ fn closed_landings_are_marked() {
         assert!(words.iter().all(|words| words.starts_with("closed")));
         for (often, end) in said
             .iter_mut()
-            .zip(["closed", "not pending", "for a rider aboard"])
+            .zip(["closed", "not pending", "aboard for it"])
         {
             *often += words.iter().filter(|words| words.ends_with(end)).count();
         }
@@ -455,7 +455,7 @@ fn closed_landings_are_marked() {
     );
 }
 
-/// A closed landing where somebody waits, one that a rider aboard is bound for, and one where nobody is.
+/// A closed landing where somebody waits, one that a rider of an idle-listed car is bound for, and one where nobody is.
 #[test]
 fn closed_examples() {
     for (example, words) in [
@@ -464,7 +464,7 @@ fn closed_examples() {
             "closed_bound",
             &[
                 ">closed, not pending<",
-                ">closed, 1 riding, pending for a rider aboard<",
+                ">closed, 1 riding, not pending, 1 aboard for it<",
             ],
         ),
     ] {

@@ -139,6 +139,28 @@ fn held_cells_are_named() {
     assert!(seen.iter().all(|often| *often > 50), "{seen:?}");
 }
 
+/// Closed stops that riders of idle-listed cars are bound for are named, and nothing is said where there are none.
+#[test]
+fn riders_bound_for_closed_stops_are_named() {
+    let mut seen = [0; 2];
+    for index in 0..400 {
+        let bytes = generate(Profile::Closed, 12, index);
+        let stops = sheetgen::Sheet::of_accepted(&bytes).closed_first();
+        let said = explain::explain(&bytes);
+        let found = said.split_once("are bound for closed stop").map(|s| s.1);
+        let words = found.map(|s| s.split_once(": no car is sent there.").unwrap().0);
+        let named: Vec<String> = stops.iter().map(u32::to_string).collect();
+        let expected = match &named[..] {
+            [] => None,
+            [one] => Some(format!(" {one}")),
+            more => Some(format!("s {}", more.join(", "))),
+        };
+        assert_eq!(words.map(String::from), expected, "{said}");
+        seen[usize::from(expected.is_some())] += 1;
+    }
+    assert!(seen.iter().all(|often| *often > 50), "{seen:?}");
+}
+
 /// The number of the line that `explain` says is to be put right.
 fn line_to_repair(said: &str) -> Option<usize> {
     let repair = said.lines().find(|line| line.starts_with("repair: "))?;

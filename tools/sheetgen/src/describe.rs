@@ -89,7 +89,10 @@ pub fn describe(sheet: &Sheet) -> String {
         );
     }
     for stop in &sheet.closed {
-        let _ = writeln!(out, "closed {stop}");
+        let _ = match sheet.bound_aboard(*stop) {
+            0 => writeln!(out, "closed {stop}"),
+            many => writeln!(out, "closed {stop} bound-for {many}"),
+        };
     }
     out
 }

@@ -1195,27 +1195,26 @@ mod tests {
         }
     }
 
-    /// Every sheet has a closure, and those that matter are there: of stops with demand, and of ones an idle car's rider wants.
+    /// Every sheet has a closure, and those that matter are there: of stops with demand, and of those that a line serves as
+    /// well and an idle car's rider is bound for, or a rider of another car alone.
     #[test]
     fn closed_sheets_have_closures() {
-        let (mut demanded, mut wanted) = (0, 0);
+        let (mut demanded, mut wanted, mut other) = (0, 0, 0);
         for index in 0..2_000 {
             let sheet = Sheet::of_accepted(&generate(Profile::Closed, 3, index));
             assert!(!sheet.closed.is_empty(), "{index}");
-            let has_demand = |stop: &u32| {
-                let called = |d: &Demand| d.stop == *stop && (d.call || d.riding > 0);
-                sheet.waiting.iter().any(|w| w.stop == *stop) || sheet.demands.iter().any(called)
-            };
-            let is_wanted = |stop: &u32| {
-                let idle = |id: u32| sheet.cars.iter().any(|c| c.id == id && c.idle);
+            let other_bound = |stop: &u32| {
                 let mut riders = sheet.aboard.iter();
-                riders.any(|a| a.destination == Some(*stop) && idle(a.car))
+                riders.any(|a| a.destination == Some(*stop)) && sheet.bound_aboard(*stop) == 0
             };
-            demanded += usize::from(sheet.closed.iter().any(has_demand));
-            let both = |stop: &&u32| has_demand(stop) && is_wanted(stop);
-            wanted += usize::from(sheet.closed.iter().any(|stop| both(&stop)));
+            let asked = |stop: &u32| sheet.has_demand(*stop) && sheet.is_served(*stop);
+            demanded += usize::from(sheet.closed.iter().any(|s| sheet.has_demand(*s)));
+            wanted += usize::from(!sheet.closed_first().is_empty());
+            let mut closed = sheet.closed.iter();
+            other += usize::from(closed.any(|s| asked(s) && other_bound(s)));
         }
-        assert!(demanded > 1_500 && wanted > 500, "{demanded} {wanted}");
+        let enough = demanded > 1_500 && wanted > 500 && other > 100;
+        assert!(enough, "{demanded} {wanted} {other}");
     }
 
     /// Every sheet weighs loads, no idle-listed car is in phase idle, and what the term is made of is there: ratios between 0

@@ -137,6 +137,34 @@ impl Sheet {
             + self.closed.len()
     }
 
+    /// How many riders of idle-listed cars are bound for a stop.
+    pub fn bound_aboard(&self, stop: u32) -> usize {
+        let of_idle = |id: u32| self.cars.iter().any(|c| c.id == id && c.idle);
+        let riders = self.aboard.iter().filter(|a| a.destination == Some(stop));
+        riders.filter(|a| of_idle(a.car)).count()
+    }
+
+    /// Whether a stop of a record has demand: who waits, who rides there, a call.
+    pub fn has_demand(&self, stop: u32) -> bool {
+        let called = |d: &Demand| d.stop == stop && (d.call || d.riding > 0);
+        self.waiting.iter().any(|w| w.stop == stop) || self.demands.iter().any(called)
+    }
+
+    /// Whether some line serves a stop.
+    pub fn is_served(&self, stop: u32) -> bool {
+        let places = (0..self.stops.len()).filter(|k| self.stops[*k].id == stop);
+        let mask = places.fold(0, |mask, k| mask | mask_bit(k));
+        self.lines.iter().any(|l| l.mask & mask != 0)
+    }
+
+    /// The closed stops, served by some line and with demand, that riders of idle-listed cars are bound for: where document
+    /// 02's F-6 lets closure come first.
+    pub fn closed_first(&self) -> Vec<u32> {
+        let asked = |stop: u32| self.is_served(stop) && self.has_demand(stop);
+        let bound = |stop: u32| asked(stop) && self.bound_aboard(stop) > 0;
+        self.closed.iter().copied().filter(|s| bound(*s)).collect()
+    }
+
     /// The sheet's bytes.
     pub fn write(&self) -> Vec<u8> {
         let mut w = Writer::default();

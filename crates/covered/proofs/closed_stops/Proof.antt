@@ -7,6 +7,7 @@ use Rattle.fields.specs.Named.{named}
 use Rattle.layout.specs.Offsets.{recordLength}
 use Rattle.layout.specs.Records.{from, read, sheetOf}
 use Rattle.layout.specs.Table.{closed·stop}
+use Rattle.mask.specs.Mask.{built}
 use Rattle.mask.specs.MaskLaws.{built-cong}
 use borrow.Author.Needs.{needs}
 use mathlib.Core.Path.{_≡_, ap, _∙_}
@@ -20,7 +21,8 @@ returns c =
     let b = a .s .now in
     let at = c .before .before .before .before .before .closures-from in
     let filled = c .before .before .before .fill32 in
-    c .named-stops .ensures
+    let named-are : c .named-stops .result ≡ built (named _ (a .c .closures) (a .names .now) 64) 64 = c .named-stops .ensures in
+    named-are
     ∙ built-cong (named _ (a .c .closures) (a .names .now) 64) (closedIn (sheetOf b (a .c)) (a .names .now)) 64
     (closed-named (sheetOf b (a .c)) _ (a .names .now)
     (λ x l.

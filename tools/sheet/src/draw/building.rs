@@ -125,10 +125,12 @@ fn labels(sheet: &Sheet, chosen: &Chosen, heights: &Heights) -> Vec<Label> {
         if riding > 0 {
             more.push(format!("{riding} riding"));
         }
-        match (has_demand, is_pending, is_closed) {
-            (true, false, _) => more.push("not pending".into()),
-            (_, true, true) => more.push("pending for a rider aboard".into()),
-            _ => {}
+        if has_demand && !is_pending {
+            more.push("not pending".into());
+        }
+        let bound = sheet.bound_aboard(stop.id);
+        if is_closed && bound > 0 {
+            more.push(format!("{bound} aboard for it"));
         }
         Label {
             name: format!("{} at {}", stop.id, short(stop.position)),
@@ -421,7 +423,7 @@ impl Building<'_> {
         legend.sentence(svg, riders);
         legend.sentence(
             svg,
-            "N riding: so many riders are on their way to the stop in cars. Not pending: the stop has demand, but this pass sends no car to it; it is closed, cars on their way cover it, or no line serves it. Closed: whoever waits there, the stop is pending only for a rider of an idle-listed car who is bound for it.",
+            "N riding: so many riders are on their way to the stop in cars. Not pending: the stop has demand, but this pass sends no car to it; it is closed, cars on their way cover it, or no line serves it. Closed: no car is sent to the stop, whoever waits there or is bound for it. N aboard for it: so many riders of idle-listed cars are bound for a closed stop.",
         );
     }
 }
