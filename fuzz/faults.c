@@ -92,7 +92,8 @@ static void spoil_pass(uint32_t *decisions, size_t decision_count, uint64_t *mat
     matrix[n * columns] += is("cell_past") && n * columns < DISPATCH_BENCH_CELLS;
     sweeps[sweep_count - 1] ^= is("sweep_past");
     *total += is("total");
-    *ranked += is("ranked") ? 1 + n * m : 0;
+    *ranked += is("ranked");
+    *ranked -= is("ranked_few") && *ranked > 0;
     *offset ^= is("offset_written");
     if (n > 0) {
         decisions[0] = is("sent_nowhere") && decisions[0] != 0 ? UINT32_MAX : decisions[0];

@@ -126,7 +126,6 @@ static void check_bounds(const struct facts *f, const uint8_t *data, size_t size
     require(n == f->idle, "the cars are the idle-listed ones");
     require(m <= f->stops, "the pending stops are stops");
     require(w[TOTAL] <= n * SENTINEL, "the total is at most the sentinels'");
-    require(w[RANKED] <= n * (f->limit == 65535 ? m : f->limit), "the pairs ranked are at most the cars times the limit");
     require(w[OFFSET] == unwritten(numbers.pattern), "a pass keeps the offset");
     for (size_t i = 0; i < NUMBERS; i += 2) {
         require(w[i] == unwritten(numbers.pattern), "nothing is written between the numbers");
@@ -287,13 +286,14 @@ static uint64_t kept_pairs(const struct pending *p, const struct facts *f) {
     return kept;
 }
 
-/* The held cells are some of those at the ceiling, and cells of kept pairs. */
-static void check_held(const struct answer *a, const struct pending *p, const struct facts *f) {
+/* The ranked pairs are the kept ones; the held cells are some of those at the ceiling, and cells of kept pairs. */
+static void check_counts(const struct answer *a, const struct pending *p, const struct facts *f) {
     size_t cars = a->value[CARS], stops = a->value[STOPS], columns = cars < stops ? stops : cars;
     uint64_t at_ceiling = 0;
     for (size_t i = 0; i < cars * columns; i++) {
         at_ceiling += a->matrix[i] == CEILING;
     }
+    require(a->value[RANKED] == kept_pairs(p, f), "the ranked pairs are the kept ones");
     require(a->value[HELD] <= kept_pairs(p, f), "the held cells are at most the kept pairs");
     require(at_ceiling > 0 || a->value[HELD] == 0, "no cell is held where none is at the ceiling");
     require(a->value[HELD] <= at_ceiling, "the held cells are at most those at the ceiling");
@@ -436,7 +436,7 @@ int LLVMFuzzerTestOneInput(const uint8_t *data, size_t size) {
     check_lists(&first, &facts);
     check_loads(&first, &facts, data, size);
     check_pending(&pending, &first, &facts);
-    check_held(&first, &pending, &facts);
+    check_counts(&first, &pending, &facts);
     check_decisions(&first, &pending, &facts);
     passes[facts.strategy]++;
     tell_pass(&first, &pending, &facts);

@@ -82,8 +82,8 @@ enum dispatch_bench_refusal {
 
 /* A pass over a sheet. 0: *cars idle cars, *stops pending stops, *total the least total; in decisions the stop id of each idle car in record order (0 for
    idle), in matrix the cells row by row, a row of max(*cars, *stops) columns for each idle car, in sweeps 2 * sweep + mode of each car record; what
-   stands past these is left, and so is *offset. *ranked is the number of pairs ranked: at most *cars times the sheet's limit (*cars * *stops with
-   none). *held is the number of cells that were held down to DISPATCH_BENCH_CEILING. Otherwise the refusal's number, 1 to 14 or 16, with the bit
+   stands past these is left, and so is *offset. *ranked is the number of pairs ranked: for each idle car the smaller of the
+   sheet's limit and its viable stops, summed. *held is the number of cells that were held down to DISPATCH_BENCH_CEILING. Otherwise the refusal's number, 1 to 14 or 16, with the bit
    offset where the refused record starts in *offset (0 for 1); nothing else is written.
 
    A cell is the cost times 1,000,000, rounded, or DISPATCH_BENCH_SENTINEL where there is no rank, and in spare columns. Where it rounds to more than

@@ -82,7 +82,7 @@ pub struct Summary<'b> {
     pub stops: usize,
     /// The sum of the chosen cells: 1,000,000 for a cost of 1, and [`SENTINEL`](crate::SENTINEL) for each car that stays idle.
     pub total: u64,
-    /// How many pairs of a car and a stop were ranked.
+    /// How many pairs of a car and a stop were ranked: for each idle car the smaller of the limit and its viable stops, summed.
     pub ranked: u64,
     /// How many cells were held down to [`CEILING`](crate::CEILING): these alone are less than the cost. One that rounds to the ceiling is not held.
     pub held: u64,
@@ -115,7 +115,7 @@ pub struct Pass {
     pub stops: usize,
     /// The sum of the chosen cells: 1,000,000 for a cost of 1, and [`SENTINEL`](crate::SENTINEL) for each car that stays idle.
     pub total: u64,
-    /// How many pairs of a car and a stop were ranked.
+    /// How many pairs of a car and a stop were ranked: for each idle car the smaller of the limit and its viable stops, summed.
     pub ranked: u64,
     /// How many cells were held down to [`CEILING`](crate::CEILING): these alone are less than the cost. One that rounds to the ceiling is not held.
     pub held: u64,

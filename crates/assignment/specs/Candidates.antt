@@ -61,6 +61,10 @@ module _ (s : Sheet) (i : ℕ) where
   abbrev pub viable : ℕ → Bool
   viable j = viableOf s (s .car i) j
 
+  -- how many stops are viable
+  unfoldable pub viableStops : ℕ
+  viableStops = count viable (s .stops)
+
   abbrev pub away : ℕ → Float
   away j = awayOf s (s .car i) j
 

@@ -1,6 +1,6 @@
--- A sheet with held cells, by computation. Assumes nothing.
+-- Held cells and ranked pairs of a sheet, by computation. Assumes nothing.
 use mathlib.Core.Path.{_≡_, refl}
-use mathlib.Core.Bool.{true, false, cond}
+use mathlib.Core.Bool.{true, not, cond}
 use mathlib.Core.List.{List, [], _∷_}
 use Prim.Native.Nat.{ℕ, _+_}
 use lib.Dec.{eqb}
@@ -28,11 +28,11 @@ use Rattle.etd.specs.Etd.{etdRank}
 use Rattle.assignment_problem.specs.Recursion.{scan, best, chosen}
 use Rattle.assignment.specs.Pending.{serves, lineCapacity, capacityAt, weightAt, lineServed, coveredByCars, closedAt, covered, idle, idleBound}
 use Rattle.assignment.specs.Pending.{pending, idleCars, rowCar, pendingStops, columnStop, columns}
-use Rattle.assignment.specs.Candidates.{noLimit, keeps, precedes, keptOf, lineServesOf, nearerOf, viableOf}
-use Rattle.assignment.specs.Cells.{rank, cell, heldCell, matrix, column, heldAt, heldInRow, heldCells}
+use Rattle.assignment.specs.Candidates.{noLimit, keeps, precedes, keptOf, lineServesOf, nearerOf, viableOf, viableStops}
+use Rattle.assignment.specs.Cells.{rank, cell, heldCell, matrix, column, heldAt, heldInRow, heldCells, rankedPairs}
 
--- stops 1 and 2 at 10 and 1, a line serving both, rider-less calls at both; three idle cars at 0 with speed 1, the last barred from stop 1; ETD, wait
--- weight 100,000,000, other weights 0
+-- stops 1 and 2 at 10 and 1, a line serving both, rider-less calls at both; three idle cars at 0 with speed 1, the last of them full and barred from
+-- stop 1, and a car that is not idle; ETD, wait weight 100,000,000, other weights 0
 unfoldable pub sheet : Sheet
 sheet =
     record {
@@ -51,13 +51,13 @@ sheet =
       stop = λ j. record { id = j + 1; position = cond (eqb j 0) (natural 10) (natural 1) };
       lines = 1;
       line = λ l. record { id = 1; serves = 0xc000_0000_0000_0000 };
-      cars = 3;
+      cars = 4;
       car = λ i. record {
         id = i + 7;
         line = 1;
         phase = phase.Idle;
         target = 0;
-        listed = true;
+        listed = not (eqb i 3);
         up = true;
         down = true;
         direction = direction.Up;
@@ -65,7 +65,7 @@ sheet =
         position = zero;
         speed = natural 1;
         capacity = natural 100;
-        load = zero;
+        load = cond (eqb i 2) (natural 100) zero;
         bypassup = threshold.Absent;
         bypassdown = threshold.Absent;
         transition = 0;
@@ -90,7 +90,7 @@ unfolding ofBits add sub mul div neg lt le eq round ofInt fold any every count n
     fairnessBonus withBonus sumAt waitTicksSum waitTicksSquaredSum intervenes doorCost extraDelay isAhead directionBonus weighted finiteRank
     travelTime interveningStops riderDelay computeCost etdRank serves lineCapacity capacityAt weightAt lineServed coveredByCars closedAt covered idle
     idleBound pending idleCars rowCar pendingStops columnStop columns keeps precedes lineServesOf viableOf nearerOf keptOf rank cell heldCell matrix
-    heldAt heldInRow heldCells scan best chosen column sheet
+    heldAt heldInRow heldCells viableStops rankedPairs scan best chosen column sheet
 everything = 0
 
 -- the first two cars' cells: held, below the ceiling, spare
@@ -99,8 +99,8 @@ pub reach : (tab (matrix sheet noLimit 0) 3 ≡ ceiling ∷ 99_999_999_700_000 �
 unfolding everything
 reach = (refl, refl)
 
--- the third's: barred, below the ceiling, spare
-pub barred : tab (matrix sheet noLimit 2) 3 ≡ sentinel ∷ 99_999_999_700_000 ∷ sentinel ∷ []
+-- the third's: barred, without a rank, spare
+pub barred : tab (matrix sheet noLimit 2) 3 ≡ sentinel ∷ sentinel ∷ sentinel ∷ []
 unfolding everything
 barred = refl
 
@@ -118,3 +118,8 @@ two-held = (refl, refl)
 pub none-kept : heldCells sheet 1 ≡ 0
 unfolding everything
 none-kept = refl
+
+-- two cars have two viable stops and the third one, for which it has no rank; under a limit of 1 each has one pair ranked
+pub all-ranked : (rankedPairs sheet noLimit ≡ 5) × (rankedPairs sheet 1 ≡ 3)
+unfolding everything
+all-ranked = (refl, refl)

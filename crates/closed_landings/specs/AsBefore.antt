@@ -21,54 +21,54 @@ use Rattle.closed_landings.specs.Under.{writtenUnder, by-rule}
 unfoldable pub outcomeOfSeven : Lent → Reading
 outcomeOfSeven x = cond (refusal1 (length (x .decisions)) (length (x .cells)) (length (x .sweeps))) (reading.Refused 1 0) (verdictOfSeven (x .bytes))
 
-abbrev pub doneOfSeven : Reading → ℕ → Lent → Done
-doneOfSeven (reading.Refused number offset) ranked x = done (Refused number offset) (x .decisions) (x .cells) (x .sweeps)
-doneOfSeven (reading.Accepted c) ranked x =
-    let s : Sheet = sheetOf (x .bytes) c in writtenUnder s (pendingOpen s) (limitOf (x .bytes)) ranked x
+abbrev pub doneOfSeven : Reading → Lent → Done
+doneOfSeven (reading.Refused number offset) x = done (Refused number offset) (x .decisions) (x .cells) (x .sweeps)
+doneOfSeven (reading.Accepted c) x =
+    let s : Sheet = sheetOf (x .bytes) c in writtenUnder s (pendingOpen s) (limitOf (x .bytes)) x
 
 -- what a bench of seven kinds answers and leaves
-abbrev pub passOfSeven : ℕ → Lent → Done
-passOfSeven ranked x = doneOfSeven (outcomeOfSeven x) ranked x
+abbrev pub passOfSeven : Lent → Done
+passOfSeven x = doneOfSeven (outcomeOfSeven x) x
 
 -- ---- laws
 
-written-open : (x : Lent) (c : Counts) (ranked : ℕ) → c .closures ≡ 0
-    → written (sheetOf (x .bytes) c) (limitOf (x .bytes)) ranked x ≡ doneOfSeven (reading.Accepted c) ranked x
+written-open : (x : Lent) (c : Counts) → c .closures ≡ 0
+    → written (sheetOf (x .bytes) c) (limitOf (x .bytes)) x ≡ doneOfSeven (reading.Accepted c) x
 unfolding sheetOf
-written-open x c ranked e =
+written-open x c e =
     let s = sheetOf (x .bytes) c in
     let l = limitOf (x .bytes) in
-    by-rule s l ranked x ∙ ap (λ rule. writtenUnder s rule l ranked x) (fun-ext (none-closed s e))
+    by-rule s l x ∙ ap (λ rule. writtenUnder s rule l x) (fun-ext (none-closed s e))
 
 -- with the reading of seven kinds it passes as now
-open-pass : (x : Lent) (ranked : ℕ) (v : Reading) → ((c : Counts) → v ≡ reading.Accepted c → c .closures ≡ 0)
-    → doneOfSeven v ranked x ≡ doneOf v ranked x
-open-pass x ranked (reading.Refused number offset) h = refl
-open-pass x ranked (reading.Accepted c) h = sym (written-open x c ranked (h c refl))
+open-pass : (x : Lent) (v : Reading) → ((c : Counts) → v ≡ reading.Accepted c → c .closures ≡ 0)
+    → doneOfSeven v x ≡ doneOf v x
+open-pass x (reading.Refused number offset) h = refl
+open-pass x (reading.Accepted c) h = sym (written-open x c (h c refl))
 
 -- a sheet without kind 8 has that answer and those buffers
-pub without-eight : (ranked : ℕ) (x : Lent) (c : Counts) → outcomeOf x ≡ reading.Accepted c → c .closures ≡ 0 → passOf ranked x ≡ passOfSeven ranked x
+pub without-eight : (x : Lent) (c : Counts) → outcomeOf x ≡ reading.Accepted c → c .closures ≡ 0 → passOf x ≡ passOfSeven x
 unfolding outcome outcomeOfSeven
-without-eight ranked x c h e =
+without-eight x c h e =
     by (refusal1 (length (x .decisions)) (length (x .cells)) (length (x .sweeps))) (λ b. seven-accepted (x .bytes) c b e) h
   where
     by : (b : Bool) → (verdict (x .bytes) ≡ reading.Accepted c → verdictOfSeven (x .bytes) ≡ reading.Accepted c)
         → cond b (reading.Refused 1 0) (verdict (x .bytes)) ≡ reading.Accepted c
-        → doneOf (cond b (reading.Refused 1 0) (verdict (x .bytes))) ranked x
-        ≡ doneOfSeven (cond b (reading.Refused 1 0) (verdictOfSeven (x .bytes))) ranked x
+        → doneOf (cond b (reading.Refused 1 0) (verdict (x .bytes))) x
+        ≡ doneOfSeven (cond b (reading.Refused 1 0) (verdictOfSeven (x .bytes))) x
     by true f g = refl
-    by false f g = rw (g, f g) (written-open x c ranked e)
+    by false f g = rw (g, f g) (written-open x c e)
 
 -- and any byte string, unless a bench of seven kinds refuses it with 4 at a record of kind 8
-pub as-before : (ranked : ℕ) (x : Lent) → (passOf ranked x ≡ passOfSeven ranked x) ⊎ FourAtEight (x .bytes) (outcomeOfSeven x)
+pub as-before : (x : Lent) → (passOf x ≡ passOfSeven x) ⊎ FourAtEight (x .bytes) (outcomeOfSeven x)
 unfolding outcome outcomeOfSeven
-as-before ranked x = by (refusal1 (length (x .decisions)) (length (x .cells)) (length (x .sweeps))) (read-as (x .bytes))
+as-before x = by (refusal1 (length (x .decisions)) (length (x .cells)) (length (x .sweeps))) (read-as (x .bytes))
   where
     by : (b : Bool) → (verdictOfSeven (x .bytes) ≡ verdict (x .bytes)) ⊎ FourAtEight (x .bytes) (verdictOfSeven (x .bytes))
-        → (doneOf (cond b (reading.Refused 1 0) (verdict (x .bytes))) ranked x
-        ≡ doneOfSeven (cond b (reading.Refused 1 0) (verdictOfSeven (x .bytes))) ranked x)
+        → (doneOf (cond b (reading.Refused 1 0) (verdict (x .bytes))) x
+        ≡ doneOfSeven (cond b (reading.Refused 1 0) (verdictOfSeven (x .bytes))) x)
         ⊎ FourAtEight (x .bytes) (cond b (reading.Refused 1 0) (verdictOfSeven (x .bytes)))
     by true h = inl refl
     by false (inl e) =
-        inl (ap (λ v. doneOf v ranked x) (sym e) ∙ sym (open-pass x ranked (verdictOfSeven (x .bytes)) (seven-open (x .bytes))))
+        inl (ap (λ v. doneOf v x) (sym e) ∙ sym (open-pass x (verdictOfSeven (x .bytes)) (seven-open (x .bytes))))
     by false (inr h) = inr h

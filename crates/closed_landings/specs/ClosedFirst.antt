@@ -6,7 +6,7 @@
 --   fewer, other-pass    where they meet at one, fewer stops are pending, so the answer is another
 --   none-sent            no car is sent to a closed landing
 --   before               a worked case by F-2's rule; by the rule of now it is in assignment: Variants
-use Prim.Native.Nat.{ℕ, _*_, _<_, _≤_, max}
+use Prim.Native.Nat.{ℕ, _*_, _<_, _≤_, min, max}
 use mathlib.Core.Path.{_≡_, refl, sym, ap, _∙_, fun-ext}
 use mathlib.Core.Bool.{Bool, true, false, not, _&&_, _||_, cond, true≢false}
 use mathlib.Core.List.{_++_}
@@ -18,7 +18,7 @@ use borrow.Author.Tests.{lt-ltb, le-ltb}
 use Rattle.laws.specs.Bools.{less?}
 use Rattle.laws.specs.Folds.{any, any-some, any-none, count, nth, count-cong, nth-cong, nth-is}
 use Rattle.laws.specs.Counts.{count-lt}
-use Rattle.laws.specs.Sums.{sum}
+use Rattle.laws.specs.Sums.{sum, sum-cong}
 use Rattle.laws.specs.Tables.{tab, tabs}
 use Rattle.scale.specs.Scale.{sentinel}
 use Rattle.components.specs.Sheet.{Sheet}
@@ -38,10 +38,9 @@ use Rattle.assignment.specs.Variants.{shut, shutOpened}
 use Rattle.outcome.specs.Written.{decided}
 use Rattle.bench.specs.declared.Answer.{Answer}
 use Rattle.bench.specs.declared.Answer.the-variants.{Passed, Refused}
-use Rattle.bench.specs.Answers.{rankedOf}
-use Rattle.bench.specs.Done.{Lent, Done, done, outcomeOf, doneOf, passOf, written, IsPass, is-written}
-use Rattle.closed_landings.specs.Under.{writtenUnder, stopsUnder, columnStopUnder, nearerUnder, keptUnder, sweepUnder, cellUnder}
-use Rattle.closed_landings.specs.Under.{rankUnder, matrixUnder, decisionUnder, totalUnder, heldAtUnder, by-rule}
+use Rattle.bench.specs.Done.{Lent, Done, done, outcomeOf, doneOf, passOf, written, is-written}
+use Rattle.closed_landings.specs.Under.{writtenUnder, stopsUnder, columnStopUnder, viableUnder, nearerUnder, keptUnder, sweepUnder, cellUnder}
+use Rattle.closed_landings.specs.Under.{rankUnder, matrixUnder, decisionUnder, totalUnder, heldAtUnder, rankedUnder, by-rule}
 
 -- ---- the two rules side by side
 
@@ -85,13 +84,13 @@ agrees s j h = by (closedAt s j) (inGroup s j) (hasDemand s j) (idleBound s j) (
 -- ---- the passes by either rule
 
 -- what a bench of F-2's rule answers and leaves
-abbrev pub doneBefore : Reading → ℕ → Lent → Done
-doneBefore (reading.Refused number offset) ranked x = done (Refused number offset) (x .decisions) (x .cells) (x .sweeps)
-doneBefore (reading.Accepted c) ranked x =
-    let s : Sheet = sheetOf (x .bytes) c in writtenUnder s (pendingBefore s) (limitOf (x .bytes)) ranked x
+abbrev pub doneBefore : Reading → Lent → Done
+doneBefore (reading.Refused number offset) x = done (Refused number offset) (x .decisions) (x .cells) (x .sweeps)
+doneBefore (reading.Accepted c) x =
+    let s : Sheet = sheetOf (x .bytes) c in writtenUnder s (pendingBefore s) (limitOf (x .bytes)) x
 
-abbrev pub passBefore : ℕ → Lent → Done
-passBefore ranked x = doneBefore (outcomeOf x) ranked x
+abbrev pub passBefore : Lent → Done
+passBefore x = doneBefore (outcomeOf x) x
 
 -- ---- a pass looks at a rule at the sheet's stops alone
 
@@ -115,6 +114,12 @@ module _ (s : Sheet) (p q : ℕ → Bool) (h : (j : ℕ) → j < s .stops → p 
 
   kept-same : (i limit j : ℕ) → j < s .stops → keptUnder s p i limit j ≡ keptUnder s q i limit j
   kept-same i limit j l = rw (h j l, nearer-same i j)
+
+  ranked-same : (limit : ℕ) → rankedUnder s p limit ≡ rankedUnder s q limit
+  ranked-same limit =
+      sum-cong (idleCars s) {f = λ r. min limit (count (viableUnder s p (rowCar s r)) (s .stops))}
+      {g = λ r. min limit (count (viableUnder s q (rowCar s r)) (s .stops))}
+      (λ r l. ap (min limit) (count-cong (viableUnder s p (rowCar s r)) (viableUnder s q (rowCar s r)) (s .stops) (λ j lj. rw (h j lj))))
 
   sweep-same : (i : ℕ) → sweepUnder s p i ≡ sweepUnder s q i
   sweep-same i = rw stops-same
@@ -140,9 +145,9 @@ module _ (s : Sheet) (p q : ℕ → Bool) (h : (j : ℕ) → j < s .stops → p 
       held-cell-same limit (rowCar s r) (columnStopUnder s p c) (nth-is p (s .stops) c l .below)
       ∙ ap (λ (j : ℕ). keptUnder s q (rowCar s r) limit j && rankHeld (rankUnder s q (rowCar s r) j)) (place-same c))
 
--- what is written, by the number of pending stops, their places, the matrix, its held cells and the sweeps
-unfoldable made : Sheet → ℕ → Lent → ℕ → (ℕ → ℕ) → (ℕ → ℕ → ℕ) → (ℕ → ℕ → Bool) → (ℕ → Sweep) → Done
-made s ranked x m place cells held swept =
+-- what is written, by the pairs ranked, the number of pending stops, their places, the matrix, its held cells and the sweeps
+unfoldable made : Sheet → Lent → ℕ → ℕ → (ℕ → ℕ) → (ℕ → ℕ → ℕ) → (ℕ → ℕ → Bool) → (ℕ → Sweep) → Done
+made s x ranked m place cells held swept =
     let n = idleCars s in
     let w = max n m in
     let column = columnOf cells n w in
@@ -151,40 +156,40 @@ made s ranked x m place cells held swept =
     (tabs cells w n ++ drop (n * w) (x .cells))
     (tab (λ i. sweepCode (swept i)) (s .cars) ++ drop (s .cars) (x .sweeps))
 
-is-made : (s : Sheet) (rule : ℕ → Bool) (limit ranked : ℕ) (x : Lent)
-    → writtenUnder s rule limit ranked x
-    ≡ made s ranked x (stopsUnder s rule) (columnStopUnder s rule) (matrixUnder s rule limit) (heldAtUnder s rule limit) (sweepUnder s rule)
+is-made : (s : Sheet) (rule : ℕ → Bool) (limit : ℕ) (x : Lent)
+    → writtenUnder s rule limit x
+    ≡ made s x (rankedUnder s rule limit) (stopsUnder s rule) (columnStopUnder s rule) (matrixUnder s rule limit) (heldAtUnder s rule limit) (sweepUnder s rule)
 unfolding made
-is-made s rule limit ranked x = refl
+is-made s rule limit x = refl
 
-same-rule : (s : Sheet) (p q : ℕ → Bool) → ((j : ℕ) → j < s .stops → p j ≡ q j) → (limit ranked : ℕ) (x : Lent)
-    → writtenUnder s p limit ranked x ≡ writtenUnder s q limit ranked x
-same-rule s p q h limit ranked x =
-    is-made s p limit ranked x
-    ∙ by (stops-same s p q h) (fun-ext (place-same s p q h)) (fun-ext (λ r. fun-ext (matrix-same s p q h limit r)))
+same-rule : (s : Sheet) (p q : ℕ → Bool) → ((j : ℕ) → j < s .stops → p j ≡ q j) → (limit : ℕ) (x : Lent)
+    → writtenUnder s p limit x ≡ writtenUnder s q limit x
+same-rule s p q h limit x =
+    is-made s p limit x
+    ∙ by (ranked-same s p q h limit) (stops-same s p q h) (fun-ext (place-same s p q h)) (fun-ext (λ r. fun-ext (matrix-same s p q h limit r)))
     (fun-ext (λ r. fun-ext (held-same s p q h limit r))) (fun-ext (sweep-same s p q h))
-    ∙ sym (is-made s q limit ranked x)
+    ∙ sym (is-made s q limit x)
   where
-    by : {m m′ : ℕ} {a a′ : ℕ → ℕ} {c c′ : ℕ → ℕ → ℕ} {d d′ : ℕ → ℕ → Bool} {w w′ : ℕ → Sweep} → m ≡ m′ → a ≡ a′ → c ≡ c′ → d ≡ d′ → w ≡ w′
-        → made s ranked x m a c d w ≡ made s ranked x m′ a′ c′ d′ w′
-    by e f g j k = cc
+    by : {k k′ m m′ : ℕ} {a a′ : ℕ → ℕ} {c c′ : ℕ → ℕ → ℕ} {d d′ : ℕ → ℕ → Bool} {w w′ : ℕ → Sweep} → k ≡ k′ → m ≡ m′ → a ≡ a′ → c ≡ c′ → d ≡ d′ → w ≡ w′
+        → made s x k m a c d w ≡ made s x k′ m′ a′ c′ d′ w′
+    by i e f g j k = cc
 
 -- ---- where the rules meet at no stop
 
-pub same-written : (s : Sheet) → someMeet s ≡ false → (limit ranked : ℕ) (x : Lent)
-    → written s limit ranked x ≡ writtenUnder s (pendingBefore s) limit ranked x
+pub same-written : (s : Sheet) → someMeet s ≡ false → (limit : ℕ) (x : Lent)
+    → written s limit x ≡ writtenUnder s (pendingBefore s) limit x
 unfolding someMeet
-same-written s e limit ranked x =
-    by-rule s limit ranked x ∙ same-rule s (pending s) (pendingBefore s) (λ j l. agrees s j (any-none (rulesMeet s) (s .stops) e j l)) limit ranked x
+same-written s e limit x =
+    by-rule s limit x ∙ same-rule s (pending s) (pendingBefore s) (λ j l. agrees s j (any-none (rulesMeet s) (s .stops) e j l)) limit x
 
 -- every answer and every buffer is the same
-pub same-pass : (ranked : ℕ) (x : Lent) → ((c : Counts) → outcomeOf x ≡ reading.Accepted c → someMeet (sheetOf (x .bytes) c) ≡ false)
-    → passOf ranked x ≡ passBefore ranked x
-same-pass ranked x h = by (outcomeOf x) h
+pub same-pass : (x : Lent) → ((c : Counts) → outcomeOf x ≡ reading.Accepted c → someMeet (sheetOf (x .bytes) c) ≡ false)
+    → passOf x ≡ passBefore x
+same-pass x h = by (outcomeOf x) h
   where
-    by : (v : Reading) → ((c : Counts) → v ≡ reading.Accepted c → someMeet (sheetOf (x .bytes) c) ≡ false) → doneOf v ranked x ≡ doneBefore v ranked x
+    by : (v : Reading) → ((c : Counts) → v ≡ reading.Accepted c → someMeet (sheetOf (x .bytes) c) ≡ false) → doneOf v x ≡ doneBefore v x
     by (reading.Refused number offset) f = refl
-    by (reading.Accepted c) f = same-written (sheetOf (x .bytes) c) (f c refl) (limitOf (x .bytes)) ranked x
+    by (reading.Accepted c) f = same-written (sheetOf (x .bytes) c) (f c refl) (limitOf (x .bytes)) x
 
 -- ---- where they meet at one
 
@@ -202,15 +207,15 @@ fewer s e =
     weaker k h = right (closedAt s k) _ h
 
 -- "Answers that change are exactly those": the answered number of pending stops is another
-pub other-pass : (ranked ranked′ : ℕ) (x : Lent) (c : Counts) → outcomeOf x ≡ reading.Accepted c → someMeet (sheetOf (x .bytes) c) ≡ true
-    → passOf ranked x ≢ passBefore ranked′ x
+pub other-pass : (x : Lent) (c : Counts) → outcomeOf x ≡ reading.Accepted c → someMeet (sheetOf (x .bytes) c) ≡ true
+    → passOf x ≢ passBefore x
 unfolding pendingStops
-other-pass ranked ranked′ x c e h q =
+other-pass x c e h q =
     let s = sheetOf (x .bytes) c in
     let same : pendingStops s ≡ stopsUnder s (pendingBefore s) =
-    sym (ap (λ v. stopsOf (doneOf v ranked x .answer)) e)
+    sym (ap (λ v. stopsOf (doneOf v x .answer)) e)
     ∙ ap (λ (y : Done). stopsOf (y .answer)) q
-    ∙ ap (λ v. stopsOf (doneBefore v ranked′ x .answer)) e in
+    ∙ ap (λ v. stopsOf (doneBefore v x .answer)) e in
     absurd (omega (arith, same, fewer s h))
   where
     stopsOf : Answer → ℕ
@@ -220,13 +225,13 @@ other-pass ranked ranked′ x c e h q =
 -- ---- "no car is sent there"
 
 -- of the decisions that a pass writes, one that sends a car is no closed landing's stop
-pub none-sent : {x : Lent} {y : Done} → IsPass x y → (c : Counts) → outcomeOf x ≡ reading.Accepted c → (r k : ℕ)
+pub none-sent : (x : Lent) {y : Done} → y ≡ passOf x → (c : Counts) → outcomeOf x ≡ reading.Accepted c → (r k : ℕ)
     → r < idleCars (sheetOf (x .bytes) c) → k < sheetOf (x .bytes) c .closures → getD (y .decisions) r 0 ≢ 0
     → getD (y .decisions) r 0 ≢ sheetOf (x .bytes) c .closed k
-none-sent {x} {y} h c e r k lr lk d q =
+none-sent x {y} h c e r k lr lk d q =
     let s = sheetOf (x .bytes) c in
     let limit = limitOf (x .bytes) in
-    let is = ap (λ (z : Done). getD (z .decisions) r 0) (is-written h c e) ∙ decided s limit (x .decisions) r lr in
+    let is = ap (λ (z : Done). getD (z .decisions) r 0) (is-written x h c e) ∙ decided s limit (x .decisions) r lr in
     never-closed s limit r k (λ z. d (is ∙ z)) lk (sym is ∙ q)
 
 -- ---- a worked case: someone waits at stop 1, which is closed, and the rider of car 1 is bound for it

@@ -1,6 +1,6 @@
 -- A pass with another rule for which stops are pending: the definitions of assignment: Pending, Candidates, Cells, outcome: Outcome and bench: Done
 -- over a rule. Over the rule of now they are those definitions (`by-rule`). Assumes nothing.
-use Prim.Native.Nat.{ℕ, _*_, max}
+use Prim.Native.Nat.{ℕ, _*_, min, max}
 use mathlib.Core.Path.{_≡_, refl}
 use mathlib.Core.Bool.{Bool, not, _&&_, cond}
 use mathlib.Core.List.{_++_}
@@ -21,9 +21,9 @@ use Rattle.etd.specs.Etd.{etdRank}
 use Rattle.rsr.specs.Rsr.{rsrRank}
 use Rattle.assignment_problem.specs.Recursion.{columnOf, leastTotal}
 use Rattle.assignment.specs.Pending.{idle, idleCars, rowCar, pending, pendingStops, columnStop, columns}
-use Rattle.assignment.specs.Candidates.{keeps, precedes, lineServes, barred, away, viableOf, nearerOf, keptOf}
+use Rattle.assignment.specs.Candidates.{keeps, precedes, lineServes, barred, away, viableOf, viableStops, nearerOf, keptOf}
 use Rattle.assignment.specs.Cells.{byStrategy, rankCell, rankHeld, sweepAfter, rank, cell, matrix, column, answeredTotal, goes, decision}
-use Rattle.assignment.specs.Cells.{heldCell, heldAt, heldInRow, heldCells}
+use Rattle.assignment.specs.Cells.{heldCell, heldAt, heldInRow, heldCells, rankedPairs}
 use Rattle.outcome.specs.Outcome.{decisionsOf, cellsOf, sweepsOf}
 use Rattle.bench.specs.declared.Answer.the-variants.{Passed}
 use Rattle.bench.specs.Done.{Lent, Done, done, written}
@@ -83,14 +83,17 @@ module _ (s : Sheet) (rule : ℕ → Bool) where
     abbrev pub heldUnder : ℕ
     heldUnder = sum (idleCars s) (λ r. count (heldAtUnder r) columnsUnder)
 
-    abbrev pub writtenUnder : ℕ → Lent → Done
-    writtenUnder ranked x =
-        done (Passed (idleCars s) stopsUnder totalUnder ranked heldUnder)
+    abbrev pub rankedUnder : ℕ
+    rankedUnder = sum (idleCars s) (λ r. min limit (count (viableUnder (rowCar s r)) (s .stops)))
+
+    abbrev pub writtenUnder : Lent → Done
+    writtenUnder x =
+        done (Passed (idleCars s) stopsUnder totalUnder rankedUnder heldUnder)
         (tab decisionUnder (idleCars s) ++ drop (idleCars s) (x .decisions))
         (tabs matrixUnder columnsUnder (idleCars s) ++ drop (idleCars s * columnsUnder) (x .cells))
         (tab (λ i. sweepCode (sweepUnder i)) (s .cars) ++ drop (s .cars) (x .sweeps))
 
-pub by-rule : (s : Sheet) (limit ranked : ℕ) (x : Lent) → written s limit ranked x ≡ writtenUnder s (pending s) limit ranked x
+pub by-rule : (s : Sheet) (limit : ℕ) (x : Lent) → written s limit x ≡ writtenUnder s (pending s) limit x
 unfolding pendingStops columnStop columns viableOf nearerOf keptOf sweepAfter rank cell matrix column answeredTotal goes decision decisionsOf cellsOf
-    sweepsOf heldCell heldAt heldInRow heldCells
-by-rule s limit ranked x = refl
+    sweepsOf heldCell heldAt heldInRow heldCells viableStops rankedPairs
+by-rule s limit x = refl

@@ -7,7 +7,7 @@ use lib.ListN.{take, drop, replicate}
 use Rattle.bench.specs.declared.Answer.{Answer}
 use Rattle.bench.specs.declared.Answer.the-variants.{Passed, Refused}
 use Rattle.bench.specs.Answers.{totalOf}
-use Rattle.bench.specs.Done.{Lent, Done, lent, done, passOf, IsPass, unranked}
+use Rattle.bench.specs.Done.{Lent, Done, lent, done, passOf}
 use Rattle.stored_passes.specs.declared.Stored.{Stored}
 use Rattle.stored_passes.specs.Cases.{Inside, caseDiffers, differs-le}
 
@@ -29,11 +29,11 @@ doneDiffers s p y = passDiffers s p (y .answer) (y .decisions) (y .cells) (y .sw
 
 -- in how many entries the pass differs from the case at byte at
 unfoldable pub differsAt : List ℕ → ℕ → Stored → ℕ
-differsAt s at p = doneDiffers s p (passOf 0 (lentIn s at p))
+differsAt s at p = doneDiffers s p (passOf (lentIn s at p))
 
 -- the total that the pass answers
 unfoldable pub totalAt : List ℕ → ℕ → Stored → ℕ
-totalAt s at p = totalOf (passOf 0 (lentIn s at p) .answer)
+totalAt s at p = totalOf (passOf (lentIn s at p) .answer)
 
 -- ---- laws
 
@@ -56,11 +56,11 @@ pub differs-at-le : (s : List ℕ) (at : ℕ) (p : Stored) → Inside s p → p 
 unfolding differsAt
 differs-at-le s at p i = pass-differs-le s p _ _ _ _ i
 
-module _ (s : List ℕ) (at : ℕ) (p : Stored) {a : Answer} {d c w : List ℕ} (h : IsPass (lentIn s at p) (done a d c w)) where
+module _ (s : List ℕ) (at : ℕ) (p : Stored) {a : Answer} {d c w : List ℕ} (h : done a d c w ≡ passOf (lentIn s at p)) where
   pub differs-at : {r : ℕ} → r ≡ passDiffers s p a d c w → r ≡ differsAt s at p
   unfolding differsAt passDiffers
-  differs-at e = e ∙ unranked h (doneDiffers s p) (λ n m t k h d c w. refl)
+  differs-at e = e ∙ ap (doneDiffers s p) h
 
   pub total-at : totalOf a ≡ totalAt s at p
   unfolding totalAt
-  total-at = unranked h (λ (y : Done). totalOf (y .answer)) (λ n m t k h d c w. refl)
+  total-at = ap (λ (y : Done). totalOf (y .answer)) h

@@ -23,8 +23,8 @@ pub struct Pass {
     pub cars: u64,
     pub stops: u64,
     pub total: u64,
-    /// The most pairs that may be ranked.
-    pub rank_bound: u64,
+    /// How many pairs are ranked: those that the limit keeps.
+    pub ranked: u64,
     /// How many cells were held down to the ceiling.
     pub held: u64,
     pub decisions: Vec<u32>,
@@ -164,16 +164,11 @@ pub fn of_rust(sheet: &Sheet, pass: &RustPass) -> Pass {
         decisions, pass.decisions,
         "the Rust's decisions and the choice it was handed differ"
     );
-    let bound = m.min(usize::from(sheet.policy.limit)) * n;
-    assert!(
-        pass.ranked <= bound as u64,
-        "the Rust ranked more pairs than document 01's bound"
-    );
     Pass {
         cars: n as u64,
         stops: m as u64,
         total: total as u64,
-        rank_bound: bound as u64,
+        ranked: pass.ranked,
         held: pass.scaled.iter().filter(|cost| is_held(**cost)).count() as u64,
         decisions,
         cells: cells.iter().map(|c| *c as u64).collect(),
@@ -231,10 +226,7 @@ pub fn details(rust: &mut Rust, bytes: &[u8], with_ranks: bool) -> String {
         "cars {} stops {} columns {columns} total {} held {}",
         pass.cars, pass.stops, pass.total, pass.held
     );
-    out += &match pass.source {
-        Source::Model => "\n".into(),
-        _ => format!(" ranked {}\n", found.ranked),
-    };
+    out += &format!(" ranked {}\n", pass.ranked);
     out += match pass.source {
         Source::Rust => "matrix rust\n",
         Source::Document => "matrix document\n",

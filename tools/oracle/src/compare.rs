@@ -313,12 +313,8 @@ impl<'a> Comparison<'a> {
                 "an entry beyond what a pass writes was changed",
             );
         }
-        if lent.ranked > pass.rank_bound {
-            return differ(
-                "pass: ranked pairs above the bound",
-                pass.rank_bound,
-                lent.ranked,
-            );
+        if lent.ranked != pass.ranked {
+            return differ("pass: ranked pairs", pass.ranked, lent.ranked);
         }
         None
     }

@@ -299,7 +299,9 @@ fn telling(seed: u64, count: u64, each: usize) -> Cases {
     const LARGEST: usize = 700;
     let mut cases = Cases::default();
     cases.add(Sheet::example().write());
-    for &fault in FAULTS.iter().filter(|f| **f != Fault::None) {
+    for &fault in FAULTS
+        .iter()
+        .filter(|f| **f != Fault::None && !f.is_of_ranked()) {
         let mut bench = Paper { fault, whole: true };
         let mut c = Comparison::new(&mut bench);
         c.has.read = false;

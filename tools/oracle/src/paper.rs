@@ -198,6 +198,12 @@ faults! {
     HeldCars
     /// A sheet without a held cell keeps what stood there.
     HeldKeptAtZero
+    /// Only pairs with a rank count as ranked.
+    RankedUseful
+    /// Every viable pair counts as ranked, whatever the limit.
+    RankedBeyondLimit
+    /// The pairs of every car count as ranked.
+    RankedOfAllCars
 }
 
 impl Fault {
@@ -215,6 +221,14 @@ impl Fault {
                 | Fault::ClosedNotCounted
                 | Fault::ClosedNotAhead
                 | Fault::ClosedByPlace
+        )
+    }
+
+    /// The number of ranked pairs alone shows it.
+    pub fn is_of_ranked(self) -> bool {
+        matches!(
+            self,
+            Fault::RankedUseful | Fault::RankedBeyondLimit | Fault::RankedOfAllCars
         )
     }
 
@@ -981,6 +995,29 @@ impl<'a> Pass<'a> {
         (0..idle.len()).map(|row| of_row(row) as u64).sum()
     }
 
+    /// "for each idle car the smaller of the limit and its viable stops, summed"
+    fn ranked_pairs(&self, idle: &[usize]) -> u64 {
+        let all: Vec<usize> = (0..self.sheet.cars.len()).collect();
+        let cars = if self.is(Fault::RankedOfAllCars) {
+            &all
+        } else {
+            idle
+        };
+        let of_car = |i: &usize| {
+            let c = &self.sheet.cars[*i];
+            let viable = self.pending & !c.restricted & self.line_mask(c);
+            let stops = (0..self.sheet.stops.len()).filter(|j| nth(viable, *j));
+            match self.fault {
+                Fault::RankedUseful => stops
+                    .filter(|j| self.cell(*i, *j) < SENTINEL as u64)
+                    .count(),
+                Fault::RankedBeyondLimit => stops.count(),
+                _ => stops.count().min(usize::from(self.sheet.policy.limit)),
+            }
+        };
+        cars.iter().map(|i| of_car(i) as u64).sum()
+    }
+
     /// The places of the idle cars' records.
     fn idle(&self) -> Vec<usize> {
         let cars = 0..self.sheet.cars.len();
@@ -1015,7 +1052,7 @@ pub fn answered(sheet: &Sheet) -> answer::Pass {
         cars: lent.cars,
         stops: lent.stops,
         total: lent.total,
-        rank_bound: (n * m.min(usize::from(sheet.policy.limit))) as u64,
+        ranked: lent.ranked,
         held: lent.held,
         decisions: lent.decisions[..n].to_vec(),
         cells: lent.matrix[..n * n.max(m)].to_vec(),
@@ -1084,7 +1121,7 @@ impl Bench for Paper {
         }
         lent.cars = n as u64;
         lent.stops = m as u64;
-        lent.ranked = (n * m.min(usize::from(sheet.policy.limit))) as u64;
+        lent.ranked = pass.ranked_pairs(&idle);
         let held = pass.held_cells(&idle, &pending, &chosen);
         if held > 0 || self.fault != Fault::HeldKeptAtZero {
             lent.held = held;

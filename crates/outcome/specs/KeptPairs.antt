@@ -1,41 +1,34 @@
--- The pairs ranked are within document 01's bound: "at most n × limit (n × m with none)". A limit keeps the smaller of itself and the viable stops of
--- a car, since distance and then id put the stops of an accepted sheet in one order. Assumes nothing.
-use Prim.Native.Nat.{ℕ, _≤_, _<_, min}
-use mathlib.Core.Path.{_≡_, sym, _∙_}
-use mathlib.Core.Bool.{Bool, true, false, not, _&&_}
+-- The pairs ranked are the kept ones. Request F-7: "a kept pair counting as ranked whether useful or not". A limit keeps the smaller of itself and the
+-- viable stops of a car, since distance and then id put the stops of an accepted sheet in one order. And they are within document 01's bound. Assumes
+-- nothing.
+use Prim.Native.Nat.{ℕ, _*_, _≤_, _<_, min}
+use mathlib.Core.Path.{_≡_, sym, ap, _∙_}
+use mathlib.Core.Bool.{Bool, true, false, not, _&&_, cond, and-true}
 use mathlib.Core.List.{List}
 use mathlib.Core.Logic.{_⊎_, inl, inr, ⊎-elim, _≢_}
 use native.Mathlib.Omega.{arith}
-use lib.Dec.{ltb}
+use lib.Dec.{eqb, ltb}
 use lib.Ieee.{Float, lt}
 use borrow.Author.Tests.{eq-eqb, ne-eqb, ltb-true, lt-ltb, le-ltb, not-true}
 use Rattle.laws.specs.Bools.{which, same?, less?, both, both-left, both-right, either, either-left, either-right}
-use Rattle.laws.specs.Folds.{count, count-cong, nth-is}
+use Rattle.laws.specs.Folds.{count, count-cong, count-le, nth-is}
 use Rattle.laws.specs.Counts.{count-mono, Order, first-few}
-use Rattle.laws.specs.Sums.{sum, sum-le}
+use Rattle.laws.specs.Sums.{sum, sum-cong, sum-le}
 use Rattle.fp.specs.Num.{finite}
 use Rattle.fp.specs.Order.{real, lt-self, lt-trans, lt-le-trans, le-lt-trans, le-through}
 use Rattle.fp.specs.Distances.{distance-real}
 use Rattle.fp.specs.Inside.{position-finite}
 use Rattle.layout.specs.declared.Counts.{Counts}
 use Rattle.layout.specs.declared.Reading.the-variants.{Accepted}
-use Rattle.layout.specs.Records.{sheetOf, limitOf}
+use Rattle.layout.specs.Records.{sheetOf}
 use Rattle.layout.specs.Verdict.{verdict}
 use Rattle.accepted.specs.Accepted.{accepted}
 use Rattle.components.specs.Sheet.{Sheet}
 use Rattle.manifest.specs.World.{stopId, stopAt}
 use Rattle.assignment.specs.Pending.{pending, idle, idleCars, rowCar, pendingStops}
-use Rattle.assignment.specs.Candidates.{noLimit, keeps, precedes, viable, away, nearer, kept, keptOf, nearerOf}
+use Rattle.assignment.specs.Candidates.{noLimit, keeps, precedes, viable, viableStops, away, nearer, kept, keptOf, nearerOf}
+use Rattle.assignment.specs.Cells.{rankedPairs}
 use Rattle.assignment.specs.CellLaws.{viable-parts}
-use Rattle.outcome.specs.Outcome.{rankedMost}
-
--- ---- with no limit
-
--- never more than are pending
-pub kept-pending : (s : Sheet) (i limit : ℕ) → count (kept s i limit) (s .stops) ≤ pendingStops s
-unfolding keptOf pendingStops
-kept-pending s i limit =
-    count-mono (kept s i limit) (pending s) (s .stops) (λ j l e. viable-parts s i j (both-left (viable s i j) (keeps limit (nearer s i j)) e) .0)
 
 -- ---- distance and then id is an order, of distances that are no NaN
 
@@ -140,25 +133,60 @@ row-below : (s : Sheet) (r : ℕ) → r < idleCars s → rowCar s r < s .cars
 unfolding idleCars rowCar
 row-below s r l = nth-is (idle s) (s .cars) r l .below
 
--- no car keeps more than the limit, and all together no more than the bound
-pub ranked-bound : (bytes : List ℕ) (c : Counts) → verdict bytes ≡ Accepted c
-    → sum (idleCars (sheetOf bytes c)) (λ r. count (kept (sheetOf bytes c) (rowCar (sheetOf bytes c) r) (limitOf bytes)) (sheetOf bytes c .stops))
-    ≤ rankedMost (sheetOf bytes c) (limitOf bytes)
-unfolding rankedMost
-ranked-bound bytes c e =
-    let s = sheetOf bytes c in
-    let limit = limitOf bytes in
-    let sound = accepted bytes c e .sheet in
-    ⊎-elim
-    (λ (q : limit ≡ noLimit). rw (eq-eqb limit noLimit q) (sum-le (idleCars s) (pendingStops s) (λ r l. kept-pending s (rowCar s r) limit)))
-    (λ (q : limit ≢ noLimit).
-    rw (ne-eqb limit noLimit q)
-    (sum-le (idleCars s) limit
-    (λ r l.
-    let i = rowCar s r in
-    omega (
-      arith,
+-- with no limit every viable stop is kept
+kept-all : (s : Sheet) (i : ℕ) → count (kept s i noLimit) (s .stops) ≡ viableStops s i
+unfolding keptOf keeps viableStops
+kept-all s i = count-cong (kept s i noLimit) (viable s i) (s .stops) (λ j l. and-true (viable s i j))
+
+unlimited : (limit v : ℕ) → limit ≡ noLimit → v ≤ 64 → v ≡ min limit v
+unlimited limit v q l = omega arith
+
+module _ (bytes : List ℕ) (c : Counts) (e : verdict bytes ≡ Accepted c) (limit : ℕ) where
+  -- an idle car keeps the smaller of the limit and its viable stops
+  pub kept-number : (r : ℕ) → r < idleCars (sheetOf bytes c)
+      → count (kept (sheetOf bytes c) (rowCar (sheetOf bytes c) r) limit) (sheetOf bytes c .stops)
+      ≡ min limit (viableStops (sheetOf bytes c) (rowCar (sheetOf bytes c) r))
+  unfolding viableStops
+  kept-number r l =
+      let s = sheetOf bytes c in
+      let i = rowCar s r in
+      let sound = accepted bytes c e .sheet in
+      ⊎-elim
+      (λ (q : limit ≡ noLimit).
+      ap (λ (k : ℕ). count (kept s i k) (s .stops)) q ∙ kept-all s i
+      ∙ unlimited limit (viableStops s i) q (omega (arith, count-le (viable s i) (s .stops), sound .most-stops)))
+      (λ (q : limit ≢ noLimit).
       kept-few s i (position-finite (s .car i .position) (sound .car i (row-below s r l) .position))
-          (λ j lj. position-finite (stopAt s j) (sound .stop j lj .position)) (sound .rising) limit q,
-    ))))
+      (λ j lj. position-finite (stopAt s j) (sound .stop j lj .position)) (sound .rising) limit q)
+      (same? limit noLimit)
+
+  -- the ranked pairs are the kept ones
+  pub ranked-kept : sum (idleCars (sheetOf bytes c)) (λ r. count (kept (sheetOf bytes c) (rowCar (sheetOf bytes c) r) limit) (sheetOf bytes c .stops))
+      ≡ rankedPairs (sheetOf bytes c) limit
+  unfolding rankedPairs
+  ranked-kept =
+      sum-cong (idleCars (sheetOf bytes c))
+      {f = λ r. count (kept (sheetOf bytes c) (rowCar (sheetOf bytes c) r) limit) (sheetOf bytes c .stops)}
+      {g = λ r. min limit (viableStops (sheetOf bytes c) (rowCar (sheetOf bytes c) r))} kept-number
+
+-- ---- document 01's bound, of any sheet
+
+-- "at most n × limit (n × m with none)"
+unfoldable pub rankedMost : Sheet → ℕ → ℕ
+rankedMost s limit = idleCars s * cond (eqb limit noLimit) (pendingStops s) limit
+
+viable-pending : (s : Sheet) (i : ℕ) → viableStops s i ≤ pendingStops s
+unfolding viableStops pendingStops
+viable-pending s i = count-mono (viable s i) (pending s) (s .stops) (λ j l h. viable-parts s i j h .0)
+
+pub ranked-most : (s : Sheet) (limit : ℕ) → rankedPairs s limit ≤ rankedMost s limit
+unfolding rankedPairs rankedMost
+ranked-most s limit =
+    ⊎-elim
+    (λ (q : limit ≡ noLimit).
+    rw (eq-eqb limit noLimit q)
+    (sum-le (idleCars s) (pendingStops s) {f = λ r. min limit (viableStops s (rowCar s r))}
+    (λ r l. omega (arith, viable-pending s (rowCar s r)))))
+    (λ (q : limit ≢ noLimit).
+    rw (ne-eqb limit noLimit q) (sum-le (idleCars s) limit {f = λ r. min limit (viableStops s (rowCar s r))} (λ r l. omega arith)))
     (same? limit noLimit)
