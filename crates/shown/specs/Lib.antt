@@ -4,3 +4,4 @@ pub mod Shown
 pub mod Sound
 pub mod Complete
 pub mod Fits
+pub mod Refusals

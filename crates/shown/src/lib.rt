@@ -9,6 +9,7 @@ ghost use Rattle.prices.specs.Price.{inRange, within};
 ghost use Rattle.assignment_problem.specs.Choice.{cellAt};
 ghost use Rattle.shown.specs.Shown.{neverAbove, equalWhereChosen, columnsPriced, shown};
 ghost use Rattle.shown.specs.Fits.{priceAt, columnOf, Priced, Inside};
+ghost use Rattle.shown.specs.Refusals.{refusal19, mispriced, refusal20};
 
 // Whether the price of car i and no column's exceed their cell.
 fn row_within<'a>(
@@ -117,4 +118,46 @@ pub fn shows<'a>(
     let equal = equal_where_chosen(n, w, cells, columns, u, v);
     let priced = columns_priced(n, w, columns, v);
     under & (equal & priced)
+}
+
+// Whether there isn't one column for each of n cars, or a column repeats or lies outside a matrix of w columns: refusal 19.
+pub fn wrong_columns(n: usize, w: usize, columns: &[u32]) -> bool
+    ensures { λ r. ⌜ r ≡ refusal19 n w (now (columns .entry)) ⌝ }
+{
+    if columns.len() != n {
+        return true;
+    }
+    let mut wrong = false;
+    let mut i: usize = 0;
+    while i < n {
+        let j = columns[i] as usize;
+        wrong = wrong | ((w <= j) | taken(i, columns, j));
+        i += 1;
+    }
+    wrong
+}
+
+// Whether there isn't one price for each of k, or one is out of its range.
+fn mispriced(k: usize, sent: &[i64]) -> bool
+    ensures { λ r. ⌜ r ≡ mispriced k (now (sent .entry)) ⌝ }
+{
+    if sent.len() != k {
+        return true;
+    }
+    let mut wrong = false;
+    let mut i: usize = 0;
+    while i < k {
+        wrong = wrong | !prices::in_range(sent[i]);
+        i += 1;
+    }
+    wrong
+}
+
+// Whether there isn't one price for each of n cars and w columns, or a price is out of its range: refusal 20.
+pub fn wrong_prices<'a>(n: usize, w: usize, u: &'a [i64], v: &'a [i64]) -> bool
+    ensures { λ r. ⌜ r ≡ refusal20 n w (now (u .entry)) (now (v .entry)) ⌝ }
+{
+    let cars = mispriced(n, u);
+    let columns = mispriced(w, v);
+    cars | columns
 }
