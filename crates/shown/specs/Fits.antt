@@ -9,6 +9,7 @@ use lib.ListN.{length, getD}
 use lib.IntN.{ℤ, pos}
 use Rattle.laws.specs.Tables.{row-in}
 use Rattle.prices.specs.Price.{inRange}
+use Rattle.assignment_problem.specs.Choice.{cellAt}
 
 -- the price at k
 abbrev pub priceAt : List ℤ → ℕ → ℤ
@@ -23,7 +24,7 @@ pub record Priced (n w : ℕ) (cells : List ℕ) (u v : List ℤ) : Type 0 where
   pub few-cars : n ≤ 32
   pub few-columns : w ≤ 64
   pub cells-there : n * w ≤ length cells
-  pub cells-low : (k : ℕ) → k < n * w → getD cells k 0 ≤ 281_474_976_710_656
+  pub cells-low : (i j : ℕ) → i < n → j < w → cellAt cells w i j ≤ 281_474_976_710_656
   pub cars-there : n ≤ length u
   pub cars-in-range : (i : ℕ) → i < n → inRange (priceAt u i) ≡ true
   pub columns-there : w ≤ length v

@@ -78,7 +78,7 @@ equals-requires c κs =
     let l = c .before .before .before .before .loop-test .taken in
     let x = p .0 .cars-in-range i l in
     let y = p .0 .columns-in-range _ (p .1 .inside i l) in
-    (ap inRange (same-price _ x) ∙ x, ap inRange (same-price _ y) ∙ y, p .0 .cells-low _ (place-in (p .0) i _ l (p .1 .inside i l)))
+    (ap inRange (same-price _ x) ∙ x, ap inRange (same-price _ y) ∙ y, p .0 .cells-low i _ l (p .1 .inside i l))
 
 add-i : tie.Need-add-i Inv-loop μ-loop
 add-i c = omega (arith, c .before .before .before .before .before .before .before .before .before .pre .0 .few-cars, c .before .before .before .before .before .loop-test .taken)

@@ -57,7 +57,7 @@ within-requires c κs =
     let l = c .before .before .before .loop-test .taken in
     let x = p .0 .cars-in-range i (p .1) in
     let y = p .0 .columns-in-range j l in
-    (ap inRange (same-price _ x) ∙ x, ap inRange (same-price _ y) ∙ y, p .0 .cells-low _ (place-in (p .0) i j (p .1) l))
+    (ap inRange (same-price _ x) ∙ x, ap inRange (same-price _ y) ∙ y, p .0 .cells-low i j (p .1) l)
 
 add-j : tie.Need-add-j Inv-loop μ-loop
 add-j c = omega (arith, c .before .before .before .before .before .before .before .pre .0 .few-columns, c .before .before .before .before .loop-test .taken)

@@ -1,0 +1,15 @@
+-- grade::answer meets its contract.
+use Rattle.grade.specs.Graded.{graded}
+use Rattle.grade.proofs.answer.Statement.{statement}
+use Rattle.grade.proofs.answer.Tie as tie
+
+returns : tie.Need-returns
+unfolding graded
+returns c = rw (c .if1 .taken)
+
+returns-2 : tie.Need-returns-2
+unfolding graded
+returns-2 c = rw (c .if1 .left)
+
+pub answer-spec : {M : Type 1} → statement M
+answer-spec = tie.close (tie.spec returns returns-2)
