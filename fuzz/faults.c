@@ -326,13 +326,24 @@ uint32_t __wrap_dispatch_bench_weights(const uint8_t *store, size_t length, uint
 /* Prices within their range. */
 static void clamp(const int64_t *from, int64_t *to, size_t count) {
     for (size_t k = 0; k < count && k < MOST_SENT; k++) {
-        to[k] = from[k] > DISPATCH_BENCH_MOST_PRICE ? DISPATCH_BENCH_MOST_PRICE : from[k] < -DISPATCH_BENCH_MOST_PRICE ? -DISPATCH_BENCH_MOST_PRICE : from[k];
+        int64_t least = from[k] < DISPATCH_BENCH_MOST_PRICE ? from[k] : DISPATCH_BENCH_MOST_PRICE;
+        to[k] = least > -DISPATCH_BENCH_MOST_PRICE ? least : -DISPATCH_BENCH_MOST_PRICE;
     }
 }
 
+/* A choice has a larger total than the least. */
+static int larger(const uint32_t *columns, size_t n, size_t w, const uint64_t *matrix) {
+    uint32_t chosen[MOST_SENT];
+    uint64_t total = 0, best = 0;
+    for (size_t i = 0; i < n; i++) {
+        total += matrix[i * w + columns[i]];
+    }
+    return __real_dispatch_bench_choose(n, w, matrix, n * w, chosen, MOST_SENT, &best) == 1 && total > best;
+}
+
 /* The faults of a grade of n cars and w columns. */
-static void spoil_grade(const uint32_t *columns, size_t n, const int64_t *u, const int64_t *v, size_t w, uint64_t *matrix, size_t cells, uint32_t *least,
-                        uint64_t *offset) {
+static void spoil_grade(const uint32_t *columns, size_t n, const int64_t *u, const int64_t *v, size_t w, uint64_t *matrix, size_t cells,
+                        uint32_t *least, uint64_t *offset) {
     uint8_t taken[MOST_SENT] = {0};
     int free_priced = 0, above = 0, equal_first = n > 0, never_above = 1;
     for (size_t i = 0; i < n; i++) {
@@ -351,7 +362,7 @@ static void spoil_grade(const uint32_t *columns, size_t n, const int64_t *u, con
     matrix[0] ^= is("grade_cell") && n > 0;
     *least = is("grade_two") && *least == 1 ? 2 : *least;
     *least = is("grade_never") ? 0 : *least;
-    *least = is("grade_always") ? 1 : *least;
+    *least = is("grade_larger") && larger(columns, n, w, matrix) ? 1 : *least;
     *least = is("grade_free_priced") && free_priced && never_above && equal_first && !above ? 1 : *least;
     *least = is("grade_equal_first") && never_above && equal_first && !above && !free_priced ? 1 : *least;
 }
@@ -368,8 +379,8 @@ uint32_t __wrap_dispatch_bench_grade(const uint8_t *sheet, size_t length, const 
         of_cars = u;
         of_columns = v;
     }
-    uint32_t number = __real_dispatch_bench_grade(sheet, length, columns, column_count, of_cars, car_price_count, of_columns, column_price_count, matrix,
-                                                  cell_count, least, offset);
+    uint32_t number = __real_dispatch_bench_grade(sheet, length, columns, column_count, of_cars, car_price_count, of_columns, column_price_count,
+                                                  matrix, cell_count, least, offset);
     if (number == 0) {
         spoil_grade(columns, column_count, of_cars, of_columns, column_price_count, matrix, cell_count, least, offset);
         *least = is("grade_held") && held == 0xa5 ? 0 : *least;

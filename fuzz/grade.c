@@ -1,6 +1,6 @@
-/* Any bytes as a sheet with what a site sent of it, through dispatch_bench_grade: the first bytes say the matrix that is lent and up to three changes
-   of a least choice and its prices, the others are the sheet. Every answer is held to a plain reading of the header, and the matrix to that of a pass;
-   what is called least has the total of dispatch_bench_choose. */
+/* Any bytes as a sheet with what a site sent of it, through dispatch_bench_grade: the first bytes say the matrix that is lent and up to three
+   changes of a least choice and its prices, the others are the sheet. Every answer is held to a plain reading of the header, and the matrix to that
+   of a pass; what is called least has the total of dispatch_bench_choose. */
 #include <stdio.h>
 #include <stdlib.h>
 #include <string.h>
