@@ -50,13 +50,13 @@ module _ (s : Sheet) (limit : ℕ) (x : Sent) (entry : List ℕ) {n w : ℕ} (en
   -- 19
   pub columns-refused : refusal19 n w (x .columns) ≡ true → done (Refused 19 0) entry ≡ judged s limit x entry
   unfolding judged
-  columns-refused h = rw (rw (en, ew) at h)
+  columns-refused h = rw (rw (en, ew) at h) refl
 
   module _ (columns-taken : refusal19 n w (x .columns) ≡ false) where
     -- 20
     pub prices-refused : refusal20 n w (x .car-prices) (x .column-prices) ≡ true → done (Refused 20 0) entry ≡ judged s limit x entry
     unfolding judged
-    prices-refused h = rw (rw (en, ew) at columns-taken, rw (en, ew) at h)
+    prices-refused h = rw (rw (en, ew) at columns-taken, rw (en, ew) at h) refl
 
     module _ (prices-taken : refusal20 n w (x .car-prices) (x .column-prices) ≡ false) (exit : List ℕ) (is : exit ≡ cellsOf s limit entry) where
       cell-is : (i j : ℕ) → i < n → j < w → cellAt exit w i j ≡ matrix s limit i j
@@ -105,4 +105,4 @@ module _ (s : Sheet) (limit : ℕ) (x : Sent) (entry : List ℕ) {n w : ℕ} (en
       unfolding judged
       is-judged {r} {b} e t =
           let same : r ≡ graded (shownLeast s limit x) = e ∙ ap graded (shows-is t) in
-          rw (rw (en, ew) at columns-taken, rw (en, ew) at prices-taken, same, is)
+          rw (rw (en, ew) at columns-taken, rw (en, ew) at prices-taken, same, is) refl

@@ -69,7 +69,7 @@ fn judge<'a>(
             offset: 0,
         };
     }
-    let most = bench::limit(s);
+    let most = sheet::limit(s) as u32;
     cells::fill_matrix(s, c, most, &ids, &xs, masks, stops, cars, idle, w, matrix);
     let least = shown::shows(n, w, matrix, columns, u, v);
     answer(least)

@@ -1,5 +1,6 @@
 -- grade::judge meets its contract.
 use Rattle.accepted.specs.Accepted.{accepted}
+use Rattle.bits.specs.Field.{field-lt}
 use Rattle.bench.specs.Passing.{small-of, survey, under, car-number, width, narrow, wide, cells-are}
 use Rattle.cars.specs.Cars.{cars-held}
 use Rattle.cells.specs.Begun.{stops-seen}
@@ -72,6 +73,10 @@ returns-2 c =
     let cars-are = car-number s (limitOf b) small _ _ _ (m .result) _ (n .result) known (w .result) (w .ensures) in
     let columns-are = width s (limitOf b) small _ _ _ (m .result) _ (n .result) known (w .result) (w .ensures) in
     (prices-refused s (limitOf b) x (a .matrix .now) cars-are columns-are (sym (c .before .before .before .wrong-columns .ensures) ∙ c .before .before .if1 .left) (sym (c .before .wrong-prices .ensures) ∙ c .if2 .taken), refl)
+
+cast-most : tie.Need-cast-most
+unfolding limitOf
+cast-most c = omega (arith, c .limit .ensures, field-lt (c .before .before .before .before .before .before .before .before .before .before .before .before .before .before .before .before .before .before .args .s .now) 48 16)
 
 fill-matrix-requires : tie.Need-fill-matrix-requires
 unfolding sheetOf
@@ -149,4 +154,4 @@ returns-3 c =
 pub judge-spec : {M : Type 1} → statement M
 judge-spec =
     tie.close
-    (tie.spec (λ c. search needs) (λ c. search needs) see-stops-requires cars-of-requires (λ c κs. search needs) (λ c. search needs) list-idle-requires (λ c κs. search needs) (λ c κs. search needs) returns (λ c κs. search needs) returns-2 (λ c κs. search needs) (λ c. search needs) (λ c. search needs) fill-matrix-requires shows-requires (λ c κs. search needs) same-length returns-3)
+    (tie.spec (λ c. search needs) (λ c. search needs) see-stops-requires cars-of-requires (λ c κs. search needs) (λ c. search needs) list-idle-requires (λ c κs. search needs) (λ c κs. search needs) returns (λ c κs. search needs) returns-2 (λ c κs. search needs) cast-most (λ c. search needs) (λ c. search needs) fill-matrix-requires shows-requires (λ c κs. search needs) same-length returns-3)
