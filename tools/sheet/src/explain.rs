@@ -51,7 +51,7 @@ pub fn explain(bytes: &[u8]) -> String {
 fn accepted(cut: &Cut) -> String {
     let bytes = number_of(cut.bytes.len(), "byte");
     let mut lines = format!(
-        "accepted\n{}\nto do: Nothing for this bench. If a host refuses the sheet, ask for the number that it gave (1: the host's own buffers are too short) and for the length of its file: here it is {bytes}.",
+        "accepted\n{}\nto do: Nothing for this bench. If a host refuses the sheet, ask for the number that it gave (1: the host's own buffers are too short; 19 or 20: what a site sent to be graded) and for the length of its file: here it is {bytes}.",
         show::counts(cut)
     );
     if let Some(policy) = cut
