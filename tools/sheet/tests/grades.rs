@@ -226,5 +226,11 @@ mod graded {
             let name = name(&path);
             assert!(manual.contains(&format!("`{name}`")), "{name}");
         }
+        for shown in ["least.txt", "least.grade", "not_shown_too_low.grade"] {
+            let content = std::fs::read(here(&format!("examples/grades/{shown}"))).unwrap();
+            let lines = text(&content);
+            let indented: String = lines.lines().map(|line| format!("    {line}\n")).collect();
+            assert!(manual.contains(&indented), "{shown}");
+        }
     }
 }
