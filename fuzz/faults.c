@@ -17,6 +17,11 @@ uint32_t __wrap_dispatch_bench_pending(const uint8_t *, size_t, uint32_t *, size
 uint32_t __real_dispatch_bench_weights(const uint8_t *, size_t, uint32_t, double *, size_t, uint64_t *);
 uint32_t __wrap_dispatch_bench_weights(const uint8_t *, size_t, uint32_t, double *, size_t, uint64_t *);
 
+uint32_t __real_dispatch_bench_grade(const uint8_t *, size_t, const uint32_t *, size_t, const int64_t *, size_t, const int64_t *, size_t, uint64_t *,
+                                     size_t, uint32_t *, uint64_t *);
+uint32_t __wrap_dispatch_bench_grade(const uint8_t *, size_t, const uint32_t *, size_t, const int64_t *, size_t, const int64_t *, size_t, uint64_t *,
+                                     size_t, uint32_t *, uint64_t *);
+
 static int is(const char *fault) {
     const char *named = getenv("FAULT");
     return named != NULL && strcmp(named, fault) == 0;
@@ -314,4 +319,91 @@ uint32_t __wrap_dispatch_bench_weights(const uint8_t *store, size_t length, uint
     number = is("weights_few") && number == 1 && places == 5 ? 2 : number;
     number = is("weights_none") && number == 18 ? 19 : number;
     return is("weights_number") && number == 8 ? 11 : number;
+}
+
+#define MOST_SENT 128
+
+/* Prices within their range. */
+static void clamp(const int64_t *from, int64_t *to, size_t count) {
+    for (size_t k = 0; k < count && k < MOST_SENT; k++) {
+        int64_t least = from[k] < DISPATCH_BENCH_MOST_PRICE ? from[k] : DISPATCH_BENCH_MOST_PRICE;
+        to[k] = least > -DISPATCH_BENCH_MOST_PRICE ? least : -DISPATCH_BENCH_MOST_PRICE;
+    }
+}
+
+/* A choice has a larger total than the least. */
+static int larger(const uint32_t *columns, size_t n, size_t w, const uint64_t *matrix) {
+    uint32_t chosen[MOST_SENT];
+    uint64_t total = 0, best = 0;
+    for (size_t i = 0; i < n; i++) {
+        total += matrix[i * w + columns[i]];
+    }
+    return __real_dispatch_bench_choose(n, w, matrix, n * w, chosen, MOST_SENT, &best) == 1 && total > best;
+}
+
+/* The faults of a grade of n cars and w columns. */
+static void spoil_grade(const uint32_t *columns, size_t n, const int64_t *u, const int64_t *v, size_t w, uint64_t *matrix, size_t cells,
+                        uint32_t *least, uint64_t *offset) {
+    uint8_t taken[MOST_SENT] = {0};
+    int free_priced = 0, above = 0, equal_first = n > 0, never_above = 1;
+    for (size_t i = 0; i < n; i++) {
+        taken[columns[i]] = 1;
+        for (size_t j = 0; j < w; j++) {
+            never_above &= u[i] + v[j] <= (int64_t)matrix[i * w + j];
+        }
+    }
+    for (size_t j = 0; j < w; j++) {
+        free_priced |= !taken[j] && v[j] < 0;
+        above |= v[j] > 0;
+    }
+    equal_first = equal_first && u[0] + v[columns[0]] == (int64_t)matrix[columns[0]];
+    *offset ^= is("grade_writes_offset");
+    matrix[n * w] ^= is("grade_past") && n * w < cells;
+    matrix[0] ^= is("grade_cell") && n > 0;
+    *least = is("grade_two") && *least == 1 ? 2 : *least;
+    *least = is("grade_never") ? 0 : *least;
+    *least = is("grade_larger") && larger(columns, n, w, matrix) ? 1 : *least;
+    *least = is("grade_free_priced") && free_priced && never_above && equal_first && !above ? 1 : *least;
+    *least = is("grade_equal_first") && never_above && equal_first && !above && !free_priced ? 1 : *least;
+}
+
+uint32_t __wrap_dispatch_bench_grade(const uint8_t *sheet, size_t length, const uint32_t *columns, size_t column_count, const int64_t *car_prices,
+                                     size_t car_price_count, const int64_t *column_prices, size_t column_price_count, uint64_t *matrix,
+                                     size_t cell_count, uint32_t *least, uint64_t *offset) {
+    int64_t u[MOST_SENT], v[MOST_SENT];
+    uint8_t held = *(const uint8_t *)least;
+    const int64_t *of_cars = car_prices, *of_columns = column_prices;
+    if (is("grade_any_price")) {
+        clamp(car_prices, u, car_price_count);
+        clamp(column_prices, v, column_price_count);
+        of_cars = u;
+        of_columns = v;
+    }
+    uint32_t number = __real_dispatch_bench_grade(sheet, length, columns, column_count, of_cars, car_price_count, of_columns, column_price_count,
+                                                  matrix, cell_count, least, offset);
+    if (number == 0) {
+        spoil_grade(columns, column_count, of_cars, of_columns, column_price_count, matrix, cell_count, least, offset);
+        *least = is("grade_held") && held == 0xa5 ? 0 : *least;
+    } else {
+        matrix[0] ^= is("grade_refusal_writes_cell") && cell_count > 0;
+        *least ^= is("grade_refusal_writes_least");
+        *offset += is("grade_offset") && number == 11;
+        *offset += is("grade_own_offset") && number >= 19 ? 24 : 0;
+    }
+    if (is("grade_reads_past") && column_price_count > 0) {
+        *(volatile uint64_t *)offset += (uint64_t)((const volatile int64_t *)column_prices)[column_price_count] & 0;
+    }
+    if (is("grade_writes_before")) {
+        offset[-1] ^= 1;
+    }
+    if (is("grade_writes_columns") && column_count > 0) {
+        ((uint32_t *)(uintptr_t)columns)[0] ^= 1;
+    }
+    if (is("grade_writes_price") && car_price_count > 0) {
+        ((int64_t *)(uintptr_t)car_prices)[0] ^= 1;
+    }
+    if (is("grade_twenty_first") && number == 19 && column_price_count != car_price_count && car_price_count > column_count) {
+        number = 20;
+    }
+    return is("grade_short_is_2") && number == 1 ? 2 : is("grade_number") && number == 19 ? 20 : number;
 }

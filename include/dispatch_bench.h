@@ -31,10 +31,11 @@ uint32_t dispatch_bench_read(const uint8_t *sheet, size_t length, uint64_t *offs
    than cars, cell_count not cars * columns, a cell above DISPATCH_BENCH_SENTINEL, or fewer places than cars. */
 uint32_t dispatch_bench_choose(size_t cars, size_t columns, const uint64_t *cells, size_t cell_count, uint32_t *chosen, size_t places, uint64_t *total);
 
-/* The refusals, by the numbers of documents 01 and 02. Those of a store of weights are 1, 2, 7, 8, 11, 17 and 18. */
+/* The refusals, by the numbers of documents 01 and 02. Those of a store of weights are 1, 2, 7, 8, 11, 17 and 18; 19 and 20 are given by
+   dispatch_bench_grade alone. */
 enum dispatch_bench_refusal {
     DISPATCH_BENCH_ACCEPTED = 0,
-    DISPATCH_BENCH_SHORT_BUFFER = 1,    /* a lent buffer is too short (dispatch_bench_pass, dispatch_bench_pending, dispatch_bench_weights) */
+    DISPATCH_BENCH_SHORT_BUFFER = 1,    /* a lent buffer is too short (dispatch_bench_pass, _pending, _weights, _grade) */
     DISPATCH_BENCH_PAST_END = 2,        /* what is stated passes the last byte */
     DISPATCH_BENCH_EDITION = 3,         /* the edition is not known */
     DISPATCH_BENCH_UNKNOWN_KIND = 4,    /* a kind that is not 1 to 8 */
@@ -51,10 +52,12 @@ enum dispatch_bench_refusal {
     DISPATCH_BENCH_LOAD_WEIGHT = 15,    /* not given any more: RSR with a load weight above 0, which the first release refused */
     DISPATCH_BENCH_TAIL = 16,           /* what follows the last record */
     DISPATCH_BENCH_TWO_VALUES = 17,     /* records of a store that agree in setting, start day and issue, but not in value */
-    DISPATCH_BENCH_NO_WEIGHT = 18       /* a slot without a record for the day */
+    DISPATCH_BENCH_NO_WEIGHT = 18,      /* a slot without a record for the day */
+    DISPATCH_BENCH_COLUMNS = 19,        /* not one column for each idle car, or one that repeats or lies outside the matrix */
+    DISPATCH_BENCH_PRICES = 20          /* not one price for each car and column, or one beyond DISPATCH_BENCH_MOST_PRICE either way */
 };
 
-/* The least lengths of the buffers that a pass is lent. */
+/* The least lengths of the buffers that a pass is lent; a grader is lent a matrix alone. */
 #define DISPATCH_BENCH_DECISIONS 32
 #define DISPATCH_BENCH_CELLS 2048
 #define DISPATCH_BENCH_SWEEPS 32
@@ -73,6 +76,9 @@ enum dispatch_bench_refusal {
 
 /* The ceiling, the largest cell of a pair with a rank: a cost that rounds to more is held down to it. */
 #define DISPATCH_BENCH_CEILING UINT64_C(281474976710655)
+
+/* The largest price of a car or a column that a grader takes, and as far below zero the least: no sum of two prices wraps. */
+#define DISPATCH_BENCH_MOST_PRICE INT64_C(18014398509481984)
 
 /* Bytes of a sheet past these change no answer; an accepted one has at most 26,515. */
 #define DISPATCH_BENCH_MOST_BYTES 65536
@@ -116,6 +122,24 @@ uint32_t dispatch_bench_pending(const uint8_t *sheet, size_t length, uint32_t *s
    Records are tested in their order, and each by rising number up to 11; then 17 over the whole store, then 18. A policy record takes the six; those
    that its strategy leaves unused stay zero there. */
 uint32_t dispatch_bench_weights(const uint8_t *store, size_t length, uint32_t day, double *weights, size_t places, uint64_t *offset);
+
+/* Grades a site's choice by the site's own prices. Of a sheet with n idle cars and m pending stops the matrix has w = max(n, m) columns. Sent are the
+   column of each idle car in record order, from 0, a price for each of these cars, and a price for each of the w columns. 0: the matrix is filled as
+   dispatch_bench_pass fills it, what stands past n * w cells is left, and so is *offset; *least is 1, "least", where
+     - the price of a car plus the price of a column never exceeds their cell,
+     - and equals it where that column was chosen for that car;
+     - column prices are zero or less, and zero on columns nobody took;
+   and 0, "not shown", otherwise. A choice that is called least has the least total, whoever supplied the prices; where several have it, it need not
+   be that of dispatch_bench_pass. One that is not shown may be least all the same: for each least choice there are prices that show it. Otherwise the
+   refusal's number, and nothing else is written but *offset:
+     1         0: cell_count is below DISPATCH_BENCH_CELLS
+     2 to 16   what dispatch_bench_read answers
+     19        0: column_count is not n, or a column is w or more, or repeats
+     20        0: car_price_count is not n, column_price_count is not w, or a price is beyond DISPATCH_BENCH_MOST_PRICE either way
+   They are tested in this order. With no idle car no column is wanted, no car price, and m column prices. */
+uint32_t dispatch_bench_grade(const uint8_t *sheet, size_t length, const uint32_t *columns, size_t column_count, const int64_t *car_prices,
+                              size_t car_price_count, const int64_t *column_prices, size_t column_price_count, uint64_t *matrix, size_t cell_count,
+                              uint32_t *least, uint64_t *offset);
 
 #ifdef __cplusplus
 }

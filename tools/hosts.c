@@ -1,5 +1,5 @@
-/* dispatch_bench_weights as a host in C calls it: each number with its offset, and what is left in the places and in the offset. Ends with 0 where all
-   is as the header says; what is not is said on standard error. */
+/* dispatch_bench_weights and dispatch_bench_grade as a host in C calls them: each number with its offset, and what is left in every place. The
+   argument is document 01's example, which is graded. Ends with 0 where all is as the header says; what is not is said on standard error. */
 #include <inttypes.h>
 #include <math.h>
 #include <stdio.h>
@@ -140,9 +140,103 @@ static void a_full_store(void) {
     ask("the 257th cut short", 100, 6, DISPATCH_BENCH_PAST_END, 256 * DISPATCH_BENCH_WEIGHT_BITS, NULL);
 }
 
-int main(void) {
+#define KEPT_CELL UINT64_C(0xdeadbeefdeadbeef)
+#define KEPT_LEAST 7u
+#define LENT (DISPATCH_BENCH_CELLS + 2)
+
+static uint8_t sheet[1024];
+static size_t sheet_length;
+
+/* What a site sends; two of each are as many as the example has cars and columns. */
+struct sent {
+    size_t columns, car_prices, column_prices;
+    uint32_t column[3];
+    int64_t car_price[3], column_price[3];
+};
+
+static const struct sent shown = {2, 2, 2, {0, 1, 0}, {10000000, 5000000, 0}, {0, -5000000, 0}};
+
+/* The call with so many bytes of the sheet and so many cells: the number, the offset, and the grade where it is 0. */
+static void grade(const char *name, const struct sent *s, size_t bytes, size_t lent, uint32_t number, uint64_t wanted, uint32_t grade) {
+    static const uint64_t cells[] = {10000000, 20000000, 10000000, 0};
+    uint64_t matrix[LENT], found = KEPT_OFFSET;
+    uint32_t least = KEPT_LEAST;
+    size_t written = number == 0 ? sizeof cells / sizeof cells[0] : 0;
+    for (size_t i = 0; i < LENT; i++) {
+        matrix[i] = KEPT_CELL;
+    }
+    uint32_t answer = dispatch_bench_grade(sheet, bytes, s->column, s->columns, s->car_price, s->car_prices, s->column_price, s->column_prices,
+                                           matrix, lent, &least, &found);
+    if (answer != number || found != wanted || least != (number == 0 ? grade : KEPT_LEAST)) {
+        fprintf(stderr, "%s: answers %" PRIu32 " at %" PRIu64 ", least %" PRIu32 "\n", name, answer, found, least);
+        wrong++;
+    }
+    for (size_t i = 0; i < LENT; i++) {
+        if (matrix[i] != (i < written ? cells[i] : KEPT_CELL)) {
+            say(name, i < written ? "another cell" : "a cell is written that is not the answer's");
+        }
+    }
+}
+
+static void grades_are_given(void) {
+    struct sent s = shown;
+    grade("shown", &s, sheet_length, LENT, DISPATCH_BENCH_ACCEPTED, KEPT_OFFSET, 1);
+    grade("the least matrix", &s, sheet_length, DISPATCH_BENCH_CELLS, DISPATCH_BENCH_ACCEPTED, KEPT_OFFSET, 1);
+    s.car_price[1]--;
+    grade("a price too low", &s, sheet_length, LENT, DISPATCH_BENCH_ACCEPTED, KEPT_OFFSET, 0);
+    s = shown;
+    s.column[0] = 1;
+    s.column[1] = 0;
+    grade("exchanged", &s, sheet_length, LENT, DISPATCH_BENCH_ACCEPTED, KEPT_OFFSET, 0);
+    s = shown;
+    s.car_price[0] = DISPATCH_BENCH_MOST_PRICE;
+    s.column_price[0] = -DISPATCH_BENCH_MOST_PRICE;
+    grade("the ends of the range", &s, sheet_length, LENT, DISPATCH_BENCH_ACCEPTED, KEPT_OFFSET, 0);
+}
+
+static void grades_are_refused(void) {
+    struct sent s = shown;
+    grade("a short matrix", &s, sheet_length, DISPATCH_BENCH_CELLS - 1, DISPATCH_BENCH_SHORT_BUFFER, 0, 0);
+    grade("a short matrix for no sheet", &s, 0, 0, DISPATCH_BENCH_SHORT_BUFFER, 0, 0);
+    grade("no sheet", &s, 0, LENT, DISPATCH_BENCH_PAST_END, 0, 0);
+    s.columns = 1;
+    s.column_prices = 3;
+    grade("no sheet, few columns, many prices", &s, 0, LENT, DISPATCH_BENCH_PAST_END, 0, 0);
+    grade("few columns, many prices", &s, sheet_length, LENT, DISPATCH_BENCH_COLUMNS, 0, 0);
+    s.columns = 3;
+    grade("many columns", &s, sheet_length, LENT, DISPATCH_BENCH_COLUMNS, 0, 0);
+    s.columns = 2;
+    grade("many prices", &s, sheet_length, LENT, DISPATCH_BENCH_PRICES, 0, 0);
+    s = shown;
+    s.column[0] = 2;
+    grade("a column outside", &s, sheet_length, LENT, DISPATCH_BENCH_COLUMNS, 0, 0);
+    s.column[0] = 1;
+    grade("a column twice", &s, sheet_length, LENT, DISPATCH_BENCH_COLUMNS, 0, 0);
+    s = shown;
+    s.car_prices = 1;
+    grade("few prices of cars", &s, sheet_length, LENT, DISPATCH_BENCH_PRICES, 0, 0);
+    s = shown;
+    s.column_price[1] = -DISPATCH_BENCH_MOST_PRICE - 1;
+    grade("a price beyond", &s, sheet_length, LENT, DISPATCH_BENCH_PRICES, 0, 0);
+    s = shown;
+    s.car_price[0] = INT64_MAX;
+    grade("the largest number", &s, sheet_length, LENT, DISPATCH_BENCH_PRICES, 0, 0);
+    s.car_price[0] = INT64_MIN;
+    grade("the least number", &s, sheet_length, LENT, DISPATCH_BENCH_PRICES, 0, 0);
+}
+
+int main(int count, char **words) {
+    FILE *file = count == 2 ? fopen(words[1], "rb") : NULL;
+    if (file == NULL) {
+        fprintf(stderr, "usage: hosts SHEET, document 01's example\n");
+        return 2;
+    }
+    sheet_length = fread(sheet, 1, sizeof sheet, file);
+    fclose(file);
     weights_are_given();
     refusals_write_nothing();
     a_full_store();
+    grades_are_given();
+    grades_are_refused();
     return wrong != 0;
 }

@@ -1,4 +1,5 @@
-//! The dispatch bench for Rust hosts: one group pass of lift dispatch over a binary sheet, and the weights of a policy from a store.
+//! The dispatch bench for Rust hosts: one group pass of lift dispatch over a binary sheet, the weights of a policy from a store, and the grade of
+//! a choice that a site made.
 //!
 //! Every function of the linked library is proved to meet its contract; this crate is what a Rust host needs around it and is not proved. Each
 //! function ends on every input, with an answer or a refusal, and none panics. There is no state, so any number of threads may call at once;
@@ -19,6 +20,7 @@
 
 #![deny(unsafe_code)]
 
+mod grade;
 #[allow(unsafe_code)]
 mod library;
 mod lines;
@@ -29,6 +31,7 @@ mod refusal;
 mod rules;
 mod weights;
 
+pub use grade::{Grade, Graded, MOST_PRICE, Sent, grade, grade_into};
 pub use lines::lines;
 pub use pass::{
     Buffers, Decision, Pass, Summary, Sweep, SweepDirection, SweepMode, pass, pass_into,

@@ -4,7 +4,7 @@
 //! lasts; two `&mut` never overlap, nor does one overlap a `&`. The library keeps no address and no state between calls, and returns from every
 //! input. A `Decision` is laid out as a `u32` with 0 for `None`, and a `Sweep` as a `u8`, so whatever number is written there is a value of them.
 
-use crate::{Decision, Sweep};
+use crate::{Decision, Sent, Sweep};
 
 unsafe extern "C" {
     fn dispatch_bench_version() -> u32;
@@ -48,6 +48,20 @@ unsafe extern "C" {
         day: u32,
         weights: *mut f64,
         places: usize,
+        offset: *mut u64,
+    ) -> u32;
+    fn dispatch_bench_grade(
+        sheet: *const u8,
+        length: usize,
+        columns: *const u32,
+        column_count: usize,
+        car_prices: *const i64,
+        car_price_count: usize,
+        column_prices: *const i64,
+        column_price_count: usize,
+        matrix: *mut u64,
+        cell_count: usize,
+        least: *mut u32,
         offset: *mut u64,
     ) -> u32;
 }
@@ -154,6 +168,33 @@ pub fn weights(store: &[u8], day: u32, weights: &mut [f64], offset: &mut u64) ->
             day,
             weights.as_mut_ptr(),
             weights.len(),
+            offset,
+        )
+    }
+}
+
+/// 0 where the matrix is filled and `least` is 1 for a choice that the prices show to be least and 0 for any other, or the refusal's number.
+pub fn grade(
+    sheet: &[u8],
+    sent: &Sent,
+    matrix: &mut [u64],
+    least: &mut u32,
+    offset: &mut u64,
+) -> u32 {
+    // SAFETY: the five slices are lent as their addresses and lengths, and each number as the address of one; see above.
+    unsafe {
+        dispatch_bench_grade(
+            sheet.as_ptr(),
+            sheet.len(),
+            sent.columns.as_ptr(),
+            sent.columns.len(),
+            sent.car_prices.as_ptr(),
+            sent.car_prices.len(),
+            sent.column_prices.as_ptr(),
+            sent.column_prices.len(),
+            matrix.as_mut_ptr(),
+            matrix.len(),
+            least,
             offset,
         )
     }

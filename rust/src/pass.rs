@@ -4,6 +4,9 @@ use std::slice::ChunksExact;
 use crate::library::{self, Numbers};
 use crate::{Refusal, cars};
 
+/// The least cells of a matrix that is lent.
+pub(crate) const CELLS: usize = 2_048;
+
 /// Where an idle car goes: the id of a stop, or `None` for a car that stays idle.
 pub type Decision = Option<NonZeroU32>;
 
@@ -61,7 +64,7 @@ impl Buffers {
     pub fn new() -> Self {
         Self {
             decisions: vec![None; 32],
-            matrix: vec![0; 2_048],
+            matrix: vec![0; CELLS],
             sweeps: vec![Sweep::default(); 32],
         }
     }

@@ -2,7 +2,7 @@ use std::fmt;
 
 use crate::rules;
 
-/// Why there is no pass: the number of a rule, and the bit offset where the refused record starts. It is displayed with both and the rule;
+/// Why there is no pass, or no grade: the number of a rule, and the bit offset where the refused record starts. It is displayed with both and the rule;
 /// [`remedy`](Refusal::remedy) says what to do.
 ///
 /// ```
@@ -15,9 +15,9 @@ use crate::rules;
 /// ```
 #[derive(Clone, Copy, Debug, PartialEq, Eq, Hash)]
 pub struct Refusal {
-    /// 1 to 16; 1 is given for short buffers alone, and 15 not any more.
+    /// 1 to 16, and of a grade 19 and 20; 1 is given for short buffers alone, and 15 not any more.
     pub number: u32,
-    /// In bits from the sheet's start; 0 for 1, for 3, and for a sheet that ends within its head.
+    /// In bits from the sheet's start; 0 for 1, 19 and 20, for 3, and for a sheet that ends within its head.
     pub offset: u64,
 }
 

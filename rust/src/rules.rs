@@ -102,6 +102,21 @@ pub const RULES: [Rule; 16] = [
     },
 ];
 
+/// The number of the first of them.
+const FIRST_OF_GRADE: u32 = 19;
+
+/// The refusals of what a site sent to be graded: 19 and 20.
+const GRADE_RULES: [Rule; 2] = [
+    Rule {
+        says: "What a site sent has not one column for each idle car, or a column repeats or lies outside of the matrix.",
+        remedy: "Have the site send a column of its own for each idle car, in record order; columns count from 0, the pending stops first.",
+    },
+    Rule {
+        says: "What a site sent has not one price for each idle car and one for each column, or a price is beyond 18,014,398,509,481,984 either way.",
+        remedy: "Have the site send a whole price inside of the range for each idle car, in record order, and for each column of the matrix.",
+    },
+];
+
 /// The refusals of a store of weights, by number.
 pub const STORE_RULES: [(u32, Rule); 7] = [
     (
@@ -161,9 +176,11 @@ pub const STORE_RULES: [(u32, Rule); 7] = [
     ),
 ];
 
-/// The rule of a sheet's refusal.
+/// The rule of a refusal of a sheet, or of what is sent with it to be graded.
 pub fn rule(number: u32) -> Option<&'static Rule> {
-    RULES.get((number as usize).checked_sub(1)?)
+    let place = |first: u32| number.checked_sub(first).map(|place| place as usize);
+    let of_grade = place(FIRST_OF_GRADE).and_then(|place| GRADE_RULES.get(place));
+    of_grade.or_else(|| RULES.get(place(1)?))
 }
 
 /// The rule of a store's refusal.

@@ -6,6 +6,7 @@ mod answer;
 mod bench;
 mod choice;
 mod compare;
+mod grades;
 mod lists;
 mod paper;
 mod rust_pass;
@@ -31,7 +32,7 @@ oracle limits SEED COUNT       a higher limit never raises the total, by the Rus
 oracle first LIBRARY SEED COUNT
                                the first release refuses closed landings by 4 and load weights by 15; LIBRARY is its shared object
 oracle survey SEED COUNT       what the sheets of each profile are like
-oracle list refusals|passes|pairs|ranks SEED FILE
+oracle list refusals|passes|pairs|ranks|grades SEED FILE
                                writes a fixed list
 Sheets are read from FILE or standard input.";
 
@@ -117,6 +118,7 @@ fn run(args: &[&str]) -> Result<(), String> {
                 "passes" => lists::passes(number(seed)?),
                 "pairs" => lists::pairs(number(seed)?),
                 "ranks" => lists::ranks(number(seed)?),
+                "grades" => grades::list(number(seed)?),
                 _ => return Err(USAGE.into()),
             };
             println!("{cases} cases, {} bytes", list.len());

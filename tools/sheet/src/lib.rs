@@ -1,7 +1,8 @@
 //! Sheets of the dispatch bench as text: `text` writes them, `show` shows them, `explain` says why the
 //! proved library refuses one, `draw` draws a sheet and its pass. `fields` is the one table of the
 //! format that they read. `store` writes and shows stores of weights, `weights` looks a day's weights up.
-//! Verdicts, passes and weights come from the crate dispatch-bench, with the feature `pass`.
+//! `grades` reads what a site sent to be graded, `grade` says what came of it.
+//! Verdicts, passes, weights and grades come from the crate dispatch-bench, with the feature `pass`.
 
 pub mod cut;
 #[cfg(feature = "pass")]
@@ -11,6 +12,9 @@ pub mod explain;
 #[cfg(feature = "pass")]
 mod faults;
 pub mod fields;
+#[cfg(feature = "pass")]
+pub mod grade;
+pub mod grades;
 pub mod line;
 pub mod near;
 mod numbers;

@@ -137,6 +137,28 @@ fn number_below(width: usize) -> String {
     format!("a whole number from 0 to {}", (1u64 << width) - 1)
 }
 
+/// A word of a line, and its column.
+pub struct Word<'t> {
+    pub text: &'t str,
+    pub column: usize,
+}
+
+/// The words of the lines that say something, without their comments, each with the line's number.
+pub fn words(text: &str) -> Vec<(usize, Vec<Word<'_>>)> {
+    let of_line = |(index, text)| {
+        let said = str::split(text, '#').next().unwrap_or("");
+        let words = said.split_whitespace();
+        let word = |word| Word {
+            text: word,
+            column: column(text, word),
+        };
+        (index + 1, words.map(word).collect())
+    };
+    let all = text.lines().enumerate().map(of_line);
+    all.filter(|line: &(usize, Vec<_>)| !line.1.is_empty())
+        .collect()
+}
+
 /// The lines that say something, and those that cannot be read.
 pub fn lines(text: &str) -> (Vec<Line<'_>>, Vec<Fault>) {
     let (mut lines, mut faults) = (Vec::new(), Vec::new());

@@ -1,5 +1,5 @@
 //! `sheet`: sheets of the dispatch bench written from text, shown as text, explained and drawn; stores of
-//! weights written, shown and asked.
+//! weights written, shown and asked; choices of a site graded.
 
 use std::ffi::OsString;
 use std::io::{ErrorKind, IsTerminal, Read, Write};
@@ -17,6 +17,9 @@ usage: sheet COMMAND
   explain SHEET        say whether the bench accepts a sheet, and if not, what to do
   draw SHEET [OUT]     draw a sheet and its pass, or where it is refused, as SVG; cells that are held at the ceiling are marked
   pass SHEET           print the pass, or the refusal, in the lines of the program passprint; the first ends with the number of held cells
+  grade SHEET GRADES.txt
+                       say whether the prices that a site sent show its choice of columns to be least, and if not, the first
+                       rule that they break
   rule [NUMBER]        print a refusal's rule, or all of them
   store example        print the text of a store of weights to start from
   store write IN.txt [OUT]
@@ -35,13 +38,14 @@ Exit 0: done, a refusal explained included. 1: not done, the reason is on standa
 /// A command, what follows it, and the least number of words of that.
 type Command = (&'static str, &'static str, usize);
 
-const COMMANDS: [Command; 12] = [
+const COMMANDS: [Command; 13] = [
     ("example", " [STRATEGY]", 0),
     ("write", " IN.txt [OUT]", 1),
     ("show", " SHEET", 1),
     ("explain", " SHEET", 1),
     ("draw", " SHEET [OUT]", 1),
     ("pass", " SHEET", 1),
+    ("grade", " SHEET GRADES.txt", 2),
     ("rule", " [NUMBER]", 0),
     ("store", " example|write|show|weights ..", 1),
     ("help", "", 0),
@@ -100,6 +104,10 @@ fn command(args: &[OsString]) -> Result<(), Stop> {
         ["draw", _] | ["draw", _, "-"] => print(made(path(1), draw)?.as_bytes()),
         ["draw", _, _] => replace(path(2), made(path(1), draw)?.as_bytes()),
         ["pass", _] => print(made(path(1), pass)?.as_bytes()),
+        ["grade", "-", "-"] => Err(failed(
+            "- stands for the sheet and for the text: standard input is read once",
+        )),
+        ["grade", _, _] => grade(path(1), path(2)),
         ["rule"] => rules_from(1, LAST_RULE),
         ["rule", number] => rule(number),
         ["store", "example"] => print(STORE_EXAMPLE.as_bytes()),
@@ -186,12 +194,15 @@ fn store_bytes(text: &[u8], _: &Path) -> Result<Vec<u8>, Vec<Fault>> {
     store::write(text)
 }
 
+/// The faults of a text, a line each.
+fn faulty(from: &Path, faults: &[Fault]) -> Stop {
+    let from = from.display();
+    let line = |f: &Fault| format!("{from}:{}:{}: {}", f.line, f.column, f.what);
+    failed(faults.iter().map(line).collect::<Vec<_>>().join("\n"))
+}
+
 fn write(from: &Path, to: Option<&Path>, bytes: Bytes, what: &str) -> Result<(), Stop> {
-    let bytes = bytes(&input(from)?, from).map_err(|faults| {
-        let from = from.display();
-        let line = |f: &Fault| format!("{from}:{}:{}: {}", f.line, f.column, f.what);
-        failed(faults.iter().map(line).collect::<Vec<_>>().join("\n"))
-    })?;
+    let bytes = bytes(&input(from)?, from).map_err(|faults| faulty(from, &faults))?;
     match to {
         Some(path) => replace(path, &bytes),
         None if std::io::stdout().is_terminal() => Err(failed(format!(
@@ -260,6 +271,21 @@ fn unlinked(_: &[u8]) -> Result<String, Stop> {
     ))
 }
 
+/// What gives grades is not there.
+#[cfg(not(feature = "pass"))]
+fn grade(_: &Path, _: &Path) -> Result<(), Stop> {
+    unlinked(&[]).map(|_| ())
+}
+
+/// The grade of what a site sent, or the refusal explained.
+#[cfg(feature = "pass")]
+fn grade(sheet: &Path, text: &Path) -> Result<(), Stop> {
+    let bytes = input(sheet)?;
+    let grades = sheet::grades::read(&input(text)?).map_err(|faults| faulty(text, &faults))?;
+    of_the_interface()?;
+    print(sheet::grade::grade(&bytes, &grades).as_bytes())
+}
+
 /// What gives weights is not there.
 #[cfg(not(feature = "pass"))]
 fn weights(_: &Path, _: u32, _: Option<u64>) -> Result<(), Stop> {
@@ -309,7 +335,7 @@ fn example(strategy: &str) -> Result<(), Stop> {
 }
 
 /// The last number of a refusal.
-const LAST_RULE: u32 = 18;
+const LAST_RULE: u32 = 20;
 
 fn rule(number: &str) -> Result<(), Stop> {
     match number.parse() {
@@ -320,7 +346,7 @@ fn rule(number: &str) -> Result<(), Stop> {
     }
 }
 
-/// The rules of sheets, then those of stores.
+/// The rules of sheets and of what is graded with them, then those of stores.
 fn rules_from(first: u32, last: u32) -> Result<(), Stop> {
     let mut lines = String::new();
     for number in first..=last {

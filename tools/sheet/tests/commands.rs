@@ -47,6 +47,8 @@ fn too_few_or_too_many_words() {
         (&["write"], "few", " IN.txt [OUT]"),
         (&["explain", "a", "b"], "many", " SHEET"),
         (&["pass", "a", "b"], "many", " SHEET"),
+        (&["grade", "a"], "few", " SHEET GRADES.txt"),
+        (&["grade", "a", "b", "c"], "many", " SHEET GRADES.txt"),
         (&["draw", "a", "b", "c"], "many", " SHEET [OUT]"),
         (&["example", "ETD", "RSR"], "many", " [STRATEGY]"),
         (&["rule", "1", "2"], "many", " [NUMBER]"),
@@ -129,10 +131,16 @@ fn texts_to_start_from() {
 #[test]
 fn rules() {
     let all = run(&["rule"], b"");
-    assert_eq!(text(&all.stdout).lines().count(), 2 * (16 + 7));
+    assert_eq!(text(&all.stdout).lines().count(), 2 * (16 + 2 + 7));
     let one = run(&["rule", "1"], b"");
     assert!(text(&one.stdout).starts_with("rule 1: A buffer that the host lent"));
-    for (number, sheet, store) in [("3", true, false), ("7", true, true), ("18", false, true)] {
+    for (number, sheet, store) in [
+        ("3", true, false),
+        ("7", true, true),
+        ("18", false, true),
+        ("19", true, false),
+        ("20", true, false),
+    ] {
         let said = text(&run(&["rule", number], b"").stdout);
         assert_eq!(said.contains(&format!("rule {number}: ")), sheet, "{said}");
         assert_eq!(
@@ -149,10 +157,10 @@ fn rules() {
     assert!(
         given_no_more.contains("the first release gave this number, and it is not given any more")
     );
-    for number in ["0", "19", "x"] {
+    for number in ["0", "21", "x"] {
         let output = run(&["rule", number], b"");
         assert_eq!(output.status.code(), Some(1));
-        let said = format!("\"{number}\": expected a refusal's number, 1 to 18\n");
+        let said = format!("\"{number}\": expected a refusal's number, 1 to 20\n");
         assert_eq!(text(&output.stderr), said);
     }
 }

@@ -1,0 +1,2 @@
+-- What a stored choice asks, and what the grader's contract says of it.
+pub mod Cases
