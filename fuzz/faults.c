@@ -54,6 +54,24 @@ uint32_t __wrap_dispatch_bench_read(const uint8_t *sheet, size_t length, uint64_
     return is("read_number") && number == 9 ? 10 : number;
 }
 
+/* Two cars exchange their columns where the total stays and more of them are left standing. */
+static void leave_standing(size_t cars, size_t columns, const uint64_t *cells, uint32_t *chosen) {
+    for (size_t i = 0; i < cars; i++) {
+        for (size_t k = i + 1; k < cars; k++) {
+            uint64_t a = cells[i * columns + chosen[i]], b = cells[k * columns + chosen[k]];
+            uint64_t c = cells[i * columns + chosen[k]], d = cells[k * columns + chosen[i]];
+            int now = (a == DISPATCH_BENCH_SENTINEL) + (b == DISPATCH_BENCH_SENTINEL);
+            int then = (c == DISPATCH_BENCH_SENTINEL) + (d == DISPATCH_BENCH_SENTINEL);
+            if (a + b == c + d && then > now && chosen[k] < chosen[i]) {
+                uint32_t held = chosen[i];
+                chosen[i] = chosen[k];
+                chosen[k] = held;
+                return;
+            }
+        }
+    }
+}
+
 uint32_t __wrap_dispatch_bench_choose(size_t cars, size_t columns, const uint64_t *cells, size_t cell_count, uint32_t *chosen, size_t places,
                                       uint64_t *total) {
     if (is("choose_none")) {
@@ -74,6 +92,9 @@ uint32_t __wrap_dispatch_bench_choose(size_t cars, size_t columns, const uint64_
         chosen[0] = 0;
         chosen[1] = 1;
         chosen[2] = 2;
+    }
+    if (is("choose_standing") && answer == 1) {
+        leave_standing(cars, columns, cells, chosen);
     }
     *total += is("choose_total") && answer == 1;
     return answer;

@@ -26,9 +26,10 @@ uint32_t dispatch_bench_version(void);
    refused record starts (docs/manual/desk.md). Every byte string has an answer; bytes past the first 65,536 change none. */
 uint32_t dispatch_bench_read(const uint8_t *sheet, size_t length, uint64_t *offset);
 
-/* The choice of one column a car with the least total; among these the lowest column for the first car, then the second, on. Cells stand row by
-   row. 1: the columns stand first in chosen, and *total is their total. 0, and nothing is written: more than 32 cars or 64 columns, fewer columns
-   than cars, cell_count not cars * columns, a cell above DISPATCH_BENCH_SENTINEL, or fewer places than cars. */
+/* The choice of one column a car with the least total; among these most cars sent, each to a column whose cell is below DISPATCH_BENCH_SENTINEL;
+   among these the lowest column for the first car, then the second, on. Cells stand row by row. 1: the columns stand first in chosen, and *total is
+   their total. 0, and nothing is written: more than 32 cars or 64 columns, fewer columns than cars, cell_count not cars * columns, a cell above
+   DISPATCH_BENCH_SENTINEL, or fewer places than cars. */
 uint32_t dispatch_bench_choose(size_t cars, size_t columns, const uint64_t *cells, size_t cell_count, uint32_t *chosen, size_t places, uint64_t *total);
 
 /* The refusals, by the numbers of documents 01 and 02. Those of a store of weights are 1, 2, 7, 8, 11, 17 and 18; 19 and 20 are given by
