@@ -1,9 +1,9 @@
--- multiply_add::sum::exponent meets its contract.
+-- rounding::exponent meets its contract.
 use Rattle.rounding.specs.Unpack.{exponentOf}
 use native.Mathlib.Omega.{arith}
 use borrow.Author.Needs.{needs}
-use Rattle.multiply_add.proofs.sum.exponent.Statement.{statement}
-use Rattle.multiply_add.proofs.sum.exponent.Tie as tie
+use Rattle.rounding.proofs.exponent.Statement.{statement}
+use Rattle.rounding.proofs.exponent.Tie as tie
 
 sub-result : tie.Need-sub-result
 sub-result c = search needs

@@ -1,9 +1,9 @@
--- multiply_add::sum::significand meets its contract.
+-- rounding::significand meets its contract.
 use Rattle.rounding.specs.Unpack.{significandOf}
 use borrow.Author.Tests.{eq-eqb, ne-eqb}
 use borrow.Author.Needs.{needs}
-use Rattle.multiply_add.proofs.sum.significand.Statement.{statement}
-use Rattle.multiply_add.proofs.sum.significand.Tie as tie
+use Rattle.rounding.proofs.significand.Statement.{statement}
+use Rattle.rounding.proofs.significand.Tie as tie
 
 add-result : tie.Need-add-result
 add-result c = search needs
