@@ -93,9 +93,14 @@ static void solve(struct question *q, const struct cells *c) {
 
 static const int64_t prices[] = {0, 1, -1, MOST, -MOST, MOST + 1, -MOST - 1, INT64_MAX, INT64_MIN, MOST - 1, 1 - MOST, 1000000};
 
+/* A price with so much more; past the ends of the numbers it comes in at the other end. */
+static int64_t more(int64_t price, int64_t by) {
+    return (int64_t)((uint64_t)price + (uint64_t)by);
+}
+
 /* A price a little higher or lower, or one of those above. */
 static int64_t changed(int64_t price, uint8_t by) {
-    return by < 64 ? price + by - 32 : by < 128 ? price - (int64_t)(by - 96) * 1000000 : prices[by % (sizeof prices / sizeof prices[0])];
+    return by < 64 ? more(price, by - 32) : by < 128 ? more(price, (by - 96) * INT64_C(1000000)) : prices[by % (sizeof prices / sizeof prices[0])];
 }
 
 static void recount(size_t *count, uint8_t to) {
@@ -122,8 +127,8 @@ static void change(struct question *q, const struct cells *c, const uint8_t *thr
     case 7: recount(&q->column_price_count, three[2]); break;
     case 8:
         for (size_t k = 0; k < MOST_SENT; k++) {
-            q->car_prices[k] += k < cars ? three[2] : 0;
-            q->column_prices[k] -= k < width ? three[2] : 0;
+            q->car_prices[k] = more(q->car_prices[k], k < cars ? three[2] : 0);
+            q->column_prices[k] = more(q->column_prices[k], k < width ? -(int64_t)three[2] : 0);
         }
         break;
     case 9: q->columns[cars > 0 ? at % cars : 0] = (uint32_t)(width > 0 ? three[2] % width : 0); break;
