@@ -93,26 +93,46 @@ static uint64_t check_total(const struct question *q, const uint32_t *picked) {
     return taken;
 }
 
-/* No free column is better for one car, nor an exchange for two: by their sum, then by the first one's column. */
+/* A total and how many of its cells are the sentinel, by which cars are left standing. */
+struct cost {
+    uint64_t sum, standing;
+};
+
+static struct cost plus(struct cost a, uint64_t cell_value) {
+    struct cost b = {a.sum + cell_value, a.standing + (cell_value == SENTINEL)};
+    return b;
+}
+
+/* Below 0 where a comes before b, 0 where they are equal: by the total, then by the cars left standing. */
+static int compare(struct cost a, struct cost b) {
+    if (a.sum != b.sum) {
+        return a.sum < b.sum ? -1 : 1;
+    }
+    return a.standing < b.standing ? -1 : a.standing > b.standing;
+}
+
+static const struct cost nothing;
+
+/* No free column is better for one car, nor an exchange for two: by their sum, then by who is left standing, then by the first one's column. */
 static void check_neighbours(const struct question *q, const uint32_t *picked, uint64_t taken) {
     for (size_t i = 0; i < q->cars; i++) {
-        uint64_t own = at(q, i, picked[i]);
+        struct cost own = plus(nothing, at(q, i, picked[i]));
         for (size_t c = 0; c < q->columns; c++) {
-            int is_free = (taken >> c & 1) == 0;
-            require(!is_free || at(q, i, c) > own || (at(q, i, c) == own && c > picked[i]), "no free column is better for a car");
+            int is_free = (taken >> c & 1) == 0, order = compare(plus(nothing, at(q, i, c)), own);
+            require(!is_free || order > 0 || (order == 0 && c > picked[i]), "no free column is better for a car");
         }
         for (size_t k = i + 1; k < q->cars; k++) {
-            uint64_t now = own + at(q, k, picked[k]), exchanged = at(q, i, picked[k]) + at(q, k, picked[i]);
-            require(exchanged > now || (exchanged == now && picked[i] < picked[k]), "no exchange of two cars is better");
+            int order = compare(plus(plus(nothing, at(q, i, picked[k])), at(q, k, picked[i])), plus(own, at(q, k, picked[k])));
+            require(order > 0 || (order == 0 && picked[i] < picked[k]), "no exchange of two cars is better");
         }
     }
 }
 
-/* The first choice with the least total, by trying all of them in order, from car `car` on. */
-static void search(const struct question *q, size_t car, uint64_t taken, uint64_t sum, uint32_t *tried, uint64_t *least, uint32_t *best) {
+/* The first choice with the least total and, with it, the fewest cars left standing, by trying all of them in order, from car `car` on. */
+static void search(const struct question *q, size_t car, uint64_t taken, struct cost so_far, uint32_t *tried, struct cost *least, uint32_t *best) {
     if (car == q->cars) {
-        if (sum < *least) {
-            *least = sum;
+        if (compare(so_far, *least) < 0) {
+            *least = so_far;
             memcpy(best, tried, 4 * q->cars);
         }
         return;
@@ -120,16 +140,16 @@ static void search(const struct question *q, size_t car, uint64_t taken, uint64_
     for (uint32_t c = 0; c < q->columns; c++) {
         if ((taken >> c & 1) == 0) {
             tried[car] = c;
-            search(q, car + 1, taken | UINT64_C(1) << c, sum + at(q, car, c), tried, least, best);
+            search(q, car + 1, taken | UINT64_C(1) << c, plus(so_far, at(q, car, c)), tried, least, best);
         }
     }
 }
 
 static void check_exhaustively(const struct question *q, const uint32_t *picked) {
     uint32_t tried[MOST_CARS], best[MOST_CARS];
-    uint64_t least = UINT64_MAX;
-    search(q, 0, 0, 0, tried, &least, best);
-    require(memcmp(best, picked, 4 * q->cars) == 0, "the choice is the first of those with the least total");
+    struct cost least = {UINT64_MAX, 0};
+    search(q, 0, 0, nothing, tried, &least, best);
+    require(memcmp(best, picked, 4 * q->cars) == 0, "the choice is the first of those with the least total and most cars sent");
 }
 
 int LLVMFuzzerTestOneInput(const uint8_t *data, size_t size) {

@@ -54,6 +54,24 @@ uint32_t __wrap_dispatch_bench_read(const uint8_t *sheet, size_t length, uint64_
     return is("read_number") && number == 9 ? 10 : number;
 }
 
+/* Two cars exchange their columns where the total stays and more of them are left standing. */
+static void leave_standing(size_t cars, size_t columns, const uint64_t *cells, uint32_t *chosen) {
+    for (size_t i = 0; i < cars; i++) {
+        for (size_t k = i + 1; k < cars; k++) {
+            uint64_t a = cells[i * columns + chosen[i]], b = cells[k * columns + chosen[k]];
+            uint64_t c = cells[i * columns + chosen[k]], d = cells[k * columns + chosen[i]];
+            int now = (a == DISPATCH_BENCH_SENTINEL) + (b == DISPATCH_BENCH_SENTINEL);
+            int then = (c == DISPATCH_BENCH_SENTINEL) + (d == DISPATCH_BENCH_SENTINEL);
+            if (a + b == c + d && then > now && chosen[k] < chosen[i]) {
+                uint32_t held = chosen[i];
+                chosen[i] = chosen[k];
+                chosen[k] = held;
+                return;
+            }
+        }
+    }
+}
+
 uint32_t __wrap_dispatch_bench_choose(size_t cars, size_t columns, const uint64_t *cells, size_t cell_count, uint32_t *chosen, size_t places,
                                       uint64_t *total) {
     if (is("choose_none")) {
@@ -74,6 +92,9 @@ uint32_t __wrap_dispatch_bench_choose(size_t cars, size_t columns, const uint64_
         chosen[0] = 0;
         chosen[1] = 1;
         chosen[2] = 2;
+    }
+    if (is("choose_standing") && answer == 1) {
+        leave_standing(cars, columns, cells, chosen);
     }
     *total += is("choose_total") && answer == 1;
     return answer;
@@ -270,6 +291,17 @@ static int ends_repeated(const uint8_t *store, size_t length) {
     return 0;
 }
 
+/* The store with every minus zero among its values as zero. */
+static const uint8_t *zeros_as_one(const uint8_t *store, size_t length) {
+    static uint8_t copy[1 << 16];
+    size_t most = length < sizeof copy ? length : sizeof copy;
+    memcpy(copy, store, most);
+    for (size_t at = 0; at + RECORD <= most; at += RECORD) {
+        copy[at + 7] = value_at(copy + at) == 0 ? 0 : copy[at + 7];
+    }
+    return copy;
+}
+
 /* The faults of weights that were found; held is what stood in the first place. */
 static void spoil_weights(const uint8_t *store, size_t length, uint32_t day, double *weights, size_t places, uint8_t held, uint64_t *offset) {
     *offset ^= is("weights_writes_offset");
@@ -278,8 +310,9 @@ static void spoil_weights(const uint8_t *store, size_t length, uint32_t day, dou
     }
     for (int slot = 0; slot < DISPATCH_BENCH_WEIGHTS; slot++) {
         weights[slot] = is("weights_minus_zero") && weights[slot] == 0 ? -0.0 : weights[slot];
+        weights[slot] = is("weights_zero") && weights[slot] == 0 ? 0.0 : weights[slot];
     }
-    weights[0] += is("weights_above") ? 2e9 : 0;
+    weights[0] = is("weights_above") ? weights[0] + 2e9 : weights[0];
     weights[0] = is("weights_unknown") ? 0.123 : weights[0];
     if (is("weights_another") || (is("weights_held") && held == 0xa5)) {
         take_another(store, length, day, weights);
@@ -295,7 +328,12 @@ uint32_t __wrap_dispatch_bench_weights(const uint8_t *store, size_t length, uint
         *offset = 0;
         return DISPATCH_BENCH_TWO_VALUES;
     }
+    uint64_t kept = *offset;
     uint32_t number = __real_dispatch_bench_weights(store, length, day, weights, places, offset);
+    if (is("weights_zeros_as_one") && number == DISPATCH_BENCH_TWO_VALUES) {
+        *offset = kept;
+        number = __real_dispatch_bench_weights(zeros_as_one(store, length), length, day, weights, places, offset);
+    }
     if (number == 0) {
         spoil_weights(store, length, day, weights, places, held, offset);
     } else {

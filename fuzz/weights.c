@@ -34,6 +34,7 @@ struct answer {
 struct record {
     unsigned setting, issue;
     uint32_t start;
+    uint64_t bits;
     double value;
 };
 
@@ -69,9 +70,8 @@ static uint64_t get(const uint8_t *at, unsigned bytes) {
 }
 
 static struct record record_at(const uint8_t *at) {
-    struct record r = {.setting = at[0], .issue = (unsigned)get(at + 5, 2), .start = (uint32_t)get(at + 1, 4)};
-    uint64_t bits = get(at + 7, 8);
-    memcpy(&r.value, &bits, sizeof r.value);
+    struct record r = {.setting = at[0], .issue = (unsigned)get(at + 5, 2), .start = (uint32_t)get(at + 1, 4), .bits = get(at + 7, 8)};
+    memcpy(&r.value, &r.bits, sizeof r.value);
     return r;
 }
 
@@ -148,19 +148,18 @@ static void check_number(const struct question *q, const struct answer *a) {
     }
 }
 
-/* A weight is in range, no minus zero, and the value of a record of its slot that has started. */
+/* A weight is in range, and has the bits of a record of its slot that has started. */
 static void check_weights(const struct question *q, const struct answer *a) {
     for (unsigned slot = 0; slot < DISPATCH_BENCH_WEIGHTS; slot++) {
         double weight;
         int found = 0;
         memcpy(&weight, &a->weights[slot], sizeof weight);
         require(weight >= 0 && weight <= MOST, "a weight is within 0 and 1,000,000,000");
-        require(a->weights[slot] >> 63 == 0, "no weight is minus zero");
         for (size_t at = 0; at < q->length; at += RECORD) {
             struct record r = record_at(q->bytes + at);
-            found |= r.setting == slot && r.start <= q->day && r.value == weight;
+            found |= r.setting == slot && r.start <= q->day && r.bits == a->weights[slot];
         }
-        require(found, "a weight is the value of a record of its slot that has started");
+        require(found, "a weight has the bits of a record of its slot that has started");
     }
 }
 
@@ -181,7 +180,7 @@ static int disagrees(const struct question *q, size_t i) {
     struct record r = record_at(q->bytes + RECORD * i);
     for (size_t k = 0; k < i; k++) {
         struct record e = record_at(q->bytes + RECORD * k);
-        if (e.setting == r.setting && e.start == r.start && e.issue == r.issue && e.value != r.value) {
+        if (e.setting == r.setting && e.start == r.start && e.issue == r.issue && e.bits != r.bits) {
             return 1;
         }
     }
@@ -196,8 +195,7 @@ static int look_up(const struct question *q, unsigned slot, uint64_t *bits) {
         struct record r = record_at(q->bytes + at);
         uint64_t key = (uint64_t)r.start << 16 | r.issue;
         if (r.setting == slot && r.start <= q->day && (!found || key > best)) {
-            double value = r.value == 0 ? 0 : r.value;
-            memcpy(bits, &value, sizeof *bits);
+            *bits = r.bits;
             best = key;
             found = 1;
         }

@@ -26,9 +26,10 @@ uint32_t dispatch_bench_version(void);
    refused record starts (docs/manual/desk.md). Every byte string has an answer; bytes past the first 65,536 change none. */
 uint32_t dispatch_bench_read(const uint8_t *sheet, size_t length, uint64_t *offset);
 
-/* The choice of one column a car with the least total; among these the lowest column for the first car, then the second, on. Cells stand row by
-   row. 1: the columns stand first in chosen, and *total is their total. 0, and nothing is written: more than 32 cars or 64 columns, fewer columns
-   than cars, cell_count not cars * columns, a cell above DISPATCH_BENCH_SENTINEL, or fewer places than cars. */
+/* The choice of one column a car with the least total; among these most cars sent, each to a column whose cell is below DISPATCH_BENCH_SENTINEL;
+   among these the lowest column for the first car, then the second, on. Cells stand row by row. 1: the columns stand first in chosen, and *total is
+   their total. 0, and nothing is written: more than 32 cars or 64 columns, fewer columns than cars, cell_count not cars * columns, a cell above
+   DISPATCH_BENCH_SENTINEL, or fewer places than cars. */
 uint32_t dispatch_bench_choose(size_t cars, size_t columns, const uint64_t *cells, size_t cell_count, uint32_t *chosen, size_t places, uint64_t *total);
 
 /* The refusals, by the numbers of documents 01 and 02. Those of a store of weights are 1, 2, 7, 8, 11, 17 and 18; 19 and 20 are given by
@@ -110,14 +111,14 @@ uint32_t dispatch_bench_pending(const uint8_t *sheet, size_t length, uint32_t *s
 
 /* The weights of a store for a day. A store is up to 256 records of 15 bytes, most significant bit first: setting 8 bits (0 to 5, the weight slots),
    start day 32, issue 16, value 64 (an IEEE double). Each slot takes the record with the latest start not after the day, and of these the highest
-   issue. 0: the six values in slot order stand first in weights, a minus zero as zero; what stands past these is left, and so is *offset. Otherwise
-   the refusal's number, and nothing else is written but *offset:
+   issue. 0: the six values in slot order stand first in weights, with the bits that the store has; what stands past these is left, and so is *offset.
+   Otherwise the refusal's number, and nothing else is written but *offset:
      1         0: fewer than DISPATCH_BENCH_WEIGHTS places are lent
      2         the bit offset of the record that is cut short
      7         that of the 257th record
      8         that of a record whose setting is above 5
      11        that of a record whose value is outside of 0 to 1,000,000,000, or a NaN
-     17        that of the first record that agrees with an earlier one in setting, start day and issue, but not in value (0 and -0 are one value)
+     17        that of the first record that agrees with an earlier one in setting, start day and issue, but not in all 64 bits of the value
      18        not an offset, but the lowest slot that has no record for the day
    Records are tested in their order, and each by rising number up to 11; then 17 over the whole store, then 18. A policy record takes the six; those
    that its strategy leaves unused stay zero there. */

@@ -82,7 +82,7 @@ static void ask(const char *name, uint32_t day, size_t lent, uint32_t number, ui
 }
 
 static void weights_are_given(void) {
-    const double six[] = {0.5, 1.5, 2.5, 3.5, 4.5, 5.5}, corrected[] = {0.5, 1.5, 7, 3.5, 4.5, 5.5}, later[] = {0.5, 1.5, 8, 3.5, 4.5, 0};
+    const double six[] = {0.5, 1.5, 2.5, 3.5, 4.5, 5.5}, corrected[] = {0.5, 1.5, 7, 3.5, 4.5, 5.5}, later[] = {0.5, 1.5, 8, 3.5, 4.5, -0.0};
     begin();
     ask("six", 100, 6, DISPATCH_BENCH_ACCEPTED, KEPT_OFFSET, six);
     ask("more places", 100, PLACES, DISPATCH_BENCH_ACCEPTED, KEPT_OFFSET, six);
@@ -93,7 +93,7 @@ static void weights_are_given(void) {
     ask("corrected", 100, 6, DISPATCH_BENCH_ACCEPTED, KEPT_OFFSET, corrected);
     ask("a later start, minus zero", 101, 6, DISPATCH_BENCH_ACCEPTED, KEPT_OFFSET, later);
     add(2, 101, 0, 8);
-    add(5, 101, 0, 0);
+    add(5, 101, 0, -0.0);
     ask("repeated", 101, 6, DISPATCH_BENCH_ACCEPTED, KEPT_OFFSET, later);
 }
 
@@ -122,6 +122,10 @@ static void refusals_write_nothing(void) {
     add(3, 100, 0, 4.5);
     ask("two values", 100, 6, DISPATCH_BENCH_TWO_VALUES, 6 * DISPATCH_BENCH_WEIGHT_BITS, NULL);
     ask("two values, too early", 99, 6, DISPATCH_BENCH_TWO_VALUES, 6 * DISPATCH_BENCH_WEIGHT_BITS, NULL);
+    begin();
+    add(3, 101, 0, 0);
+    add(3, 101, 0, -0.0);
+    ask("zero and minus zero", 100, 6, DISPATCH_BENCH_TWO_VALUES, 7 * DISPATCH_BENCH_WEIGHT_BITS, NULL);
 }
 
 static void a_full_store(void) {

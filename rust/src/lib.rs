@@ -77,8 +77,8 @@ pub fn read(sheet: &[u8]) -> Result<(), Refusal> {
     }
 }
 
-/// The choice of one column a car with the least total; among these the lowest column for the first car, then for the second, on. The cells
-/// stand row by row.
+/// The choice of one column a car with the least total; among these most cars sent, each to a column whose cell is below [`SENTINEL`]; among
+/// these the lowest column for the first car, then for the second, on. The cells stand row by row.
 ///
 /// `None`: more than 32 cars or 64 columns, fewer columns than cars, not cars × columns cells, or a cell above [`SENTINEL`].
 ///
@@ -86,6 +86,10 @@ pub fn read(sheet: &[u8]) -> Result<(), Refusal> {
 /// let choice = dispatch_bench::choose(2, 2, &[1, 2, 1, 9]).unwrap();
 /// assert_eq!((choice.columns, choice.total), (vec![1, 0], 3));
 /// assert_eq!(dispatch_bench::choose(2, 1, &[1, 2]), None);
+/// // columns 0 and 1 have the same total and send one car
+/// let cells = [1, dispatch_bench::CEILING, 2, dispatch_bench::SENTINEL];
+/// let choice = dispatch_bench::choose(2, 2, &cells).unwrap();
+/// assert_eq!((choice.columns, choice.total), (vec![1, 0], dispatch_bench::CEILING + 2));
 /// ```
 pub fn choose(cars: usize, columns: usize, cells: &[u64]) -> Option<Choice> {
     let mut chosen = [0; MOST_CARS];

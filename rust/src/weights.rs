@@ -71,7 +71,8 @@ impl fmt::Display for StoreRefusal {
 impl std::error::Error for StoreRefusal {}
 
 /// The six weights of a store for a day, in slot order: of each slot the value of the record with the latest start not after the day, and of
-/// these the highest issue. A minus zero is given as zero. A policy record takes the six; those that its strategy leaves unused stay zero there.
+/// these the highest issue. A weight has the bits of its record, so a minus zero is given as such. A policy record takes the six; those that its
+/// strategy leaves unused stay zero there.
 ///
 /// ```
 /// // Six slots from day 100 on, slot 0 corrected on the day by issue 1.

@@ -62,10 +62,17 @@ fn starts_and_issues() {
 #[test]
 fn equal_values_are_harmless() {
     assert_eq!(weights(&with(&whole()), 100), weights(&with(&[]), 100));
-    let zeros = with(&[(0, 100, 0, -0.0), (3, 200, 0, -0.0)]);
-    let six = weights(&zeros, 200).unwrap();
+}
+
+/// All 64 bits count: a minus zero is another value than zero, and comes back as it is stored.
+#[test]
+fn minus_zero() {
+    let zero = with(&[(3, 200, 0, -0.0), (3, 200, 0, -0.0)]);
+    let six = weights(&zero, 200).unwrap();
     assert_eq!(six.map(f64::to_bits)[0], 0);
-    assert_eq!(six.map(f64::to_bits)[3], 0);
+    assert_eq!(six.map(f64::to_bits)[3], 1 << 63);
+    let both = with(&[(0, 100, 0, -0.0)]);
+    assert_eq!(weights(&both, 200), refused(17, 720));
 }
 
 #[test]

@@ -1,6 +1,6 @@
 // Writes the list that the program replay_choices reads: matrices with their choices, by a solver of another kind than the matcher's, least-cost
-// flow by the Bellman-Ford method, and for the lowest columns the whole problem solved again with one car more held to a column. On the small
-// matrices it is held to a search of every choice.
+// flow by the Bellman-Ford method over pairs of a cell and whether it is the sentinel, and for the lowest columns the whole problem solved again
+// with one car more held to a column. On the small matrices it is held to a search of every choice.
 //   rustc -O -o choices main.rs && ./choices > crates/replay_choices/stdin
 use std::io::Write;
 
@@ -34,16 +34,61 @@ fn some_cell(r: u64, values: u64) -> u64 {
     }
 }
 
-// The least total of the rows from `first` on over the columns that are not taken, by augmenting along shortest paths, one row after the other.
-fn least(n: usize, m: usize, cells: &[u64], first: usize, taken: &[bool]) -> u64 {
+// mostly the sentinel and one less, by turns
+fn near_sentinel(code: usize) -> u64 {
+    match code {
+        0 => 0,
+        1 => 1,
+        _ => SENTINEL - code as u64 % 2,
+    }
+}
+
+// cars by twos with cells as in document 02's F-9, in any order of cars and columns, else the sentinel
+fn pairs_of_cars(n: usize, m: usize, seed: u64) -> Vec<u64> {
+    let mut s = seed + 88172645463325252;
+    let mut order = |k: usize| {
+        let mut places: Vec<usize> = (0..k).collect();
+        for i in (1..k).rev() {
+            s = random(s);
+            places.swap(i, (s >> 20) as usize % (i + 1));
+        }
+        places
+    };
+    let (rows, columns) = (order(n), order(m));
+    let mut cells = vec![SENTINEL; n * m];
+    for k in 0..n {
+        let pair = k / 2 * 2;
+        cells[rows[k] * m + columns[pair]] = k as u64 % 2;
+        cells[rows[k] * m + columns[pair + 1]] = SENTINEL - 1 + k as u64 % 2;
+    }
+    cells
+}
+
+// A total and how many cars are left standing with it, at the sentinel: the total decides, and among equals the number.
+type Cost = (i128, i128);
+
+fn cost(x: u64) -> Cost {
+    (x as i128, (x == SENTINEL) as i128)
+}
+
+fn add(a: Cost, b: Cost) -> Cost {
+    (a.0 + b.0, a.1 + b.1)
+}
+
+fn less(a: Cost, b: Cost) -> Cost {
+    (a.0 - b.0, a.1 - b.1)
+}
+
+// The least cost of the rows from `first` on over the columns that are not taken, by augmenting along shortest paths, one row after the other.
+fn least(n: usize, m: usize, cells: &[u64], first: usize, taken: &[bool]) -> Cost {
     let mut row_of: Vec<Option<usize>> = vec![None; m];
     let mut col_of: Vec<Option<usize>> = vec![None; n];
     for start in first..n {
         // distances to rows and columns from the new row, over cells forth and matched cells back
-        let mut to_row: Vec<Option<i128>> = vec![None; n];
-        let mut to_col: Vec<Option<i128>> = vec![None; m];
+        let mut to_row: Vec<Option<Cost>> = vec![None; n];
+        let mut to_col: Vec<Option<Cost>> = vec![None; m];
         let mut from: Vec<usize> = vec![0; m];
-        to_row[start] = Some(0);
+        to_row[start] = Some((0, 0));
         loop {
             let mut changed = false;
             for i in first..n {
@@ -52,7 +97,7 @@ fn least(n: usize, m: usize, cells: &[u64], first: usize, taken: &[bool]) -> u64
                     if taken[j] || col_of[i] == Some(j) {
                         continue;
                     }
-                    let e = d + cells[i * m + j] as i128;
+                    let e = add(d, cost(cells[i * m + j]));
                     if to_col[j].map_or(true, |old| e < old) {
                         to_col[j] = Some(e);
                         from[j] = i;
@@ -62,7 +107,7 @@ fn least(n: usize, m: usize, cells: &[u64], first: usize, taken: &[bool]) -> u64
             }
             for j in 0..m {
                 if let (Some(d), Some(i)) = (to_col[j], row_of[j]) {
-                    let e = d - cells[i * m + j] as i128;
+                    let e = less(d, cost(cells[i * m + j]));
                     if to_row[i].map_or(true, |old| e < old) {
                         to_row[i] = Some(e);
                         changed = true;
@@ -85,7 +130,7 @@ fn least(n: usize, m: usize, cells: &[u64], first: usize, taken: &[bool]) -> u64
             }
         }
     }
-    (first..n).map(|i| cells[i * m + col_of[i].unwrap()]).sum()
+    (first..n).map(|i| cost(cells[i * m + col_of[i].unwrap()])).fold((0, 0), add)
 }
 
 // The choice: its total and columns; none where the matcher must refuse.
@@ -94,18 +139,18 @@ fn choice(n: usize, m: usize, cells: &[u64], places: usize) -> Option<(u64, Vec<
         return None;
     }
     let mut taken = vec![false; m];
-    let total = least(n, m, cells, 0, &taken);
-    let mut rest = total;
+    let total = least(n, m, cells, 0, &taken).0 as u64;
+    let mut rest = least(n, m, cells, 0, &taken);
     let mut columns = Vec::new();
     for i in 0..n {
         for j in 0..m {
-            let x = cells[i * m + j];
-            if taken[j] || x > rest {
+            let x = cost(cells[i * m + j]);
+            if taken[j] || x.0 > rest.0 {
                 continue;
             }
             taken[j] = true;
-            if least(n, m, cells, i + 1, &taken) == rest - x {
-                rest -= x;
+            if add(x, least(n, m, cells, i + 1, &taken)) == rest {
+                rest = less(rest, x);
                 columns.push(j);
                 break;
             }
@@ -115,13 +160,14 @@ fn choice(n: usize, m: usize, cells: &[u64], places: usize) -> Option<(u64, Vec<
     Some((total, columns))
 }
 
-// The first of every choice, in the order of its columns, that has the least total.
+// The first of every choice, in the order of its columns, that has the least total and leaves fewest cars standing with it.
 fn every_choice(n: usize, m: usize, cells: &[u64]) -> (u64, Vec<usize>) {
-    fn go(n: usize, m: usize, cells: &[u64], columns: &mut Vec<usize>, best: &mut Option<(u64, Vec<usize>)>) {
+    fn go(n: usize, m: usize, cells: &[u64], columns: &mut Vec<usize>, best: &mut Option<((u64, usize), Vec<usize>)>) {
         if columns.len() == n {
-            let total = (0..n).map(|i| cells[i * m + columns[i]]).sum();
-            if best.as_ref().map_or(true, |b| total < b.0) {
-                *best = Some((total, columns.clone()));
+            let chosen: Vec<u64> = (0..n).map(|i| cells[i * m + columns[i]]).collect();
+            let found = (chosen.iter().sum(), chosen.iter().filter(|&&x| x == SENTINEL).count());
+            if best.as_ref().map_or(true, |b| found < b.0) {
+                *best = Some((found, columns.clone()));
             }
             return;
         }
@@ -135,7 +181,8 @@ fn every_choice(n: usize, m: usize, cells: &[u64]) -> (u64, Vec<usize>) {
     }
     let mut best = None;
     go(n, m, cells, &mut Vec::new(), &mut best);
-    best.expect("a choice")
+    let (found, columns) = best.expect("a choice");
+    (found.0, columns)
 }
 
 // One case: crates/replay_choices/src/main.rt says how it is stored.
@@ -187,6 +234,33 @@ fn main() {
             store(n, m, &cells, n + seed as usize % 2);
         }
     }
+    // equal totals that leave unlike numbers of cars standing: the ceiling and one more, or the sentinel and one less
+    for code in 0..256usize {
+        let cells: Vec<u64> = (0..4).map(|k| near_sentinel(code >> (2 * k) & 3)).collect();
+        store(2, 2, &cells, 2);
+    }
+    for n in [3, 4] {
+        for seed in 1..61 {
+            let mut s = seed + 88172645463325252;
+            let cells: Vec<u64> = (0..n * n)
+                .map(|_| {
+                    s = random(s);
+                    near_sentinel((s >> 20) as usize % (2 * n))
+                })
+                .collect();
+            store(n, n, &cells, n);
+        }
+    }
+    for (n, m) in [(4, 4), (4, 5), (8, 8), (8, 9), (32, 32)] {
+        for seed in 1..if n == 32 { 2 } else { 11 } {
+            store(n, m, &pairs_of_cars(n, m, seed), n);
+        }
+    }
+    // document 01's P1 to P3, document 02's F-9
+    store(2, 2, &[1, 2, 1, 9], 2);
+    store(2, 2, &[5, 5, 5, 5], 2);
+    store(2, 2, &[SENTINEL - 1, 1, SENTINEL, SENTINEL - 1], 2);
+    store(2, 2, &[1, SENTINEL - 1, 2, SENTINEL], 2);
     for (n, m) in [(1, 64), (7, 10), (32, 32), (32, 64)] {
         for kind in 0..7 {
             let seeds: &[u64] = if [0, 1, 4].contains(&kind) { &[1, 20201, 88172645463325252] } else { &[1] };

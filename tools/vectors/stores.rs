@@ -1,5 +1,5 @@
-//! Stores of weights and their answers, by a look-up written from request F-1's words alone: the program `replay_stores` asks the proved one for the
-//! same.
+//! Stores of weights and their answers, by a look-up written from the words of requests F-1 and F-10 alone: the program `replay_stores` asks the proved
+//! one for the same.
 //!
 //!     rustc -O --edition 2021 -o target/make-stores tools/vectors/stores.rs
 //!     target/make-stores > crates/replay_stores/stdin
@@ -40,11 +40,11 @@ fn answer(store: &[u8], day: u32) -> Result<[u64; 6], (u8, u32)> {
         }
         let number = |from: usize, to: usize| part[from..to].iter().fold(0u64, |sum, &b| sum << 8 | u64::from(b));
         let (setting, start, issue) = (part[0], number(1, 5), number(5, 7));
-        let value = f64::from_bits(number(7, 15));
+        let value = number(7, 15);
         if setting > 5 {
             return refused(8);
         }
-        if !(0.0..=BILLION).contains(&value) {
+        if !(0.0..=BILLION).contains(&f64::from_bits(value)) {
             return refused(11);
         }
         records.push((setting, start, issue, value));
@@ -59,8 +59,7 @@ fn answer(store: &[u8], day: u32) -> Result<[u64; 6], (u8, u32)> {
     for slot in 0..6u8 {
         let of_slot = seen.range((slot, 0, 0)..=(slot, u64::from(day), u64::from(u16::MAX)));
         let Some((_, value)) = of_slot.last() else { return Err((18, u32::from(slot))) };
-        // adding zero makes zero of minus zero
-        six[usize::from(slot)] = (value + 0.0).to_bits();
+        six[usize::from(slot)] = *value;
     }
     Ok(six)
 }

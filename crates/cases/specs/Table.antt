@@ -1,5 +1,6 @@
 -- Document 01's cases P1 to P10, in its order and numbering, as one table that holds by computation: P1 to P3 of the choice, P4 to P6 of scale_cost,
--- P7 to P10 of the ranks that the pass uses, over sheets of one car; and request F-5's, on both sides of the ceiling. Assumes nothing.
+-- P7 to P10 of the ranks that the pass uses, over sheets of one car; request F-9's of the choice, and request F-5's, on both sides of the ceiling.
+-- Assumes nothing.
 use mathlib.Core.Path.{_≡_, refl}
 use mathlib.Core.Bool.{Bool, true, false, _&&_}
 use mathlib.Core.List.{List, [], _∷_}
@@ -36,7 +37,7 @@ use Rattle.etd.specs.Etd.{etdRank}
 use Rattle.dispatch.specs.FiniteRank.{finiteRank}
 use Rattle.rsr.specs.Rsr.{withPenalty, withCoincidentCall, withLoad, rsrCostOf, rsrRank}
 use Rattle.assignment_problem.specs.Choice.{cellAt}
-use Rattle.assignment_problem.specs.Recursion.{scan, best, chosen, leastTotal}
+use Rattle.assignment_problem.specs.Recursion.{scan, best, chosen, leastTotal, lowest}
 use Rattle.assignment.specs.Pending.{pendingStops}
 use Rattle.assignment.specs.Cells.{rankCell, matrix, goes}
 
@@ -109,7 +110,7 @@ unfolding ofBits add sub mul div neg lt le eq round ofInt fold any every count n
     stopPosition goal inGroup
     someoneWaits riderlessCall riddenTo hasDemand demandStop sweepRank riderCanBoard canExitHere servable onAboardPath pairIsUseful fairnessBonus
     withBonus sumAt waitTicksSum waitTicksSquaredSum intervenes doorCost extraDelay isAhead directionBonus weighted finiteRank travelTime
-    interveningStops riderDelay computeCost etdRank withPenalty withCoincidentCall withLoad rsrCostOf rsrRank scan best chosen leastTotal
+    interveningStops riderDelay computeCost etdRank withPenalty withCoincidentCall withLoad rsrCostOf rsrRank scan best chosen leastTotal lowest
     policy car sheet
 everything = 0
 
@@ -149,6 +150,12 @@ pub record Table : Type 0 where
   pub P3 : (chosen (cells ceiling 1 sentinel ceiling) 2 2 ≡ 1 ∷ 0 ∷ []) × (leastTotal (cells ceiling 1 sentinel ceiling) 2 2 ≡ 281_474_976_710_657)
       × (carsGoing (cells ceiling 1 sentinel ceiling) 2 (chosen (cells ceiling 1 sentinel ceiling) 2 2) ≡ 1)
       × (carsGoing (cells ceiling 1 sentinel ceiling) 2 (0 ∷ 1 ∷ []) ≡ 2)
+  -- request F-9, "A client found cells (1, 281,474,976,710,655) and (2, sentinel): total 281,474,976,710,657 either way, and the rule of lowest
+  -- columns sends one car where two could go.": both go
+  pub F9 : (chosen (cells 1 ceiling 2 sentinel) 2 2 ≡ 1 ∷ 0 ∷ []) × (leastTotal (cells 1 ceiling 2 sentinel) 2 2 ≡ 281_474_976_710_657)
+      × (carsGoing (cells 1 ceiling 2 sentinel) 2 (chosen (cells 1 ceiling 2 sentinel) 2 2) ≡ 2)
+      × (lowest (cells 1 ceiling 2 sentinel) 2 2 ≡ 0 ∷ 1 ∷ [])
+      × (carsGoing (cells 1 ceiling 2 sentinel) 2 (lowest (cells 1 ceiling 2 sentinel) 2 2) ≡ 1)
   -- "P4 cost 0.0078125 is 7,813."
   pub P4 : scaled (ofBits binary64 0x3f80_0000_0000_0000) ≡ (7_813, false)
   -- "P5 0.00390625 is 3,906."
@@ -176,6 +183,7 @@ table =
       P1 = (refl, refl);
       P2 = refl;
       P3 = (refl, refl, refl, refl);
+      F9 = (refl, refl, refl, refl, refl);
       P4 = refl;
       P5 = refl;
       P6 = (refl, refl);

@@ -9,7 +9,7 @@ use lib.ListN.{length, set, length-set}
 use lib.Dec.{eqb}
 use borrow.Author.Tests.{eqb-true, eqb-false}
 use Rattle.laws.specs.Bools.{same?}
-use Rattle.assignment_problem.specs.Choice.{IsChoice, total, Chosen, cellAt}
+use Rattle.assignment_problem.specs.Choice.{IsChoice, total, Lowest, cellAt}
 use Rattle.assignment_problem.specs.Prices.{tight-least}
 use Rattle.assignment_problem.specs.Insertion.{Matched, Priced, May, Path, Walk, matched-choice, priced-tight, walk-matched, walk-priced}
 use Rattle.alternating_tree.specs.Lists.{at, big, at-same, at-other, Going, Gone}
@@ -312,14 +312,16 @@ pub record Settled (cells : List ℕ) (n cols i : ℕ) (u w ro co : List ℕ) : 
 pub settle-none : {cells : List ℕ} {n cols : ℕ} {u w ro co : List ℕ} → State cells n cols n u w ro co → Settled cells n cols 0 u w ro co
 settle-none st = record { matched = st .matched; priced = st .priced; lows = λ s l. absurd (omega arith) }
 
--- all rows have their lowest columns: the choice that is asked for
+-- all rows have their lowest columns
 pub settle-done : {cells : List ℕ} {n cols : ℕ} {u w ro co : List ℕ} → Settled cells n cols n u w ro co
-    → Chosen n cols (cellAt cells cols) (at co)
+    → Lowest n cols (cellAt cells cols) (at co)
+unfolding total
 settle-done st =
     record {
       choice = matched-choice (st .matched);
       least = tight-least (matched-choice (st .matched)) (priced-tight (st .matched) (st .priced)) (st .priced .under);
-      lowest = λ q hq e i li agree. st .lows i li q hq e agree;
+      most = λ q hq e. omega arith;
+      lowest = λ q hq e f i li agree. st .lows i li q hq e agree;
     }
 
 -- only the stand's row is another

@@ -1,24 +1,25 @@
 -- How large the results of operations can be: bounds that are powers of two, which are doubles themselves, so that rounding does not pass them. With
 -- these the costs of a sheet are seen to be finite. Assumes nothing.
-use Prim.Native.Nat.{ℕ, zero, suc, _+_, _*_, _^_, _≤_, _<_}
+use Prim.Native.Nat.{ℕ, zero, suc, _+_, _-_, _*_, _^_, _≤_, _<_}
 use native.Mathlib.Nat.{add-zero, zero-mul, zero-lt-suc, mul-one, one-mul, mul-assoc, mul-comm, mul-right-comm, mul-left-comm, mul-pos, mul-le-mul}
-use native.Mathlib.Nat.{mul-le-mul-right, le-trans, le-of-eq, le-of-mul-le-mul-right}
+use native.Mathlib.Nat.{mul-le-mul-right, le-trans, le-of-eq, le-of-mul-le-mul-right, eq-zero-or-pos}
 use native.Mathlib.Omega.{arith}
 use mathlib.Core.Path.{_≡_, sym, ap, _∙_, subst}
+use mathlib.Core.Logic.{_⊎_, inl, inr}
 use mathlib.Core.Bool.{Bool, true, false, Bool·beq, cond}
 use lib.Dec.{lit<, lit≤}
-use lib.Pow.{pow-add, pow-lt}
+use lib.Pow.{pow-add, pow-pos, pow-lt}
 use lib.Ieee.{Float, nan, inf, fin, binary64, ofBits, round, sum, up, down, lt, le, eq, neg, add, sub, mul, div, ofInt}
 use lib.Ieee.Bits.{is-true}
 use lib.Ieee.Fits.{up-pos, down-pos}
 use lib.Ieee.Exact.{HasValue, round-exact}
 use lib.Ieee.Order.{round-mono}
-use borrow.Author.Tests.{ltb-false, ne-eqb}
+use borrow.Author.Tests.{lt-ltb, ltb-false, ne-eqb}
 use Rattle.laws.specs.Bools.{never}
 use Rattle.laws.specs.Folds.{fold}
 use Rattle.fp.specs.Num as Num
 use Rattle.fp.specs.Num.{one, million, abs, plus, minus, times, over, maxZero, finite, natural, distance}
-use Rattle.fp.specs.Order.{le-tells}
+use Rattle.fp.specs.Order.{le-tells, no-digits}
 use Rattle.fp.specs.Nonneg.{round-nonneg, unsigned}
 use Rattle.fp.specs.Ranges.{leastSpeed, isPosition, isMass, isSpeed, isTickRate}
 use Rattle.fp.specs.Inside.{AtMost, within-low, position-size, mass-size, speed-finite, speed-least, tickRate-finite}
@@ -167,6 +168,90 @@ over-size j i (fin s m e) (fin false (suc n) d) l p q =
     turn : (a b c d : ℕ) → a * b * (c * d) ≡ a * d * (c * b)
     turn a b c d = simp (mul-assoc, mul-comm, mul-left-comm)
 
+-- ---- from below
+
+-- 2^-i is a double
+least-value : (i : ℕ) → i ≤ 1074 → HasValue (round binary64 false 1 (2 ^ i)) false 1 (2 ^ i)
+least-value i h =
+    let e : 1 * 2 ^ (1074 - i) ≡ 2 ^ (1074 - i) = one-mul (2 ^ (1074 - i)) in
+    round-exact binary64 false 1 (2 ^ i) 1 (1074 - i) (pow-pos i) (lit< tt)
+    (subst (λ (n : ℕ). n < 2 ^ 2098) (sym e) (pow-lt {j = 2098} (omega arith)))
+    (sym (ap (λ (n : ℕ). n * 2 ^ i) e ∙ sym (pow-add 2 (1074 - i) i) ∙ ap (λ (n : ℕ). 2 ^ n) (fill i h)))
+  where
+    fill : (i : ℕ) → i ≤ 1074 → 1074 - i + i ≡ 1074
+    fill i h = omega arith
+
+beyond : (i k : ℕ) (y x : Float) → HasValue y false 1 (2 ^ i) → le y x ≡ true → AtMost k x → AtLeast i x
+unfolding lt
+beyond i k nan x v h f = absurd v
+beyond i k (inf s) x v h f = absurd v
+beyond i k (fin true o d) x v h f = never (sym (v .0))
+beyond i k (fin false o d) nan v h f = absurd f
+beyond i k (fin false o d) (inf t) v h f = absurd f
+beyond i k (fin false o d) (fin true m e) v h f =
+    let (a, b, l) = le-tells (fin false o d) (fin true m e) h in
+    let g : m * up e * down d + o * up d * down e ≤ 0 = ltb-false 0 (m * up e * down d + o * up d * down e) l in
+    let z : o * up d ≡ 0 = no-digits (o * up d) (down e) (down-pos e) (omega arith) in
+    absurd (omega (arith, v .1, ap (λ (n : ℕ). n * 2 ^ i) z, zero-mul (2 ^ i), one-mul (down d), down-pos d))
+beyond i k (fin false o d) (fin false m e) v h f =
+    let (a, b, l) = le-tells (fin false o d) (fin false m e) h in
+    let g : o * up d * down e ≤ m * up e * down d = ltb-false (m * up e * down d) (o * up d * down e) l in
+    le-of-mul-le-mul-right
+    (le-trans
+    (le-of-eq (mul-comm (down e) (down d) ∙ ap (λ (n : ℕ). n * down e) (sym (v .1 ∙ one-mul (down d))) ∙ mul-right-comm (o * up d) (2 ^ i) (down e)))
+    (le-trans (mul-le-mul-right (2 ^ i) g) (le-of-eq (mul-right-comm (m * up e) (down d) (2 ^ i)))))
+    (down-pos d)
+
+-- a / b is at least 2^-i, and so is what it is rounded to, where that is finite
+round-least : (i k a b : ℕ) → i ≤ 1074 → 0 < b → b ≤ a * 2 ^ i → AtMost k (round binary64 false a b) → AtLeast i (round binary64 false a b)
+round-least i k a b h p l f =
+    beyond i k (round binary64 false 1 (2 ^ i)) (round binary64 false a b) (least-value i h)
+    (is-true _ (round-mono binary64 1 (2 ^ i) a b (pow-pos i) p (le-trans (le-of-eq (one-mul b)) l))) f
+
+pub times-least : (i j k : ℕ) (x y : Float) → i + j ≤ 1074 → AtLeast i x → AtLeast j y → AtMost k (times x y) → AtLeast (i + j) (times x y)
+unfolding mul
+times-least i j k nan y h p q f = absurd p
+times-least i j k (inf s) y h p q f = absurd p
+times-least i j k (fin true m e) y h p q f = absurd p
+times-least i j k (fin false m e) nan h p q f = absurd q
+times-least i j k (fin false m e) (inf s) h p q f = absurd q
+times-least i j k (fin false m e) (fin true n d) h p q f = absurd q
+times-least i j k (fin false m e) (fin false n d) h p q f =
+    round-least (i + j) k (m * up e * (n * up d)) (down e * down d) h (mul-pos (down-pos e) (down-pos d))
+    (le-trans (mul-le-mul p q)
+    (le-of-eq (exchange (m * up e) (2 ^ i) (n * up d) (2 ^ j) ∙ ap (λ (c : ℕ). m * up e * (n * up d) * c) (sym (pow-add 2 i j)))))
+    f
+
+pub plus-least : (i j k : ℕ) (x y : Float) → i ≤ 1074 → AtLeast i x → AtLeast j y → AtMost k (plus x y) → AtLeast i (plus x y)
+unfolding add sum
+plus-least i j k nan y h p q f = absurd p
+plus-least i j k (inf s) y h p q f = absurd p
+plus-least i j k (fin true m e) y h p q f = absurd p
+plus-least i j k (fin false m e) nan h p q f = absurd q
+plus-least i j k (fin false m e) (inf s) h p q f = absurd q
+plus-least i j k (fin false m e) (fin true n d) h p q f = absurd q
+plus-least i j k (fin false m e) (fin false n d) h p q f =
+    round-least i k (m * up e * down d + n * up d * down e) (down e * down d) h (mul-pos (down-pos e) (down-pos d))
+    (le-trans (mul-le-mul-right (down d) p)
+    (le-trans (le-of-eq (mul-right-comm (m * up e) (2 ^ i) (down d))) (mul-le-mul-right (2 ^ i) (more (m * up e * down d) (n * up d * down e)))))
+    f
+  where
+    more : (a b : ℕ) → a ≤ a + b
+    more a b = omega arith
+
+-- it is above zero
+pub least-above : (i : ℕ) (x : Float) → AtLeast i x → lt Num.zero x ≡ true
+unfolding lt ofBits
+least-above i nan p = absurd p
+least-above i (inf s) p = absurd p
+least-above i (fin true n d) p = absurd p
+least-above i (fin false n d) p =
+    lt-ltb (0 * down d) (n * up d * 1) (some (n * up d) (2 ^ i) (down d) (down-pos d) p (eq-zero-or-pos (n * up d)))
+  where
+    some : (a u c : ℕ) → 0 < c → c ≤ a * u → (a ≡ 0) ⊎ (0 < a) → 0 * c < a * 1
+    some a u c s l (inl z) = absurd (omega (arith, ap (λ (n : ℕ). n * u) z, zero-mul u))
+    some a u c s l (inr g) = omega (arith, zero-mul c)
+
 -- ---- a walk that adds: each turn doubles the bound at most
 
 pub fold-size : (g : Float → ℕ → Float) (j n : ℕ) (z : Float) → j + n ≤ 1023 → AtMost (2 ^ j) z
@@ -187,19 +272,20 @@ position-power x h = size-mono 1_000_000 (2 ^ 20) x (lit≤ tt) (position-size x
 pub mass-power : (x : Float) → isMass x ≡ true → AtMost (2 ^ 30) x
 mass-power x h = size-mono 1_000_000_000 (2 ^ 30) x (lit≤ tt) (mass-size x h)
 
--- a speed above zero is at least 2^-10
-pub speed-power : (x : Float) → isSpeed x ≡ true → lt Num.zero x ≡ true → AtLeast 10 x
+-- from 1/1,024 on it is at least 2^-10
+pub least-power : (x : Float) → finite x ≡ true → le leastSpeed x ≡ true → AtLeast 10 x
 unfolding lt ofBits
-speed-power x h p = by x (speed-finite x h) (speed-least x h p)
-  where
-    by : (y : Float) → finite y ≡ true → le leastSpeed y ≡ true → AtLeast 10 y
-    by nan f l = never f
-    by (inf s) f l = never f
-    by (fin true n d) f l =
-        let (a, b, g) = le-tells leastSpeed (fin true n d) l in
-        absurd (omega (arith, ltb-false 0 (n * up d * 1024 + 1 * 1 * down d) g, down-pos d))
-    by (fin false n d) f l =
-        let (a, b, g) = le-tells leastSpeed (fin false n d) l in omega (arith, ltb-false (n * up d * 1024) (1 * 1 * down d) g)
+least-power nan f l = never f
+least-power (inf s) f l = never f
+least-power (fin true n d) f l =
+    let (a, b, g) = le-tells leastSpeed (fin true n d) l in
+    absurd (omega (arith, ltb-false 0 (n * up d * 1024 + 1 * 1 * down d) g, down-pos d))
+least-power (fin false n d) f l =
+    let (a, b, g) = le-tells leastSpeed (fin false n d) l in omega (arith, ltb-false (n * up d * 1024) (1 * 1 * down d) g)
+
+-- a speed above zero is
+pub speed-power : (x : Float) → isSpeed x ≡ true → lt Num.zero x ≡ true → AtLeast 10 x
+speed-power x h p = least-power x (speed-finite x h) (speed-least x h p)
 
 -- a tick rate is at least 1
 pub tickRate-power : (x : Float) → isTickRate x ≡ true → AtLeast 0 x

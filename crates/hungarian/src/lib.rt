@@ -11,7 +11,7 @@ ghost use Prim.Native.Nat.{ℕ, _<_, _≤_};
 ghost use lib.ListN.{length, drop};
 ghost use Rattle.laws.specs.Tables.{tab};
 ghost use Rattle.assignment_problem.specs.Choice.{cellAt, total};
-ghost use Rattle.assignment_problem.specs.Recursion.{chosen, leastTotal};
+ghost use Rattle.assignment_problem.specs.Recursion.{lowest, leastTotal};
 ghost use Rattle.alternating_tree.specs.Lists.{at};
 ghost use Rattle.alternating_tree.specs.State.{Matrix};
 
@@ -33,11 +33,11 @@ fn write(cells: &[u64], n: usize, cols: usize, col_of: &[usize], places: &mut [u
     total
 }
 
-// The choice of a matrix with cells up to 2^55: its columns stand first in places, and the answer is its total.
+// The lowest columns among the least choices of a matrix with cells up to 2^55: they stand first in places, and the answer is the total.
 pub fn choose(cells: &[u64], n: usize, cols: usize, places: &mut [u32]) -> u64
     requires { ⌜ Matrix (now cells) n cols × (n ≤ length (now places)) ⌝ }
     ensures total { λ r. ⌜ r ≡ leastTotal (cellAt (now (cells .entry)) cols) n cols ⌝ }
-    ensures columns { λ _. ⌜ now (places .exit) ≡ chosen (cellAt (now (cells .entry)) cols) n cols ++ drop n (now (places .entry)) ⌝ }
+    ensures columns { λ _. ⌜ now (places .exit) ≡ lowest (cellAt (now (cells .entry)) cols) n cols ++ drop n (now (places .entry)) ⌝ }
 {
     let mut u = [0u64; 32];
     let mut w = [0u64; 65];

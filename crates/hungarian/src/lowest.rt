@@ -9,7 +9,7 @@ ghost use Prim.Native.Nat.{ℕ, suc, _+_, _*_, _<_, _≤_};
 ghost use lib.ListN.{length};
 ghost use Rattle.laws.specs.Tables.{tab};
 ghost use Rattle.assignment_problem.specs.Choice.{cellAt};
-ghost use Rattle.assignment_problem.specs.Recursion.{chosen};
+ghost use Rattle.assignment_problem.specs.Recursion.{lowest};
 ghost use Rattle.alternating_tree.specs.Lists.{at, big};
 ghost use Rattle.alternating_tree.specs.State.{Sizes, Scratch, Matrix, State, unseen};
 ghost use Rattle.equality_graph.specs.Settled.{MayIs, SearchReady, Search, VisitedAll, ExpandedAll, SearchEnded, Settled};
@@ -210,7 +210,7 @@ fn lower(
     }
 }
 
-// Each row in turn goes to the lowest column that leaves the total least: the columns are those of the choice that is asked for.
+// Each row in turn goes to the lowest column that leaves the total least.
 pub(crate) fn settle(
     cells: &[u64],
     n: usize,
@@ -225,7 +225,7 @@ pub(crate) fn settle(
 )
     requires { ⌜ Sizes (now u) (now w) (now «row_of») (now «col_of») × Scratch (now queue) (now from) (now seen) ⌝ }
     requires { ⌜ Matrix (now cells) n cols × State (now cells) n cols n (now u) (now w) (now «row_of») (now «col_of») ⌝ }
-    ensures { λ _. ⌜ tab (at (now («col_of» .exit))) n ≡ chosen (cellAt (now (cells .entry)) cols) n cols ⌝ }
+    ensures { λ _. ⌜ tab (at (now («col_of» .exit))) n ≡ lowest (cellAt (now (cells .entry)) cols) n cols ⌝ }
 {
     let mut i = 0;
     while i < n {

@@ -1,35 +1,85 @@
--- What each test of `assign` says of the promise, and that the method takes what passes them all. Assumes nothing.
-use mathlib.Core.Path.{_≡_, ap}
+-- What each test of `assign` says of the promise, and that the method takes what passes them all, with its marks. Assumes nothing.
+use mathlib.Core.Path.{_≡_, sym, ap, _∙_, fun-ext}
 use mathlib.Core.Bool.{true, false, or-true}
 use mathlib.Core.List.{List, _++_}
 use mathlib.Core.Logic.{⊎-elim}
-use Prim.Native.Nat.{ℕ, _*_, _≤_, _<_}
+use Prim.Native.Nat.{ℕ, _+_, _*_, _/_, _≤_, _<_}
 use native.Mathlib.Nat.{mul-le-mul-right}
 use native.Mathlib.Omega.{arith}
-use lib.ListN.{length, getD, drop, List·getD-eq-default}
+use lib.ListN.{length, getD, take, drop, List·getD-eq-default}
+use lib.Seq.{take-at}
 use borrow.Author.Tests.{ne-eqb, lt-ltb, ltb-false}
 use Rattle.laws.specs.Bools.{less?}
 use Rattle.laws.specs.Folds.{any, any-none}
-use Rattle.assignment_problem.specs.Choice.{cellAt}
-use Rattle.assignment_problem.specs.Recursion.{chosen, leastTotal}
+use Rattle.laws.specs.Tables.{tab, length-tab, getD-tab₀}
+use Rattle.assignment_problem.specs.Choice.{cellAt, sentinel}
+use Rattle.assignment_problem.specs.Recursion.{chosen, leastTotal, lowest}
+use Rattle.assignment_problem.specs.Marked.{mark, marked, mark-le, marked-lowest, marked-least}
 use Rattle.alternating_tree.specs.State.{Matrix}
+use Rattle.marks.specs.Marks.{markAt}
 use Rattle.matcher.specs.declared.Matching.the-variants.{Least, None}
-use Rattle.matcher.specs.Promise.{mostCell, tooLarge, refused, matching, written}
+use Rattle.matcher.specs.Promise.{tooLarge, refused, matching, written}
 
--- the method takes the matrix
-pub fits-matrix : {cars columns : ℕ} {cells : List ℕ} → cars ≤ 32 → columns ≤ 64 → cars ≤ columns → length cells ≡ cars * columns
-    → any (tooLarge cells) (length cells) ≡ false → Matrix cells cars columns
-fits-matrix {cars} {columns} {cells} a b c d e =
+-- a matrix that passes the tests
+pub record Fitting (cars columns : ℕ) (cells : List ℕ) : Type 0 where
+  pub rows32 : cars ≤ 32
+  pub cols64 : columns ≤ 64
+  pub wide : cars ≤ columns
+  pub whole : length cells ≡ cars * columns
+  pub small : (k : ℕ) → getD cells k 0 ≤ sentinel
+
+pub fitting : {cars columns : ℕ} {cells : List ℕ} → cars ≤ 32 → columns ≤ 64 → cars ≤ columns → length cells ≡ cars * columns
+    → any (tooLarge cells) (length cells) ≡ false → Fitting cars columns cells
+fitting {cars} {columns} {cells} a b c d e =
     record {
       rows32 = a;
       cols64 = b;
       wide = c;
       whole = d;
       small = λ k. ⊎-elim
-          (λ l. let s = ltb-false mostCell (getD cells k 0) (any-none (tooLarge cells) (length cells) e k l) in omega arith)
+          (λ l. ltb-false sentinel (getD cells k 0) (any-none (tooLarge cells) (length cells) e k l))
           (λ l. let z = List·getD-eq-default cells 0 l in omega arith)
           (less? k (length cells));
     }
+
+-- the marked cells are the first of a buffer that they were written to
+pub first-marks : (cells buffer buffer′ : List ℕ) → buffer′ ≡ tab (markAt cells) (length cells) ++ drop (length cells) buffer
+    → take (length cells) buffer′ ≡ tab (markAt cells) (length cells)
+first-marks cells buffer buffer′ e =
+    rw e (take-at (tab (markAt cells) (length cells)) (drop (length cells) buffer) (length cells) (length-tab (markAt cells) (length cells)))
+
+-- the method takes its marked cells, and finds the choice in them
+module _ {cars columns : ℕ} {cells : List ℕ} (f : Fitting cars columns cells) (ms : List ℕ) (is : ms ≡ tab (markAt cells) (length cells)) where
+  marks-at : (k : ℕ) → getD ms k 0 ≡ mark (getD cells k 0)
+  unfolding mark
+  marks-at k =
+      let size : length ms ≡ length cells = ap length is ∙ length-tab (markAt cells) (length cells) in
+      ⊎-elim
+      (λ l. ap (λ (x : List ℕ). getD x k 0) is ∙ getD-tab₀ (markAt cells) (length cells) k 0 l)
+      (λ l. List·getD-eq-default ms 0 (omega arith) ∙ sym (ap mark (List·getD-eq-default cells 0 l)))
+      (less? k (length cells))
+
+  pub marks-matrix : Matrix ms cars columns
+  marks-matrix = record {
+    rows32 = f .rows32;
+    cols64 = f .cols64;
+    wide = f .wide;
+    whole = ap length is ∙ length-tab (markAt cells) (length cells) ∙ f .whole;
+    small = λ k. omega (arith, marks-at k, mark-le (getD cells k 0), f .small k);
+  }
+
+  marks-cells : cellAt ms columns ≡ marked (cellAt cells columns)
+  marks-cells = fun-ext (λ i. fun-ext (λ j. marks-at (i * columns + j)))
+
+  pub marks-total : (t : ℕ) → t ≡ leastTotal (cellAt ms columns) cars columns → t / 64 ≡ leastTotal (cellAt cells columns) cars columns
+  marks-total t e =
+      ap (λ (x : ℕ). x / 64) (e ∙ ap (λ (c : ℕ → ℕ → ℕ). leastTotal c cars columns) marks-cells)
+      ∙ marked-least (cellAt cells columns) cars columns (omega (arith, f .rows32)) (f .wide)
+
+  pub marks-columns : lowest (cellAt ms columns) cars columns ≡ chosen (cellAt cells columns) cars columns
+  marks-columns =
+      ap (λ (c : ℕ → ℕ → ℕ). lowest c cars columns) marks-cells
+      ∙ marked-lowest (cellAt cells columns) cars columns (omega (arith, f .rows32)) (f .wide)
 
 -- the product of so few cars and columns is small
 pub small-product : (cars columns : ℕ) → cars ≤ 32 → columns ≤ 64 → cars * columns ≤ 2048

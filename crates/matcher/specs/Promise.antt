@@ -2,23 +2,19 @@
 use mathlib.Core.Path.{_≡_}
 use mathlib.Core.Bool.{Bool, false, not, _||_, cond}
 use mathlib.Core.List.{List, _++_}
-use Prim.Native.Nat.{ℕ, _*_, _^_, _≤_}
+use Prim.Native.Nat.{ℕ, _*_, _≤_}
 use lib.Dec.{eqb, ltb}
 use lib.ListN.{length, getD, drop}
 use borrow.Author.Tests.{eq-eqb, le-ltb}
 use Rattle.laws.specs.Folds.{any}
-use Rattle.assignment_problem.specs.Choice.{cellAt}
+use Rattle.assignment_problem.specs.Choice.{cellAt, sentinel}
 use Rattle.assignment_problem.specs.Recursion.{chosen, leastTotal}
 use Rattle.matcher.specs.declared.Matching.{Matching}
 use Rattle.matcher.specs.declared.Matching.the-variants.{Least, None}
 
--- the largest cell that is taken: 281,474,976,710,656
-abbrev pub mostCell : ℕ
-mostCell = 2 ^ 48
-
 -- cell k is above the sentinel
 abbrev pub tooLarge : List ℕ → ℕ → Bool
-tooLarge cells k = ltb mostCell (getD cells k 0)
+tooLarge cells k = ltb sentinel (getD cells k 0)
 
 -- "Given more than 32 cars or 64 columns, fewer columns than cars, a wrong number of cells, a cell below 0 or above the sentinel, or fewer places
 -- for its columns than cars, it answers "none" and writes nothing." (A cell is a u64, so none is below 0.)

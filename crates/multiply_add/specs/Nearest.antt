@@ -47,7 +47,7 @@ Double x = T (fits binary64 x) × (finite x ≡ true)
 
 -- ---- what it comes to, by values
 
-least-is : (y : Float) (s : Bool) (n : ℕ) → HasValue y s n (2 ^ 1074) → inLeast y ≡ signed s n
+pub least-is : (y : Float) (s : Bool) (n : ℕ) → HasValue y s n (2 ^ 1074) → inLeast y ≡ signed s n
 least-is nan s n h = absurd h
 least-is (inf t) s n h = absurd h
 least-is (fin t m e) s n h =

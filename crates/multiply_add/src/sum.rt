@@ -4,7 +4,6 @@ ghost use mathlib.Core.Path.{_≡_};
 ghost use mathlib.Core.Bool.{not};
 ghost use Prim.Native.Nat.{_*_, _^_, _<_, _≤_};
 ghost use lib.Ieee.{unlike};
-ghost use Rattle.rounding.specs.Unpack.{significandOf, exponentOf};
 ghost use Rattle.multiply_add.specs.Steps.{wide, productExponent, both, Fit, Aligned, Sums, Terms};
 use super::pack;
 use super::words;
@@ -23,27 +22,6 @@ struct Total {
     neg: bool,
     hi: u64,
     lo: u64,
-}
-
-// The significand of a pattern, with its leading digit where the field is not 0.
-fn significand(b: u64) -> u64
-    ensures { λ r. ⌜ r ≡ significandOf b ⌝ }
-{
-    let field: u64 = (b >> 52) % 2048;
-    let t: u64 = b % 0x10_0000_0000_0000;
-    if field == 0 {
-        t
-    } else {
-        t + 0x10_0000_0000_0000
-    }
-}
-
-// The place of the significand's last digit above the least double.
-fn exponent(b: u64) -> u64
-    ensures { λ r. ⌜ r ≡ exponentOf b ⌝ }
-{
-    let field: u64 = (b >> 52) % 2048;
-    if field == 0 { 0 } else { field - 1 }
 }
 
 // The place of a product; a product of 0 has the lowest.
@@ -200,12 +178,12 @@ pub(crate) fn product_sign(s: bool, t: bool) -> bool
 pub(crate) fn terms(x: u64, y: u64, z: u64) -> Lined
     ensures { λ r. ⌜ Terms x y z (r .ph) (r .pl) (r .ch) (r .cl) (r .at) ⌝ }
 {
-    let m: u64 = significand(x);
-    let n: u64 = significand(y);
-    let p: u64 = product_exponent(m, n, exponent(x), exponent(y));
+    let m: u64 = rounding::significand(x);
+    let n: u64 = rounding::significand(y);
+    let p: u64 = product_exponent(m, n, rounding::exponent(x), rounding::exponent(y));
     let w: words::Wide = words::product(m, n);
-    let c: u64 = significand(z);
-    let q: u64 = exponent(z) + 1074;
+    let c: u64 = rounding::significand(z);
+    let q: u64 = rounding::exponent(z) + 1074;
     align(w.hi, w.lo, p, c, q)
 }
 

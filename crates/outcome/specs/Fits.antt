@@ -6,7 +6,7 @@ use mathlib.Core.List.{List}
 use mathlib.Core.Logic.{⊎-elim}
 use native.Mathlib.Omega.{arith}
 use lib.ListN.{length}
-use borrow.Author.Tests.{le-ltb}
+use borrow.Author.Tests.{eq-eqb, le-ltb}
 use Rattle.laws.specs.Bools.{less?}
 use Rattle.laws.specs.Sums.{sum-le, sum-same}
 use Rattle.laws.specs.Tables.{tabs-length, tab-length}
@@ -21,7 +21,7 @@ use Rattle.components.specs.declared.Strategy.{Strategy}
 use Rattle.components.specs.declared.Strategy.the-variants.{Etd, Rsr, Scan, Unknown}
 use Rattle.scan.specs.Scan.{preparedSweep}
 use Rattle.sweep.specs.Sweeps.{sweepCode, sweepOf}
-use Rattle.assignment_problem.specs.Choice.{IsChoice, total, Chosen}
+use Rattle.assignment_problem.specs.Choice.{IsChoice, total, sentinel, standing, Chosen}
 use Rattle.assignment_problem.specs.Chosen.{chosen-is, chosen-total}
 use Rattle.assignment_problem.specs.Recursion.{columnOf}
 use Rattle.assignment.specs.Pending.{idle, idleCars, pendingStops, columns}
@@ -92,6 +92,13 @@ module _ (s : Sheet) (limit : ℕ) (none : pendingStops s ≡ 0) where
   unfolding total
   every-total q = sum-same (idleCars s) 281474976710656 {f = λ i. matrix s limit i (q i)} (λ i l. no-stop s limit i (q i) none)
 
+  -- and leaves every car standing
+  every-standing : (q : ℕ → ℕ) → total (idleCars s) (standing (matrix s limit)) q ≡ idleCars s * 1
+  unfolding total
+  every-standing q =
+      sum-same (idleCars s) 1 {f = λ i. standing (matrix s limit) i (q i)}
+      (λ i l. rw (eq-eqb (matrix s limit i (q i)) sentinel (no-stop s limit i (q i) none)))
+
   pub no-stop-total : answeredTotal s limit ≡ idleCars s * 281474976710656
   unfolding answeredTotal
   no-stop-total = chosen-total (matrix s limit) (idleCars s) (columns s) (rows-fit s) ∙ every-total _
@@ -109,7 +116,8 @@ module _ (s : Sheet) (limit : ℕ) (none : pendingStops s ≡ 0) where
   up-to (suc k) r l ln =
       let before : (t : ℕ) → t < r → column s limit t ≡ t = λ t lt. up-to k t (omega arith) (omega arith) in
       let most : column s limit r ≤ r =
-      picked .lowest (λ i. i) straight (every-total (λ i. i) ∙ sym (every-total (column s limit))) r ln (λ t lt. sym (before t lt)) in
+      picked .lowest (λ i. i) straight (every-total (λ i. i) ∙ sym (every-total (column s limit)))
+      (every-standing (λ i. i) ∙ sym (every-standing (column s limit))) r ln (λ t lt. sym (before t lt)) in
       ⊎-elim
       (λ (x : column s limit r < r).
       absurd (let d = picked .choice .distinct (column s limit r) r (omega arith) ln (before (column s limit r) x) in omega arith))

@@ -40,7 +40,7 @@ bits-of (fin t m e) s a h =
     bits-fin t m e a (ap (λ (x : ℕ). x / down e) (h .1) ∙ mul-div-cancel a (down-pos e))
     ∙ ap (λ (b : Bool). signBit b + (size a - 53) * fieldOne + a / 2 ^ (size a - 53)) (h .0)
 
-size-exact : (a n : ℕ) → 2 ^ a ≤ n → n < 2 ^ suc a → size n ≡ suc a
+pub size-exact : (a n : ℕ) → 2 ^ a ≤ n → n < 2 ^ suc a → size n ≡ suc a
 size-exact a n lo hi = le-antisymm (size-le n (suc a) hi) (pow-lt-back a (size n) (lt-of-le-of-lt lo (size-lt n)))
 
 -- what the bits come to, by the digits of q

@@ -1,18 +1,21 @@
 -- What a store that answers is: every record passes, no two disagree, and each slot's weight is that of a started record of the slot such that no
 -- started record of the slot is later, or as late with a higher issue. Assumes nothing.
-use Prim.Native.Nat.{ℕ, zero, suc, _≤_, _<_}
+use Prim.Native.Nat.{ℕ, zero, suc, _^_, _≤_, _<_}
 use mathlib.Core.Path.{_≡_, refl, _∙_}
-use mathlib.Core.Bool.{Bool, true, false, cond}
+use mathlib.Core.Bool.{Bool, true, false, not, cond}
 use mathlib.Core.List.{List}
 use mathlib.Core.Logic.{_⊎_}
 use native.Mathlib.Omega.{arith}
 use lib.Dec.{T, eqb, leb}
-use lib.Ieee.{Float, fits, binary64}
-use lib.Ieee.Bits.{ofBits-fits}
+use lib.Ieee.{Float, nan, inf, fin, ofBits, toBits, fits, isNan, binary64}
+use lib.Ieee.Bits.{ofBits-fits, toBits-ofBits}
 use borrow.Author.Tests.{eqb-true, eq-eqb, leb-true, le-leb, not-false}
-use Rattle.laws.specs.Bools.{both, both-left, both-right}
+use Rattle.laws.specs.Bools.{both, both-left, both-right, never}
 use Rattle.laws.specs.Folds.{any, any-none}
+use Rattle.fp.specs.Inside.{mass-finite}
+use Rattle.fp.specs.Num.{finite}
 use Rattle.fp.specs.Ranges.{isMass}
+use Rattle.bits.specs.Field.{field-lt}
 use Rattle.weight_store.specs.Entries.{Entry}
 use Rattle.weights.specs.declared.answer.SixWeights.{SixWeights}
 use Rattle.weights.specs.declared.answer.Weights.the-variants.{Found, Refused}
@@ -22,9 +25,8 @@ use Rattle.weights.specs.Leads.{takes, taken-started, taken-top}
 use Rattle.weights.specs.LookUp.{started, missing, firstTaken, slotWeight, firstMissing}
 use Rattle.weight_store.specs.Passed.{passed}
 use Rattle.weight_store.specs.Refusals.{entryRefused, firstRefused, disagreesEarlier, firstDisagreeing}
-use Rattle.weight_store.specs.Values.{clearZero, weightBack}
+use Rattle.weight_store.specs.Values.{weightBack}
 use Rattle.weights.specs.Answers.{sixOf, lookUp, passedAnswer, weightsOf}
-use Rattle.weight_laws.specs.Value.{back-inside}
 
 -- every record passes, and none disagrees with an earlier one
 pub record AcceptedStore (s : List ℕ) : Type 0 where
@@ -89,6 +91,18 @@ pub record TakenEntry (s : List ℕ) (day slot : ℕ) (w : Float) (i : ℕ) : Ty
   pub top : (j : ℕ) → j < entryCount s → entryOf s j .setting ≡ slot → entryOf s j .start ≤ day
       → (entryOf s j .start < entryOf s i .start) ⊎ ((entryOf s j .start ≡ entryOf s i .start) × (entryOf s j .issue ≤ entryOf s i .issue))
 
+-- "The look-up then hands back the stored bits, which a planner can compare with the file": the bits of a slot's weight are the taken record's
+pub stored-bits : (s : List ℕ) (day slot : ℕ) (w : Float) (i : ℕ) → TakenEntry s day slot w i → toBits binary64 w ≡ entryOf s i .value
+unfolding entryOf weightBack isNan
+stored-bits s day slot w i t =
+    let e = t .its-value in
+    rw e (toBits-ofBits binary64 (entryOf s i .value) (field-lt _ _ 64) (number (ofBits binary64 (entryOf s i .value)) (mass-finite _ (rw e at (t .inside)))))
+  where
+    number : (x : Float) → finite x ≡ true → T (not (isNan x))
+    number nan h = never h
+    number (inf s) h = never h
+    number (fin s m e) h = tt
+
 -- a double in the weights' range
 pub record InRange (w : Float) : Type 0 where
   pub mass : isMass w ≡ true
@@ -96,7 +110,7 @@ pub record InRange (w : Float) : Type 0 where
 
 module _ (s : List ℕ) (day : ℕ) (x : SixWeights) (h : weightsOf s day ≡ Found x) (slot : ℕ) (l : slot < 6) where
   pub taken-entry : (i : ℕ) × TakenEntry s day slot (inSlot x slot) i
-  unfolding started missing slotWeight
+  unfolding started missing slotWeight weightBack
   taken-entry =
       let a = answered s day x h in
       let n = entryCount s in
@@ -111,7 +125,7 @@ module _ (s : List ℕ) (day : ℕ) (x : SixWeights) (h : weightsOf s day ≡ Fo
           its-slot = eqb-true _ _ (both-left (eqb (e i .setting) slot) (leb (e i .start) day) st);
           not-after = leb-true _ _ (both-right (eqb (e i .setting) slot) (leb (e i .start) day) st);
           its-value = w;
-          inside = rw w (back-inside (e i .value) ∙ passed s i (any-none (entryRefused s) n (a .accepted .passed) i (t .below)) .inside);
+          inside = rw w (passed s i (any-none (entryRefused s) n (a .accepted .passed) i (t .below)) .inside);
           top = λ j lj p q. taken-top n e day slot i (t .is-it) j lj (both (eq-eqb _ _ p) (le-leb _ _ q));
         },
       )
@@ -121,4 +135,4 @@ module _ (s : List ℕ) (day : ℕ) (x : SixWeights) (h : weightsOf s day ≡ Fo
   unfolding weightBack
   slot-inside =
       let (i, t) = taken-entry in
-      record { mass = t .inside; double = rw (t .its-value) (ofBits-fits binary64 (clearZero (entryOf s i .value))) }
+      record { mass = t .inside; double = rw (t .its-value) (ofBits-fits binary64 (entryOf s i .value)) }

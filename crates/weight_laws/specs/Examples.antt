@@ -2,9 +2,8 @@
 use Prim.Native.Nat.{ℕ}
 use mathlib.Core.Path.{_≡_, refl}
 use mathlib.Core.List.{List, [], _∷_}
-use lib.Ieee.{ofBits, binary64, lt, le, eq}
+use lib.Ieee.{Float, ofBits, binary64, lt, le, eq}
 use Rattle.laws.specs.Folds.{any, nth, count}
-use Rattle.fp.specs.Num as Num
 use Rattle.fp.specs.Ranges.{isMass}
 use Rattle.bits.specs.Field.{bitAt, fieldAt}
 use Rattle.layout.specs.Verdict.{pick, firstOf}
@@ -12,7 +11,7 @@ use Rattle.weights.specs.declared.answer.SixWeights.{SixWeights}
 use Rattle.weights.specs.declared.answer.Weights.the-variants.{Found, Refused}
 use Rattle.laws.specs.First.{firstIndex}
 use Rattle.weight_store.specs.Entries.{entryCount, entryOf}
-use Rattle.weight_store.specs.Values.{clearZero, sameValue, weightBack}
+use Rattle.weight_store.specs.Values.{sameValue, weightBack}
 use Rattle.weight_store.specs.Refusals.{refusal2Store, refusal7Store, refusal8Store, refusal11Store, entryRefusal, entryRefused, firstRefused}
 use Rattle.weight_store.specs.Refusals.{disagree, disagreesEarlier, firstDisagreeing}
 use Rattle.weights.specs.LookUp.{started, latest, taken, firstTaken, slotWeight, missing, firstMissing}
@@ -20,7 +19,7 @@ use Rattle.weights.specs.Answers.{sixOf, lookUp, passedAnswer, weightsOf, lentW
 
 -- one name that opens every definition from bytes to the answer
 unfoldable pub storing : ℕ
-unfolding ofBits lt le eq any nth count isMass bitAt fieldAt pick firstOf firstIndex entryCount entryOf clearZero sameValue weightBack refusal2Store refusal7Store refusal8Store refusal11Store entryRefusal entryRefused firstRefused disagree disagreesEarlier firstDisagreeing started latest taken firstTaken slotWeight missing firstMissing sixOf lookUp passedAnswer weightsOf
+unfolding ofBits lt le eq any nth count isMass bitAt fieldAt pick firstOf firstIndex entryCount entryOf sameValue weightBack refusal2Store refusal7Store refusal8Store refusal11Store entryRefusal entryRefused firstRefused disagree disagreesEarlier firstDisagreeing started latest taken firstTaken slotWeight missing firstMissing sixOf lookUp passedAnswer weightsOf
 storing = 0
 
 -- a record with a start below 256, an issue below 256, and a value by its first two bytes
@@ -65,10 +64,15 @@ unlike-later : weightsOf (line 1 5 1 63 240 (line 0 5 1 63 240 (line 0 5 1 64 0 
 unfolding storing
 unlike-later = refl
 
--- zero and minus zero are equal here: what is missing is slot 1
-zeros : weightsOf (line 0 5 1 0 0 (line 0 5 1 128 0 [])) 7 ≡ Refused 18 1
+-- zero and minus zero are two values
+zeros : weightsOf (line 0 5 1 0 0 (line 0 5 1 128 0 [])) 7 ≡ Refused 17 120
 unfolding storing
 zeros = refl
+
+-- minus zero twice is one: what is missing is slot 1
+minus-zeros : weightsOf (line 0 5 1 128 0 (line 0 5 1 128 0 [])) 7 ≡ Refused 18 1
+unfolding storing
+minus-zeros = refl
 
 -- slot 0: 1.0 from day 5, corrected to 2.0, and 0.5 from day 9 on; slots 1 to 5 minus zero
 corrected : List ℕ
@@ -83,8 +87,12 @@ corrected =
     (line 5 0 0 128 0
     [])))))))
 
+abbrev minusZero : Float
+minusZero = ofBits binary64 0x8000_0000_0000_0000
+
+-- minus zeros come back as they stand there
 six : ℕ → SixWeights
-six b = record { w0 = ofBits binary64 b; w1 = Num.zero; w2 = Num.zero; w3 = Num.zero; w4 = Num.zero; w5 = Num.zero }
+six b = record { w0 = ofBits binary64 b; w1 = minusZero; w2 = minusZero; w3 = minusZero; w4 = minusZero; w5 = minusZero }
 
 before-all : weightsOf corrected 4 ≡ Refused 18 0
 unfolding storing corrected

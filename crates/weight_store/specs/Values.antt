@@ -1,17 +1,13 @@
--- When two values are equal, and what comes back of one. Assumes nothing.
+-- When two values are the same, and what comes back of one. Assumes nothing.
 use Prim.Native.Nat.{ℕ}
-use mathlib.Core.Bool.{Bool, cond}
+use mathlib.Core.Bool.{Bool}
 use lib.Dec.{eqb}
 use lib.Ieee.{Float, ofBits, binary64}
 
--- "zero and minus zero are equal here and come back as zero": the bits of a value, minus zero's read as zero's
-unfoldable pub clearZero : ℕ → ℕ
-clearZero b = cond (eqb b 0x8000_0000_0000_0000) 0 b
-
--- "an equal value": of values in the weights' range, what IEEE 754 calls equal (weight_laws: Value, theorem `same-as-doubles`)
+-- "Two values are the same from now on only if all 64 bits agree": a value is the number of its 64 bits
 unfoldable pub sameValue : ℕ → ℕ → Bool
-sameValue a b = eqb (clearZero a) (clearZero b)
+sameValue a b = eqb a b
 
--- the weight that comes back of a value
+-- "The look-up then hands back the stored bits": the weight that comes back of a value (weight_laws: Answered, theorem `stored-bits`)
 unfoldable pub weightBack : ℕ → Float
-weightBack b = ofBits binary64 (clearZero b)
+weightBack b = ofBits binary64 b

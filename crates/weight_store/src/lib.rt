@@ -10,7 +10,7 @@ ghost use Rattle.laws.specs.Tables.{tab};
 ghost use Rattle.layout.specs.Verdict.{firstOf};
 ghost use Rattle.weight_store.specs.Entries.{entryCount};
 ghost use Rattle.weight_store.specs.Keys.{keyOf, valueOf, unpacked, heldEntry};
-ghost use Rattle.weight_store.specs.Values.{clearZero, sameValue, weightBack};
+ghost use Rattle.weight_store.specs.Values.{sameValue, weightBack};
 ghost use Rattle.weight_store.specs.Refusals.{refusal2Store, entryRules, entryRefusal, firstRefused, disagree, disagreesEarlier};
 ghost use Rattle.weight_store.specs.Refusals.{firstDisagreeing};
 
@@ -53,29 +53,18 @@ fn is_short(s: &[u8], i: u16) -> bool
     s.len() < BYTES * (i as usize) + BYTES
 }
 
-// A value's bits, minus zero's read as zero's.
-fn clear_zero(value: u64) -> u64
-    ensures { λ r. ⌜ r ≡ clearZero value ⌝ }
-{
-    if value == 0x8000_0000_0000_0000 {
-        0
-    } else {
-        value
-    }
-}
-
-// Whether two values are equal.
+// Whether two values are the same, bit for bit.
 fn same_value(a: u64, b: u64) -> bool
     ensures { λ r. ⌜ r ≡ sameValue a b ⌝ }
 {
-    clear_zero(a) == clear_zero(b)
+    a == b
 }
 
-// The weight that comes back of a value.
-pub fn weight_back(value: u64) -> f64
-    ensures { λ r. ⌜ r ≡ weightBack value ⌝ }
+// The weight that comes back of a value: the double of the stored bits.
+pub fn weight_back(stored: u64) -> f64
+    ensures { λ r. ⌜ r ≡ weightBack stored ⌝ }
 {
-    fp::double(clear_zero(value))
+    fp::double(stored)
 }
 
 // The number by which record i is refused that has this key and value, 0 for none.

@@ -1,4 +1,4 @@
-//! Matrices for the matcher: document 01's answer to a matrix, generated ones, and their shrinking.
+//! Matrices for the matcher: the documents' answer to a matrix, generated ones, and their shrinking.
 
 use pathfinding::least_choice;
 use sheetgen::rng::Rng;

@@ -48,6 +48,8 @@ faults! {
     Greedy
     /// Most cars sent first.
     MostSent
+    /// Among least totals the lowest columns, however many cars are left standing.
+    LeftStanding
     /// A cell above the sentinel is taken by the matcher.
     CellAboveSentinel
     /// The nearest stops are kept before the line filter.
@@ -378,6 +380,7 @@ impl Paper {
                 });
                 pathfinding::least_choice(cars, columns, &heavy)
             }
+            Fault::LeftStanding => pathfinding::lowest_choice(cars, columns, &signed(&cell)),
             _ => pathfinding::least_choice(cars, columns, &signed(&cell)),
         }
     }

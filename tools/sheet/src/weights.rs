@@ -152,7 +152,7 @@ fn fault(cut: &Cut, record: usize, strategy: Option<u64>, number: u32) -> String
 fn disagrees(records: &[Record], record: usize, form: Form) -> String {
     let this = records[record];
     let key = |r: &Record| (r.setting, r.start, r.issue);
-    let is_other = |r: &&Record| key(r) == key(&this) && r.double() != this.double();
+    let is_other = |r: &&Record| key(r) == key(&this) && r.value != this.value;
     let earlier = records.iter().take(record).position(|r| is_other(&r));
     let shown = |r: &Record| grouped_text(&value::show_double(r.value));
     let Record { start, issue, .. } = this;

@@ -222,7 +222,7 @@ mod asked {
     #[test]
     fn answers_as_stored() {
         let paths = files("examples/stores", "txt");
-        assert_eq!(paths.len(), 7);
+        assert_eq!(paths.len(), 8);
         let mut asked = 0;
         for path in paths {
             let stored = text(&std::fs::read(path.with_extension("weights")).unwrap());
@@ -237,7 +237,23 @@ mod asked {
                 asked += 1;
             }
         }
-        assert_eq!(asked, 11);
+        assert_eq!(asked, 12);
+    }
+
+    /// A minus zero is shown as `-0`, written back as such, and comes back with its bits.
+    #[test]
+    fn a_minus_zero() {
+        let stored = example("same_values");
+        let minus_zero = (-0.0f64).to_bits();
+        assert_eq!(records(&stored)[3].value, minus_zero);
+        let shown = store::show(&stored, None);
+        let line = "weight setting=3 start=20454 issue=0 value=-0\n";
+        assert_eq!(shown.matches(line).count(), 2);
+        assert_eq!(store::write(shown.as_bytes()).unwrap(), stored);
+        let six = weights(&stored, 20_454).unwrap();
+        assert_eq!(six[3].to_bits(), minus_zero);
+        let said = sheet::weights::weights(&stored, 20_454, None);
+        assert!(said.contains("setting=3 value=-0 # record 4"), "{said}");
     }
 
     /// 257 records, of which the last is the refused one.
@@ -266,7 +282,7 @@ mod asked {
             let after = line.strip_prefix(&start).unwrap();
             let number = after.split(':').next().unwrap();
             let record = records[number.parse::<usize>().unwrap() - 1];
-            assert_eq!(record.double(), weight);
+            assert_eq!(record.value, weight.to_bits());
             assert_eq!(usize::from(record.setting), slot);
             assert!(record.start <= day);
             let Record { start, issue, .. } = record;
@@ -348,13 +364,13 @@ mod asked {
     #[test]
     fn a_policy_takes_the_weights() {
         let folder = here("examples/stores");
-        let six = "1.5 1 0.75 0 0.015625 0.25";
+        let six = "1.5 1 0.75 -0 0.015625 0.25";
         let six: Vec<f64> = six.split(' ').map(|w| w.parse().unwrap()).collect();
         let path = std::env::temp_dir().join(format!("sheet-six-{}.store", std::process::id()));
         let record = |slot: usize| Record::new(slot as u8, 7, 0, six[slot]);
         std::fs::write(&path, write(&(0..6).map(record).collect::<Vec<_>>())).unwrap();
-        let etd = "wait=1.5 delay=1 door=0.75 wait_squared=0 age=0.015625";
-        let rsr = "eta=1.5 wrong_direction=1 coincident_call=0.75 load=0 age=0.015625 peak_multiplier=0.25";
+        let etd = "wait=1.5 delay=1 door=0.75 wait_squared=-0 age=0.015625";
+        let rsr = "eta=1.5 wrong_direction=1 coincident_call=0.75 load=-0 age=0.015625 peak_multiplier=0.25";
         for (strategy, plain) in [("ETD", etd), ("RSR", rsr), ("SCAN", ""), ("3", "")] {
             let named = policy(strategy, &format!("weights={} day=7", path.display()));
             let plain = policy(strategy, plain);
@@ -364,7 +380,7 @@ mod asked {
             assert_eq!(dispatch_bench::read(&named).is_ok(), strategy != "3");
         }
         std::fs::remove_file(&path).unwrap();
-        let etd = policy("ETD", etd);
+        let etd = policy("ETD", &etd.replace("=-0", "=0"));
         let named = policy("ETD", "weights=corrections.store day=20635");
         let named = sheet::text::write(named.as_bytes(), &folder).unwrap();
         assert_eq!(

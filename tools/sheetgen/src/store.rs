@@ -73,8 +73,8 @@ pub enum Fault {
     HighestIssueFirst,
     StartAfterDay,
     StartBeforeDay,
-    MinusZeroBack,
-    ZerosDiffer,
+    MinusZeroAsZero,
+    ZerosAreOne,
     NextRecordAlone,
     EarlierRecordRefused,
     TwoValuesInTheLookUp,
@@ -96,8 +96,8 @@ pub const FAULTS: [(&str, Fault); 19] = [
     ("highest_issue_first", Fault::HighestIssueFirst),
     ("start_after_day", Fault::StartAfterDay),
     ("start_before_day", Fault::StartBeforeDay),
-    ("minus_zero_back", Fault::MinusZeroBack),
-    ("zeros_differ", Fault::ZerosDiffer),
+    ("minus_zero_as_zero", Fault::MinusZeroAsZero),
+    ("zeros_are_one", Fault::ZerosAreOne),
     ("next_record_alone", Fault::NextRecordAlone),
     ("earlier_record_refused", Fault::EarlierRecordRefused),
     ("two_values_in_the_look_up", Fault::TwoValuesInTheLookUp),
@@ -190,7 +190,7 @@ impl Reading {
         record.setting > 5 && !(self.has(Fault::SettingSix) && record.setting == 6)
     }
 
-    /// A NaN is outside, minus zero is zero.
+    /// A NaN is outside, minus zero is inside.
     fn is_outside(&self, record: &Record) -> bool {
         let value = record.double();
         match self.fault {
@@ -219,12 +219,12 @@ impl Reading {
         })
     }
 
-    /// "zero and minus zero are equal here"
+    /// "Two values are the same from now on only if all 64 bits agree"
     fn same(&self, one: &Record, other: &Record) -> bool {
-        if self.has(Fault::ZerosDiffer) {
-            one.value == other.value
-        } else {
+        if self.has(Fault::ZerosAreOne) {
             one.double() == other.double()
+        } else {
+            one.value == other.value
         }
     }
 
@@ -274,10 +274,10 @@ impl Reading {
         Some(self.given(taken))
     }
 
-    /// "zero and minus zero are equal here and come back as zero"
+    /// "The look-up then hands back the stored bits"
     fn given(&self, record: &Record) -> u64 {
-        let is_zero = record.double() == 0.0 && !self.has(Fault::MinusZeroBack);
-        if is_zero { 0 } else { record.value }
+        let is_changed = record.double() == 0.0 && self.has(Fault::MinusZeroAsZero);
+        if is_changed { 0 } else { record.value }
     }
 }
 

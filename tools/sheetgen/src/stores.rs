@@ -100,18 +100,13 @@ fn plain(rng: &mut Rng, setting: usize) -> Record {
     Record::new(setting as u8, start, rng.below(3) as u16, value(rng))
 }
 
-/// Records whose values agree wherever setting, day and issue do; then a zero may change its sign.
+/// Records whose values agree wherever setting, day and issue do.
 fn agreeing(rng: &mut Rng, keys: impl IntoIterator<Item = (u8, u32, u16)>) -> Vec<Record> {
     let mut known = HashMap::new();
     let mut records = Vec::new();
     for (setting, start, issue) in keys {
         let drawn = value(rng);
         let value: f64 = *known.entry((setting, start, issue)).or_insert(drawn);
-        let value = if value == 0.0 && rng.flag() {
-            -value
-        } else {
-            value
-        };
         records.push(Record::new(setting, start, issue, value));
     }
     shuffle(rng, &mut records);
@@ -187,14 +182,18 @@ fn spoil(rng: &mut Rng, profile: Profile, records: &mut Vec<Record>) {
     }
 }
 
-/// A record again, with another value, or with the next double.
+/// A record again, with another value, with the next double, or the two as zeros of either sign.
 fn disagree(rng: &mut Rng, records: &mut Vec<Record>) {
     let i = any(rng, records);
     let mut other = records[i];
-    other.value = if rng.flag() {
-        other.value ^ 1
-    } else {
-        value(rng).to_bits()
+    other.value = match rng.below(4) {
+        0 | 1 => other.value ^ 1,
+        2 => value(rng).to_bits(),
+        _ => {
+            let zero: f64 = rng.pick(&[0.0, -0.0]);
+            records[i].value = zero.to_bits();
+            (-zero).to_bits()
+        }
     };
     let at = if rng.flag() {
         i + 1

@@ -120,7 +120,7 @@ fn values() -> Vec<Case> {
         ("zero", double(0.0), DAY, first(0.0)),
         ("one step above zero", of(1), DAY, first(f64::from_bits(1))),
         ("one step below zero", of(minus + 1), DAY, outside),
-        ("minus zero", double(-0.0), DAY, first(0.0)),
+        ("minus zero", double(-0.0), DAY, first(-0.0)),
         ("1,000,000,000", of(most), DAY, first(1e9)),
         (
             "one step below 1,000,000,000",
@@ -212,9 +212,15 @@ fn two_values() -> Vec<Case> {
             "zero and minus zero",
             with(&[of(0.0), of(-0.0)]),
             DAY,
-            first(0.0),
+            Refused(17, 7),
         ),
-        ("minus zero and zero", far(-0.0, 0.0), DAY, first(0.0)),
+        ("minus zero and zero", far(-0.0, 0.0), DAY, Refused(17, 205)),
+        (
+            "minus zero twice",
+            with(&[of(-0.0), of(-0.0)]),
+            DAY,
+            first(-0.0),
+        ),
         (
             "two values where no day takes them",
             with(&[
@@ -314,5 +320,5 @@ fn cases_by_name() {
         assert_eq!(second, wanted(answer), "{name}, second");
         tried += 1;
     }
-    assert_eq!(tried, 7 + 3 * 14 + 6 + 16 + 14 + 11);
+    assert_eq!(tried, 7 + 3 * 14 + 6 + 16 + 15 + 11);
 }

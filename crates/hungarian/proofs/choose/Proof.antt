@@ -9,7 +9,7 @@ use mathlib.Core.List.{List, _++_}
 use lib.ListN.{drop, getD, replicate, getD-replicate}
 use Rattle.assignment_problem.specs.Choice.{cellAt}
 use Rattle.alternating_tree.specs.Lists.{at}
-use Rattle.assignment_problem.specs.Chosen.{tab-within, tab-total}
+use Rattle.assignment_problem.specs.Lowest.{tab-within, tab-total}
 
 slice-aggregate-solve : tie.Need-slice-aggregate-solve
 slice-aggregate-solve c = search needs

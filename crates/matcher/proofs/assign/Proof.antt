@@ -8,7 +8,7 @@ use mathlib.Core.Bool.{true}
 use lib.ListN.{length}
 use Rattle.matcher.specs.declared.Matching.the-variants.{None}
 use Rattle.matcher.specs.Promise.{refused, matching, written, all-fit}
-use Rattle.matcher.specs.Fits.{fits-matrix, small-product, many-cars, many-columns, few-columns, wrong-count, few-places, large-cell, refuse}
+use Rattle.matcher.specs.Fits.{fitting, small-product, many-cars, many-columns, few-columns, wrong-count, few-places, large-cell, refuse}
 use Rattle.matcher.specs.Fits.{accept}
 
 module _ (s : tie.Start) where
@@ -42,7 +42,7 @@ returns-6 : tie.Need-returns-6
 returns-6 c = refusal (c .before .before .before .before .before .before .before .before .before) (large-cell (c .before .before .before .before .before .before .before .before .before .args .cars) (c .before .before .before .before .before .before .before .before .before .args .columns) (c .before .before .before .before .before .before .before .before .before .args .cells .now) (length (c .before .before .before .before .before .before .before .before .before .args .places .now)) (sym (c .before .too-large .ensures) ∙ c .if6 .taken))
 
 choose-requires : tie.Need-choose-requires
-choose-requires c κs = (fits-matrix (c .before .before .before .before .before .before .before .if1 .left) (c .before .before .before .before .before .before .if2 .left) (c .before .before .before .before .before .if3 .left) (c .before .before .before .before .if4 .left) (sym (c .before .before .too-large .ensures) ∙ c .before .if6 .left), c .before .before .before .if5 .left)
+choose-requires c κs = (fitting (c .before .before .before .before .before .before .before .if1 .left) (c .before .before .before .before .before .before .if2 .left) (c .before .before .before .before .before .if3 .left) (c .before .before .before .before .if4 .left) (sym (c .before .before .too-large .ensures) ∙ c .before .if6 .left), c .before .before .before .if5 .left)
 
 same-length : tie.Need-same-length
 same-length c = search needs

@@ -9,7 +9,8 @@ use mathlib.Core.Bool.{false}
 use borrow.Author.Tests.{lt-ltb, le-ltb}
 use lib.ListN.{length, getD}
 use Rattle.laws.specs.Folds.{any, any-at, any-no, none-any, ended}
-use Rattle.matcher.specs.Promise.{mostCell, tooLarge}
+use Rattle.assignment_problem.specs.Choice.{sentinel}
+use Rattle.matcher.specs.Promise.{tooLarge}
 
 abbrev Inv-loop : tie.InvT-loop
 Inv-loop cells k₀ k = (k ≤ length cells) × (any (tooLarge cells) k ≡ false)
@@ -29,7 +30,7 @@ shared-slice-read-if1 c = search needs
 returns : tie.Need-returns Inv-loop μ-loop
 returns c =
     let cells = c .before .before .before .before .args .cells .now in
-    sym (any-at (tooLarge cells) (length cells) (c .before .before .before .loop .k) (c .before .before .loop-test .taken) (lt-ltb mostCell (getD cells (c .before .before .before .loop .k) 0) (c .if1 .taken)))
+    sym (any-at (tooLarge cells) (length cells) (c .before .before .before .loop .k) (c .before .before .loop-test .taken) (lt-ltb sentinel (getD cells (c .before .before .before .loop .k) 0) (c .if1 .taken)))
 
 add-k : tie.Need-add-k Inv-loop μ-loop
 add-k c = search needs
@@ -41,7 +42,7 @@ loop-again : tie.Need-loop-again Inv-loop μ-loop
 loop-again c =
     let cells = c .before .before .before .before .args .cells .now in (
       omega (arith, c .before .before .loop-test .taken),
-      sym (any-no (tooLarge cells) (c .before .before .before .loop .k) (le-ltb mostCell (getD cells (c .before .before .before .loop .k) 0) (c .if1 .left)) (sym (c .before .before .before .loop .inv .1))),
+      sym (any-no (tooLarge cells) (c .before .before .before .loop .k) (le-ltb sentinel (getD cells (c .before .before .before .loop .k) 0) (c .if1 .left)) (sym (c .before .before .before .loop .inv .1))),
     )
 
 returns-2 : tie.Need-returns-2 Inv-loop μ-loop

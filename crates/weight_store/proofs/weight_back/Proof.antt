@@ -9,4 +9,4 @@ unfolding weightBack
 returns c = cc
 
 pub weight-back-spec : {M : Type 1} → statement M
-weight-back-spec = tie.close (tie.spec (λ c κs. search needs) (λ c κs. search needs) returns)
+weight-back-spec = tie.close (tie.spec (λ c κs. search needs) returns)

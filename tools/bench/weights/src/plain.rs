@@ -10,7 +10,8 @@ struct Record {
     setting: u8,
     start: u32,
     issue: u16,
-    value: f64,
+    /// The value's bits.
+    value: u64,
 }
 
 impl Record {
@@ -20,7 +21,7 @@ impl Record {
             setting,
             start: u32::from_be_bytes([a, b, c, d]),
             issue: u16::from_be_bytes([e, f]),
-            value: f64::from_be_bytes(value),
+            value: u64::from_be_bytes(value),
         }
     }
 
@@ -40,7 +41,7 @@ fn read(store: &[u8]) -> Result<Vec<Record>, Refused> {
             7
         } else if record.setting > 5 {
             8
-        } else if !(0.0..=1e9).contains(&record.value) {
+        } else if !(0.0..=1e9).contains(&f64::from_bits(record.value)) {
             11
         } else {
             records.push(record);
@@ -97,8 +98,7 @@ fn look_up(records: &[Record], day: u32) -> Result<[f64; 6], Refused> {
     }
     let mut six = [0.0; 6];
     for (slot, record) in best.iter().enumerate() {
-        // The sum makes a zero of minus zero.
-        six[slot] = record.ok_or((18, slot as u64))?.value + 0.0;
+        six[slot] = f64::from_bits(record.ok_or((18, slot as u64))?.value);
     }
     Ok(six)
 }

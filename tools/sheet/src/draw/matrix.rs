@@ -21,7 +21,7 @@ const COSTS: [&str; 3] = [
     "A cost is the car's rank for the stop. SCAN's is the distance from the car to the stop, as positions count it.",
 ];
 const DIGITS: &str = "Here and at the arrows it is rounded; under the pointer stands the cell itself, which counts 1,000,000 for a cost of 1, as the total does.";
-const TIES: &str = "Where several choices have the least total, the bench takes the lowest columns in car order: the lowest for the first car, then for the second, and so on.";
+const TIES: &str = "Where several choices have the least total, the bench takes one that sends most cars, then the lowest columns: the lowest for the first car, then for the second, and so on.";
 
 /// What is said of a held cell after its cost.
 const HELD: &str = ", held at the ceiling";

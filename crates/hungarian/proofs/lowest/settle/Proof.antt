@@ -5,7 +5,7 @@ use Rattle.hungarian.proofs.lowest.settle.Tie as tie
 use Prim.Native.Nat.{ℕ, _-_, _≤_}
 use mathlib.Core.Path.{_≡_, sym, _∙_, subst}
 use Rattle.assignment_problem.specs.Choice.{cellAt}
-use Rattle.assignment_problem.specs.Chosen.{chosen-tab}
+use Rattle.assignment_problem.specs.Lowest.{lowest-tab}
 use Rattle.alternating_tree.specs.Lists.{at, big}
 use Rattle.alternating_tree.specs.State.{Sizes, Scratch}
 use Rattle.equality_graph.specs.Settled.{Settled, settle-none, settle-done}
@@ -65,7 +65,7 @@ returns c =
     let s = c .before .before .before .before .before .before .before .before .before .before in
     let e : a .loop .i ≡ s .args .n = omega (arith, a .loop .inv .2, c .loop-test .left) in
     let st = subst (λ (z : ℕ). Settled (s .args .cells .now) (s .args .n) (s .args .cols) z (s .args .u .now) (s .args .w .now) (a .loop .row-of) (a .loop .col-of)) e (a .loop .inv .3) in
-    chosen-tab (cellAt (s .args .cells .now) (s .args .cols)) (s .args .n) (s .args .cols) (s .pre .1 .0 .wide) (at (a .loop .col-of)) (settle-done st)
+    lowest-tab (cellAt (s .args .cells .now) (s .args .cols)) (s .args .n) (s .args .cols) (s .pre .1 .0 .wide) (at (a .loop .col-of)) (settle-done st)
 
 pub settle-spec : {M : Type 1} → statement M
 settle-spec =

@@ -1,6 +1,9 @@
 //! Stand-in for the pathfinding library: the matrix and the least-total choice that assignment.rs asks
-//! for. The library's own tie order isn't known here; this choice takes, among the least totals, the
-//! lowest column for the first row, then the second, on (document 01's rule).
+//! for. The library's own tie order isn't known here; this choice takes, among the least totals, the one
+//! with the fewest cells at the sentinel (document 02, F-9), and among these the lowest column for the
+//! first row, then the second, on (document 01's rule).
+
+use std::ops::{Add, Sub};
 
 pub mod matrix {
     use std::ops::{Index, IndexMut};
@@ -50,7 +53,7 @@ pub mod matrix {
 pub mod kuhn_munkres {
     use crate::matrix::Matrix;
 
-    /// The least total and its lowest-column choice.
+    /// The least total and its choice.
     pub fn kuhn_munkres_min(weights: &Matrix<i64>) -> (i64, Vec<usize>) {
         let chosen = crate::least_choice(weights.rows, weights.columns, weights.cells());
         let total = (0..weights.rows).map(|i| weights[(i, chosen[i])]).sum();
@@ -58,13 +61,59 @@ pub mod kuhn_munkres {
     }
 }
 
-/// The least-total choice of one column a row, lowest columns first among equals. Rows are padded to a
-/// square with rows of zeros; shortest augmenting paths give prices under which exactly the least
-/// choices use tight cells only, and the lowest of these is found row by row.
+/// The cell of a car that is not sent to a column.
+pub const SENTINEL: i64 = 1 << 48;
+
+/// The least-total choice of one column a row, among these the one with the fewest sentinels, among these
+/// the lowest columns.
 pub fn least_choice(rows: usize, columns: usize, cells: &[i64]) -> Vec<usize> {
+    let pair = |x: &i64| Cost(*x, i64::from(*x == SENTINEL));
+    let pairs: Vec<Cost> = cells.iter().map(pair).collect();
+    lowest_of(rows, columns, &pairs)
+}
+
+/// The least-total choice of one column a row, lowest columns first among equals, whoever gets a sentinel.
+pub fn lowest_choice(rows: usize, columns: usize, cells: &[i64]) -> Vec<usize> {
+    let alone: Vec<Cost> = cells.iter().map(|x| Cost(*x, 0)).collect();
+    lowest_of(rows, columns, &alone)
+}
+
+/// A cell and whether it is the sentinel; the first decides, and the second among equals.
+#[derive(Clone, Copy, PartialEq, Eq, PartialOrd, Ord)]
+struct Cost(i64, i64);
+
+impl Cost {
+    const ZERO: Self = Self(0, 0);
+    const MAX: Self = Self(i64::MAX, i64::MAX);
+}
+
+impl Add for Cost {
+    type Output = Self;
+    fn add(self, other: Self) -> Self {
+        Self(self.0 + other.0, self.1 + other.1)
+    }
+}
+
+impl Sub for Cost {
+    type Output = Self;
+    fn sub(self, other: Self) -> Self {
+        Self(self.0 - other.0, self.1 - other.1)
+    }
+}
+
+/// The choice of the least cost, lowest columns first among equals. Rows are padded to a square with rows
+/// of zeros; shortest augmenting paths give prices under which exactly the least choices use tight cells
+/// only, and the lowest of these is found row by row.
+fn lowest_of(rows: usize, columns: usize, cells: &[Cost]) -> Vec<usize> {
     assert!(rows <= columns && cells.len() == rows * columns);
     let n = columns;
-    let cell = |i: usize, j: usize| if i < rows { cells[i * columns + j] } else { 0 };
+    let cell = |i: usize, j: usize| {
+        if i < rows {
+            cells[i * columns + j]
+        } else {
+            Cost::ZERO
+        }
+    };
     let (row_price, column_price, mut row_of) = prices(n, &cell);
     let tight = |i: usize, j: usize| cell(i, j) == row_price[i] + column_price[j];
     let mut column_of = vec![0; n];
@@ -121,21 +170,21 @@ pub fn least_choice(rows: usize, columns: usize, cells: &[i64]) -> Vec<usize> {
 }
 
 /// Row prices, column prices and the row of each column for a least choice of a square matrix.
-fn prices(n: usize, cell: &dyn Fn(usize, usize) -> i64) -> (Vec<i64>, Vec<i64>, Vec<usize>) {
+fn prices(n: usize, cell: &dyn Fn(usize, usize) -> Cost) -> (Vec<Cost>, Vec<Cost>, Vec<usize>) {
     // One-based, column 0 is the start of each search.
-    let mut u = vec![0i64; n + 1];
-    let mut v = vec![0i64; n + 1];
+    let mut u = vec![Cost::ZERO; n + 1];
+    let mut v = vec![Cost::ZERO; n + 1];
     let mut row_of = vec![0usize; n + 1];
     let mut way = vec![0usize; n + 1];
     for i in 1..=n {
         row_of[0] = i;
         let mut j0 = 0;
-        let mut least = vec![i64::MAX; n + 1];
+        let mut least = vec![Cost::MAX; n + 1];
         let mut used = vec![false; n + 1];
         loop {
             used[j0] = true;
             let i0 = row_of[j0];
-            let mut delta = i64::MAX;
+            let mut delta = Cost::MAX;
             let mut j1 = 0;
             for j in 1..=n {
                 if !used[j] {
@@ -152,10 +201,10 @@ fn prices(n: usize, cell: &dyn Fn(usize, usize) -> i64) -> (Vec<i64>, Vec<i64>, 
             }
             for j in 0..=n {
                 if used[j] {
-                    u[row_of[j]] += delta;
-                    v[j] -= delta;
+                    u[row_of[j]] = u[row_of[j]] + delta;
+                    v[j] = v[j] - delta;
                 } else {
-                    least[j] -= delta;
+                    least[j] = least[j] - delta;
                 }
             }
             j0 = j1;
@@ -175,42 +224,51 @@ fn prices(n: usize, cell: &dyn Fn(usize, usize) -> i64) -> (Vec<i64>, Vec<i64>, 
 
 #[cfg(test)]
 mod tests {
-    use super::least_choice;
+    use super::{SENTINEL, least_choice, lowest_choice};
 
-    /// The definition: the first row is given each free column in turn, the rest is passed on.
+    /// The definition: the first row is given each free column in turn, the rest is passed on. A choice
+    /// comes with its total and how many sentinels it has, where they count.
     fn plain(
         i: usize,
         rows: usize,
         columns: usize,
         cells: &[i64],
+        counted: bool,
         taken: u64,
-    ) -> (i64, Vec<usize>) {
+    ) -> ((i64, i64), Vec<usize>) {
         if i == rows {
-            return (0, Vec::new());
+            return ((0, 0), Vec::new());
         }
-        let mut best: Option<(i64, Vec<usize>)> = None;
+        let mut best: Option<((i64, i64), Vec<usize>)> = None;
         for j in 0..columns {
             if taken >> j & 1 == 1 {
                 continue;
             }
-            let (rest, tail) = plain(i + 1, rows, columns, cells, taken | 1 << j);
-            let total = cells[i * columns + j] + rest;
-            if best.as_ref().is_none_or(|(least, _)| total < *least) {
+            let (rest, tail) = plain(i + 1, rows, columns, cells, counted, taken | 1 << j);
+            let cell = cells[i * columns + j];
+            let found = (
+                cell + rest.0,
+                i64::from(counted && cell == SENTINEL) + rest.1,
+            );
+            if best.as_ref().is_none_or(|(least, _)| found < *least) {
                 let mut choice = vec![j];
                 choice.extend(tail);
-                best = Some((total, choice));
+                best = Some((found, choice));
             }
         }
         best.unwrap()
     }
 
     #[test]
-    fn cases_of_document_01() {
-        let s = 1i64 << 48;
+    fn cases_of_the_documents() {
+        let s = SENTINEL;
         assert_eq!(least_choice(2, 2, &[1, 2, 1, 9]), [1, 0]);
         assert_eq!(least_choice(2, 2, &[5, 5, 5, 5]), [0, 1]);
         assert_eq!(least_choice(2, 2, &[s - 1, 1, s, s - 1]), [1, 0]);
         assert_eq!(least_choice(0, 3, &[]), [] as [usize; 0]);
+        // document 02, F-9
+        assert_eq!(least_choice(2, 2, &[1, s - 1, 2, s]), [1, 0]);
+        assert_eq!(lowest_choice(2, 2, &[1, s - 1, 2, s]), [0, 1]);
     }
 
     #[test]
@@ -222,23 +280,24 @@ mod tests {
             seed ^= seed << 17;
             seed
         };
+        let mut unlike = 0;
         for _ in 0..20_000 {
             let columns = 1 + (next() % 6) as usize;
             let rows = (next() % (columns as u64 + 1)) as usize;
             let top = [1, 2, 3, 10, 1 << 48][(next() % 5) as usize];
             let cells: Vec<i64> = (0..rows * columns)
-                .map(|_| {
-                    if next() % 4 == 0 {
-                        1 << 48
-                    } else {
-                        (next() % (top + 1)) as i64
-                    }
+                .map(|_| match next() % 8 {
+                    0..4 => SENTINEL,
+                    4..6 => SENTINEL - 1,
+                    _ => (next() % (top + 1)) as i64,
                 })
                 .collect();
-            assert_eq!(
-                least_choice(rows, columns, &cells),
-                plain(0, rows, columns, &cells, 0).1
-            );
+            let most = least_choice(rows, columns, &cells);
+            let lowest = lowest_choice(rows, columns, &cells);
+            assert_eq!(most, plain(0, rows, columns, &cells, true, 0).1);
+            assert_eq!(lowest, plain(0, rows, columns, &cells, false, 0).1);
+            unlike += u64::from(most != lowest);
         }
+        assert!(unlike > 100, "the two rules differ on {unlike} matrices");
     }
 }

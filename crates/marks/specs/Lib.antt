@@ -1,0 +1,2 @@
+-- Marked cells.
+pub mod Marks

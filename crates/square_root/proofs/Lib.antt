@@ -1,0 +1,3 @@
+-- Laws that the proofs of `square_root` share.
+pub mod Turns
+pub mod Ways
