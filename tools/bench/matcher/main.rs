@@ -1,6 +1,6 @@
-// Times the matcher, the whole choice with its lowest columns, beside an exact solver in Rust that finds the least total alone. Both see the same
-// matrices of 32 cars and 64 columns in one run, in turn; the least time of many short rounds is taken of each, so that other load on the machine
-// does not count. See run.sh.
+// Times the matcher, the whole choice with most cars and lowest columns, beside an exact solver in Rust that finds the least total alone. Both see
+// the same matrices of 32 cars and 64 columns in one run, in turn; the least time of many short rounds is taken of each, so that other load on the
+// machine does not count. See run.sh.
 use std::hint::black_box;
 use std::time::Instant;
 
