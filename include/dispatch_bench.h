@@ -148,8 +148,8 @@ uint32_t dispatch_bench_grade(const uint8_t *sheet, size_t length, const uint32_
                               uint32_t *least, uint64_t *offset);
 
 /* The seconds of a run with ramps that ends at rest: over a distance, from a starting speed, by a top speed and the rates of acceleration and
-   deceleration, in units of length, of these a second, and of these a second each second; travel_time of the published eta.rs, bit for bit. 0: *time is
-   the seconds, a finite double. It is 0 where the distance, the top speed or a rate is not above zero; a starting speed below zero counts as 0, one
+   deceleration, in units of length, of these a second, and of these a second each second; travel_time of the published eta.rs, bit for bit. 0: *time
+   is the seconds, a finite double. It is 0 where the distance, the top speed or a rate is not above zero; a starting speed below zero counts as 0, one
    above the top speed as that. For a distance and a speed that are nearly zero it can come out below zero (docs/DIFFERENCES.md). 21, and nothing is
    written: an input is a NaN or beyond DISPATCH_BENCH_MOST_INPUT either way, or the top speed or a rate lies above 0 and below
    DISPATCH_BENCH_LEAST_RATE. A sheet holds no rates, so the caller supplies all five. */

@@ -1,5 +1,5 @@
-/* dispatch_bench_weights, dispatch_bench_grade and dispatch_bench_travel_time as a host in C calls them: each number with its offset, and what is left in every place. The
-   argument is document 01's example, which is graded. Ends with 0 where all is as the header says; what is not is said on standard error. */
+/* dispatch_bench_weights, dispatch_bench_grade and dispatch_bench_travel_time as a host in C calls them: each number with its offset, and what is
+   left in every place. The argument is document 01's example, which is graded. Ends with 0 where all is as the header says; what is not is said on standard error. */
 #include <inttypes.h>
 #include <math.h>
 #include <stdio.h>
