@@ -33,7 +33,7 @@ uint32_t dispatch_bench_read(const uint8_t *sheet, size_t length, uint64_t *offs
 uint32_t dispatch_bench_choose(size_t cars, size_t columns, const uint64_t *cells, size_t cell_count, uint32_t *chosen, size_t places, uint64_t *total);
 
 /* The refusals, by the numbers of documents 01 and 02. Those of a store of weights are 1, 2, 7, 8, 11, 17 and 18; 19 and 20 are given by
-   dispatch_bench_grade alone. */
+   dispatch_bench_grade alone, 21 by dispatch_bench_travel_time alone. */
 enum dispatch_bench_refusal {
     DISPATCH_BENCH_ACCEPTED = 0,
     DISPATCH_BENCH_SHORT_BUFFER = 1,    /* a lent buffer is too short (dispatch_bench_pass, _pending, _weights, _grade) */
@@ -55,7 +55,8 @@ enum dispatch_bench_refusal {
     DISPATCH_BENCH_TWO_VALUES = 17,     /* records of a store that agree in setting, start day and issue, but not in value */
     DISPATCH_BENCH_NO_WEIGHT = 18,      /* a slot without a record for the day */
     DISPATCH_BENCH_COLUMNS = 19,        /* not one column for each idle car, or one that repeats or lies outside the matrix */
-    DISPATCH_BENCH_PRICES = 20          /* not one price for each car and column, or one beyond DISPATCH_BENCH_MOST_PRICE either way */
+    DISPATCH_BENCH_PRICES = 20,         /* not one price for each car and column, or one beyond DISPATCH_BENCH_MOST_PRICE either way */
+    DISPATCH_BENCH_OUTSIDE = 21         /* an input of a travel time outside of its domain */
 };
 
 /* The least lengths of the buffers that a pass is lent; a grader is lent a matrix alone. */
@@ -80,6 +81,10 @@ enum dispatch_bench_refusal {
 
 /* The largest price of a car or a column that a grader takes, and as far below zero the least: no sum of two prices wraps. */
 #define DISPATCH_BENCH_MOST_PRICE INT64_C(18014398509481984)
+
+/* The largest size of an input of a travel time, and the least top speed and rate that is above zero. */
+#define DISPATCH_BENCH_MOST_INPUT 1000000.0
+#define DISPATCH_BENCH_LEAST_RATE 0.0009765625
 
 /* Bytes of a sheet past these change no answer; an accepted one has at most 26,515. */
 #define DISPATCH_BENCH_MOST_BYTES 65536
@@ -141,6 +146,14 @@ uint32_t dispatch_bench_weights(const uint8_t *store, size_t length, uint32_t da
 uint32_t dispatch_bench_grade(const uint8_t *sheet, size_t length, const uint32_t *columns, size_t column_count, const int64_t *car_prices,
                               size_t car_price_count, const int64_t *column_prices, size_t column_price_count, uint64_t *matrix, size_t cell_count,
                               uint32_t *least, uint64_t *offset);
+
+/* The seconds of a run with ramps that ends at rest: over a distance, from a starting speed, by a top speed and the rates of acceleration and
+   deceleration, in units of length, of these a second, and of these a second each second; travel_time of the published eta.rs, bit for bit. 0: *time
+   is the seconds, a finite double. It is 0 where the distance, the top speed or a rate is not above zero; a starting speed below zero counts as 0, one
+   above the top speed as that. For a distance and a speed that are nearly zero it can come out below zero (docs/DIFFERENCES.md). 21, and nothing is
+   written: an input is a NaN or beyond DISPATCH_BENCH_MOST_INPUT either way, or the top speed or a rate lies above 0 and below
+   DISPATCH_BENCH_LEAST_RATE. A sheet holds no rates, so the caller supplies all five. */
+uint32_t dispatch_bench_travel_time(double distance, double speed, double top, double acceleration, double deceleration, double *time);
 
 #ifdef __cplusplus
 }

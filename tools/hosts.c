@@ -1,5 +1,5 @@
-/* dispatch_bench_weights and dispatch_bench_grade as a host in C calls them: each number with its offset, and what is left in every place. The
-   argument is document 01's example, which is graded. Ends with 0 where all is as the header says; what is not is said on standard error. */
+/* dispatch_bench_weights, dispatch_bench_grade and dispatch_bench_travel_time as a host in C calls them: each number with its offset, and what is
+   left in every place. The argument is document 01's example, which is graded. Ends with 0 where all is as the header says; what is not is said on standard error. */
 #include <inttypes.h>
 #include <math.h>
 #include <stdio.h>
@@ -229,6 +229,43 @@ static void grades_are_refused(void) {
     grade("the least number", &s, sheet_length, LENT, DISPATCH_BENCH_PRICES, 0, 0);
 }
 
+/* The call: the number, and the time's bits where it is 0. */
+static void run(const char *name, const double *in, uint32_t number, uint64_t wanted) {
+    double time;
+    uint64_t bits = KEPT_PLACE;
+    memcpy(&time, &bits, sizeof time);
+    uint32_t answer = dispatch_bench_travel_time(in[0], in[1], in[2], in[3], in[4], &time);
+    memcpy(&bits, &time, sizeof bits);
+    if (answer != number || bits != (number == 0 ? wanted : KEPT_PLACE)) {
+        fprintf(stderr, "%s: answers %" PRIu32 ", time 0x%016" PRIx64 "\n", name, answer, bits);
+        wrong++;
+    }
+}
+
+static void times_are_given(void) {
+    run("a cruise", (double[]){12, 0, 2.5, 1, 1.2}, DISPATCH_BENCH_ACCEPTED, UINT64_C(0x401c5dddddddddde));
+    run("no cruise", (double[]){3, 0, 2.5, 1, 1.2}, DISPATCH_BENCH_ACCEPTED, UINT64_C(0x400a887293fd6f34));
+    run("braking", (double[]){0.140625, 1.54, 2.5, 1, 2.6}, DISPATCH_BENCH_ACCEPTED, UINT64_C(0x3fb98667dc93ce0c));
+    run("nowhere", (double[]){-0.0, 1, 2.5, 1, 1.2}, DISPATCH_BENCH_ACCEPTED, 0);
+    run("below zero", (double[]){5e-324, 1e-200, 1, DISPATCH_BENCH_LEAST_RATE, 1}, DISPATCH_BENCH_ACCEPTED, UINT64_C(0x97087e92154ef7ac));
+}
+
+static void times_are_refused(void) {
+    for (int place = 0; place < 5; place++) {
+        double in[] = {12, 0, 2.5, 1, 1.2};
+        in[place] = nextafter(DISPATCH_BENCH_MOST_INPUT, INFINITY);
+        run("one step too large", in, DISPATCH_BENCH_OUTSIDE, 0);
+        in[place] = -in[place];
+        run("one step too far below zero", in, DISPATCH_BENCH_OUTSIDE, 0);
+        in[place] = NAN;
+        run("no number", in, DISPATCH_BENCH_OUTSIDE, 0);
+        in[place] = nextafter(DISPATCH_BENCH_LEAST_RATE, 0);
+        if (place >= 2) {
+            run("one step below the least rate", in, DISPATCH_BENCH_OUTSIDE, 0);
+        }
+    }
+}
+
 int main(int count, char **words) {
     FILE *file = count == 2 ? fopen(words[1], "rb") : NULL;
     if (file == NULL) {
@@ -242,5 +279,7 @@ int main(int count, char **words) {
     a_full_store();
     grades_are_given();
     grades_are_refused();
+    times_are_given();
+    times_are_refused();
     return wrong != 0;
 }

@@ -1,5 +1,5 @@
-//! The dispatch bench for Rust hosts: one group pass of lift dispatch over a binary sheet, the weights of a policy from a store, and the grade of
-//! a choice that a site made.
+//! The dispatch bench for Rust hosts: one group pass of lift dispatch over a binary sheet, the weights of a policy from a store, the grade of
+//! a choice that a site made, and the seconds of a run with ramps.
 //!
 //! Every function of the linked library is proved to meet its contract; this crate is what a Rust host needs around it and is not proved. Each
 //! function ends on every input, with an answer or a refusal, and none panics. There is no state, so any number of threads may call at once;
@@ -29,6 +29,7 @@ mod pending;
 mod records;
 mod refusal;
 mod rules;
+mod travel;
 mod weights;
 
 pub use grade::{Grade, Graded, MOST_PRICE, Sent, grade, grade_into};
@@ -39,6 +40,7 @@ pub use pass::{
 pub use pending::{STOPS, pending, pending_into};
 pub use records::{Car, cars};
 pub use refusal::Refusal;
+pub use travel::{LEAST_RATE, MOST_INPUT, OutsideDomain, Run, travel_time};
 pub use weights::{SLOTS, StoreRefusal, weights};
 
 /// The cell of a pair that has no rank and of a spare column, what a car that stays idle counts in the total, and the largest cell that

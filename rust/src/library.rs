@@ -4,7 +4,7 @@
 //! lasts; two `&mut` never overlap, nor does one overlap a `&`. The library keeps no address and no state between calls, and returns from every
 //! input. A `Decision` is laid out as a `u32` with 0 for `None`, and a `Sweep` as a `u8`, so whatever number is written there is a value of them.
 
-use crate::{Decision, Sent, Sweep};
+use crate::{Decision, Run, Sent, Sweep};
 
 unsafe extern "C" {
     fn dispatch_bench_version() -> u32;
@@ -63,6 +63,14 @@ unsafe extern "C" {
         cell_count: usize,
         least: *mut u32,
         offset: *mut u64,
+    ) -> u32;
+    fn dispatch_bench_travel_time(
+        distance: f64,
+        speed: f64,
+        top: f64,
+        acceleration: f64,
+        deceleration: f64,
+        time: *mut f64,
     ) -> u32;
 }
 
@@ -196,6 +204,21 @@ pub fn grade(
             matrix.len(),
             least,
             offset,
+        )
+    }
+}
+
+/// 0 where `time` is the seconds of a run, or the refusal's number.
+pub fn travel_time(run: &Run, time: &mut f64) -> u32 {
+    // SAFETY: the time is lent as the address of one `f64`; see above.
+    unsafe {
+        dispatch_bench_travel_time(
+            run.distance,
+            run.speed,
+            run.top_speed,
+            run.acceleration,
+            run.deceleration,
+            time,
         )
     }
 }

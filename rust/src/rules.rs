@@ -103,10 +103,10 @@ pub const RULES: [Rule; 16] = [
 ];
 
 /// The number of the first of them.
-const FIRST_OF_GRADE: u32 = 19;
+const FIRST_OF_CALLS: u32 = 19;
 
-/// The refusals of what a site sent to be graded: 19 and 20.
-const GRADE_RULES: [Rule; 2] = [
+/// The refusals of what is handed over beside a sheet, or without one: 19 and 20 of what a site sent to be graded, 21 of a run's inputs.
+const CALL_RULES: [Rule; 3] = [
     Rule {
         says: "What a site sent has not one column for each idle car, or a column repeats or lies outside of the matrix.",
         remedy: "Have the site send a column of its own for each idle car, in record order; columns count from 0, the pending stops first.",
@@ -114,6 +114,10 @@ const GRADE_RULES: [Rule; 2] = [
     Rule {
         says: "What a site sent has not one price for each idle car and one for each column, or a price is beyond 18,014,398,509,481,984 either way.",
         remedy: "Have the site send a whole price inside of the range for each idle car, in record order, and for each column of the matrix.",
+    },
+    Rule {
+        says: "An input of a travel time is not a number or beyond 1,000,000 either way, or its top speed or a rate is above 0 and below 1/1,024.",
+        remedy: "Give a distance, a speed and rates inside of the domain; a top speed or rate of 0 stands for a car that does not run, in no time.",
     },
 ];
 
@@ -176,11 +180,11 @@ pub const STORE_RULES: [(u32, Rule); 7] = [
     ),
 ];
 
-/// The rule of a refusal of a sheet, or of what is sent with it to be graded.
+/// The rule of a refusal of a sheet, of what is sent with it to be graded, or of a run's inputs.
 pub fn rule(number: u32) -> Option<&'static Rule> {
     let place = |first: u32| number.checked_sub(first).map(|place| place as usize);
-    let of_grade = place(FIRST_OF_GRADE).and_then(|place| GRADE_RULES.get(place));
-    of_grade.or_else(|| RULES.get(place(1)?))
+    let of_call = place(FIRST_OF_CALLS).and_then(|place| CALL_RULES.get(place));
+    of_call.or_else(|| RULES.get(place(1)?))
 }
 
 /// The rule of a store's refusal.

@@ -117,6 +117,30 @@ unsafe extern "C" {
 
 const RTLD_NOW: c_int = 2;
 
+/// Opens the shared object at `path`.
+fn open(path: &str) -> Result<*mut c_void, String> {
+    let name = CString::new(path).map_err(|e| e.to_string())?;
+    let library = unsafe { dlopen(name.as_ptr(), RTLD_NOW) };
+    if library.is_null() {
+        let message = unsafe { std::ffi::CStr::from_ptr(dlerror()) };
+        return Err(message.to_string_lossy().into_owned());
+    }
+    Ok(library)
+}
+
+type TravelTime = unsafe extern "C" fn(f64, f64, f64, f64, f64, *mut f64) -> u32;
+
+/// The travel time of the shared object at `path`.
+pub fn travel_time(path: &str) -> Result<impl Fn(&[f64; 5], &mut f64) -> u32, String> {
+    let found = unsafe { dlsym(open(path)?, c"dispatch_bench_travel_time".as_ptr()) };
+    let function = unsafe { std::mem::transmute::<*mut c_void, Option<TravelTime>>(found) };
+    let function = function.ok_or("nothing compared: the library has no travel time")?;
+    Ok(move |run: &[f64; 5], time: &mut f64| {
+        let [distance, speed, top, up, down] = *run;
+        unsafe { function(distance, speed, top, up, down, time) }
+    })
+}
+
 /// The proved functions.
 pub struct Linked {
     read: Option<Read>,
@@ -128,12 +152,7 @@ pub struct Linked {
 impl Linked {
     /// Loads the shared object at `path`; a slice is passed as its address and length.
     pub fn load(path: &str) -> Result<Self, String> {
-        let name = CString::new(path).map_err(|e| e.to_string())?;
-        let library = unsafe { dlopen(name.as_ptr(), RTLD_NOW) };
-        if library.is_null() {
-            let message = unsafe { std::ffi::CStr::from_ptr(dlerror()) };
-            return Err(message.to_string_lossy().into_owned());
-        }
+        let library = open(path)?;
         let find = |name: &std::ffi::CStr| unsafe { dlsym(library, name.as_ptr()) };
         unsafe {
             let version = std::mem::transmute::<*mut c_void, Option<Version>>(find(

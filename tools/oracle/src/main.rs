@@ -11,6 +11,7 @@ mod lists;
 mod paper;
 mod rust_pass;
 mod timing;
+mod travel;
 
 use std::io::{Read, Write};
 use std::process::ExitCode;
@@ -32,7 +33,12 @@ oracle limits SEED COUNT       a higher limit never raises the total, by the Rus
 oracle first LIBRARY SEED COUNT
                                the first release refuses closed landings by 4 and load weights by 15; LIBRARY is its shared object
 oracle survey SEED COUNT       what the sheets of each profile are like
-oracle list refusals|passes|pairs|ranks|grades SEED FILE
+oracle travel LIBRARY SEED COUNT
+                               travel times beside eta.rs, on COUNT runs; LIBRARY is a shared object
+oracle travel selftest COUNT   travel times that are wrong on purpose must be found out
+oracle travel time LIBRARY [ROUNDS]
+                               a call beside eta.rs, in nanoseconds
+oracle list refusals|passes|pairs|ranks|grades|travel SEED FILE
                                writes a fixed list
 Sheets are read from FILE or standard input.";
 
@@ -57,6 +63,15 @@ fn clean(same: bool) -> Result<(), String> {
         std::process::exit(1);
     }
     println!("no difference");
+    Ok(())
+}
+
+fn found_out(all: bool) -> Result<(), String> {
+    if !all {
+        println!("a fault was not found out, or a difference was seen where there is none");
+        std::process::exit(1);
+    }
+    println!("every fault was found out");
     Ok(())
 }
 
@@ -119,19 +134,27 @@ fn run(args: &[&str]) -> Result<(), String> {
                 "pairs" => lists::pairs(number(seed)?),
                 "ranks" => lists::ranks(number(seed)?),
                 "grades" => grades::list(number(seed)?),
+                "travel" => travel::list(number(seed)?),
                 _ => return Err(USAGE.into()),
             };
             println!("{cases} cases, {} bytes", list.len());
             return std::fs::write(file, list).map_err(fault);
         }
+        ["travel", "selftest", count] => {
+            return found_out(travel::selftest(number(count)?));
+        }
+        ["travel", "time", library, rest @ ..] if rest.len() < 2 => {
+            let rounds = rest.first().map_or(Ok(99), |word| number(word))?;
+            travel::time(&bench::travel_time(library)?, rounds.max(1) as usize);
+            return Ok(());
+        }
+        ["travel", library, seed, count] => {
+            let function = bench::travel_time(library)?;
+            return clean(travel::compare(&function, number(seed)?, number(count)?));
+        }
         ["selftest", rest @ ..] if rest.len() < 3 => {
             let count = rest.first().map_or(Ok(3000), |word| number(word))?;
-            if !compare::selftest(count, rest.get(1).copied()) {
-                println!("a fault was not found out, or a difference was seen where there is none");
-                std::process::exit(1);
-            }
-            println!("every fault was found out");
-            return Ok(());
+            return found_out(compare::selftest(count, rest.get(1).copied()));
         }
         _ => {}
     }

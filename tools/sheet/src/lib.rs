@@ -1,8 +1,9 @@
 //! Sheets of the dispatch bench as text: `text` writes them, `show` shows them, `explain` says why the
 //! proved library refuses one, `draw` draws a sheet and its pass. `fields` is the one table of the
 //! format that they read. `store` writes and shows stores of weights, `weights` looks a day's weights up.
-//! `grades` reads what a site sent to be graded, `grade` says what came of it.
-//! Verdicts, passes, weights and grades come from the crate dispatch-bench, with the feature `pass`.
+//! `grades` reads what a site sent to be graded, `grade` says what came of it. `ramps` reads the rates of a run
+//! from a command line, `travel` has the seconds that it takes.
+//! Verdicts, passes, weights, grades and seconds come from the crate dispatch-bench, with the feature `pass`.
 
 pub mod cut;
 #[cfg(feature = "pass")]
@@ -18,6 +19,7 @@ pub mod grades;
 pub mod line;
 pub mod near;
 mod numbers;
+pub mod ramps;
 #[cfg(feature = "pass")]
 mod remedies;
 // The table of refusals is that of the crate dispatch-bench; `rule` needs it without the library too.
@@ -26,6 +28,8 @@ pub mod rules;
 pub mod show;
 pub mod store;
 pub mod text;
+#[cfg(feature = "pass")]
+pub mod travel;
 pub mod value;
 #[cfg(feature = "pass")]
 pub mod weights;

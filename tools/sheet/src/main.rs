@@ -1,5 +1,5 @@
 //! `sheet`: sheets of the dispatch bench written from text, shown as text, explained and drawn; stores of
-//! weights written, shown and asked; choices of a site graded.
+//! weights written, shown and asked; choices of a site graded; the seconds of runs.
 
 use std::ffi::OsString;
 use std::io::{ErrorKind, IsTerminal, Read, Write};
@@ -7,6 +7,7 @@ use std::path::Path;
 use std::process::ExitCode;
 
 use sheet::line::Fault;
+use sheet::ramps::{self, Ramps};
 use sheet::{near, rules, show, store, text};
 
 const USAGE: &str = "\
@@ -15,8 +16,9 @@ usage: sheet COMMAND
   write IN.txt [OUT]   turn text into a sheet, in OUT or on standard output
   show SHEET           print a sheet as text that `write` turns into the same bytes
   explain SHEET        say whether the bench accepts a sheet, and if not, what to do
-  draw SHEET [OUT]     draw a sheet and its pass, or where it is refused, as SVG; cells that are held at the ceiling are marked
-  pass SHEET           print the pass, or the refusal, in the lines of the program passprint; the first ends with the number of held cells
+  draw SHEET [OUT] [RATES]
+                       draw a sheet and its pass, or where it is refused, as SVG; cells that are held at the ceiling are marked
+  pass SHEET [RATES]   print the pass, or the refusal, in the lines of the program passprint; the first ends with the number of held cells
   grade SHEET GRADES.txt
                        say whether the prices that a site sent show its choice of columns to be least, and if not, the first
                        rule that they break
@@ -30,6 +32,8 @@ usage: sheet COMMAND
   store weights STORE DAY [STRATEGY]
                        print the six weights of a day with the records that they are of, or why there are none
   help, --version      print this, or the version
+With RATES, --acceleration A --deceleration D [--speed V], `pass` prints beside each decision, and `draw` writes at each arrow, the seconds of the
+run from the car to the stop, from speed V (0 where it is not named) and by the car's max speed.
 In a sheet's text `policy .. weights=STORE day=DAY` takes the weights of a store, which is looked for from the text's folder on.
 - stands for standard input, as OUT for standard output. The text is described in docs/manual/planners.md.
 Exit 0: done, a refusal explained included. 1: not done, the reason is on standard error. 2: no such command.
@@ -43,8 +47,8 @@ const COMMANDS: [Command; 13] = [
     ("write", " IN.txt [OUT]", 1),
     ("show", " SHEET", 1),
     ("explain", " SHEET", 1),
-    ("draw", " SHEET [OUT]", 1),
-    ("pass", " SHEET", 1),
+    ("draw", " SHEET [OUT] [RATES]", 1),
+    ("pass", " SHEET [RATES]", 1),
     ("grade", " SHEET GRADES.txt", 2),
     ("rule", " [NUMBER]", 0),
     ("store", " example|write|show|weights ..", 1),
@@ -101,9 +105,7 @@ fn command(args: &[OsString]) -> Result<(), Stop> {
         ["write", _, _] => write(path(1), Some(path(2)), sheet_bytes, "a sheet"),
         ["show", _] => print(made(path(1), shown)?.as_bytes()),
         ["explain", _] => print(explain(&input(path(1))?)?.as_bytes()),
-        ["draw", _] | ["draw", _, "-"] => print(made(path(1), draw)?.as_bytes()),
-        ["draw", _, _] => replace(path(2), made(path(1), draw)?.as_bytes()),
-        ["pass", _] => print(made(path(1), pass)?.as_bytes()),
+        ["draw" | "pass", after @ ..] => with_ramps(words[0], after, &args[1..]),
         ["grade", "-", "-"] => Err(failed(
             "- stands for the sheet and for the text: standard input is read once",
         )),
@@ -120,6 +122,26 @@ fn command(args: &[OsString]) -> Result<(), Stop> {
         ["store", "weights", _, word] => weights(path(2), day(word)?, None),
         ["store", "weights", _, word, name] => weights(path(2), day(word)?, Some(strategy(name)?)),
         words => Err(Stop::Usage(no_meaning(words))),
+    }
+}
+
+/// `draw` or `pass`, whose words may have the rates of a run among them.
+fn with_ramps(command: &str, words: &[&str], args: &[OsString]) -> Result<(), Stop> {
+    let (ramps, others) = ramps::split(words).map_err(|fault| match fault {
+        ramps::Fault::Usage(why) => Stop::Usage(why),
+        ramps::Fault::Value(why) => Stop::Failed(why),
+    })?;
+    let ramps = ramps.as_ref();
+    let path = |k: usize| Path::new(&args[others[k]]);
+    let words: Vec<&str> = others.iter().map(|k| words[*k]).collect();
+    match (command, words.as_slice()) {
+        ("pass", [_]) => print(made(path(0), |bytes| pass(bytes, ramps))?.as_bytes()),
+        ("draw", [_] | [_, "-"]) => print(made(path(0), |bytes| draw(bytes, ramps))?.as_bytes()),
+        ("draw", [_, _]) => {
+            let drawing = made(path(0), |bytes| draw(bytes, ramps))?;
+            replace(path(1), drawing.as_bytes())
+        }
+        _ => Err(Stop::Usage(no_meaning(&[&[command], &words[..]].concat()))),
     }
 }
 
@@ -170,7 +192,7 @@ fn input(path: &Path) -> Result<Vec<u8>, Stop> {
 }
 
 /// What a command makes of a file. Where it is a text, a hint goes to standard error.
-fn made(path: &Path, make: fn(&[u8]) -> Result<String, Stop>) -> Result<String, Stop> {
+fn made(path: &Path, make: impl Fn(&[u8]) -> Result<String, Stop>) -> Result<String, Stop> {
     let bytes = input(path)?;
     let made = make(&bytes)?;
     if text::is_text(&bytes) {
@@ -250,18 +272,39 @@ fn explain(bytes: &[u8]) -> Result<String, Stop> {
     of_the_interface().map(|()| sheet::explain::explain(bytes))
 }
 
+/// No rates, or such as a run can have.
 #[cfg(feature = "pass")]
-fn draw(bytes: &[u8]) -> Result<String, Stop> {
-    of_the_interface().map(|()| sheet::draw::draw(bytes))
+fn in_the_domain(ramps: Option<&Ramps>) -> Result<(), Stop> {
+    match ramps.and_then(sheet::travel::explain) {
+        Some(why) => Err(failed(why)),
+        None => Ok(()),
+    }
 }
 
 #[cfg(feature = "pass")]
-fn pass(bytes: &[u8]) -> Result<String, Stop> {
-    of_the_interface().map(|()| dispatch_bench::lines(bytes))
+fn draw(bytes: &[u8], ramps: Option<&Ramps>) -> Result<String, Stop> {
+    of_the_interface()?;
+    in_the_domain(ramps)?;
+    Ok(sheet::draw::draw(bytes, ramps))
+}
+
+#[cfg(feature = "pass")]
+fn pass(bytes: &[u8], ramps: Option<&Ramps>) -> Result<String, Stop> {
+    of_the_interface()?;
+    in_the_domain(ramps)?;
+    Ok(match ramps {
+        Some(ramps) => sheet::travel::lines(bytes, ramps),
+        None => dispatch_bench::lines(bytes),
+    })
 }
 
 #[cfg(not(feature = "pass"))]
-use {unlinked as draw, unlinked as explain, unlinked as pass};
+use {unlinked as explain, unlinked_with as draw, unlinked_with as pass};
+
+#[cfg(not(feature = "pass"))]
+fn unlinked_with(bytes: &[u8], _: Option<&Ramps>) -> Result<String, Stop> {
+    unlinked(bytes)
+}
 
 /// What gives verdicts and passes is not there.
 #[cfg(not(feature = "pass"))]
@@ -335,7 +378,7 @@ fn example(strategy: &str) -> Result<(), Stop> {
 }
 
 /// The last number of a refusal.
-const LAST_RULE: u32 = 20;
+const LAST_RULE: u32 = 21;
 
 fn rule(number: &str) -> Result<(), Stop> {
     match number.parse() {
@@ -346,7 +389,7 @@ fn rule(number: &str) -> Result<(), Stop> {
     }
 }
 
-/// The rules of sheets and of what is graded with them, then those of stores.
+/// The rules of sheets, of what is graded with them and of a run's inputs, then those of stores.
 fn rules_from(first: u32, last: u32) -> Result<(), Stop> {
     let mut lines = String::new();
     for number in first..=last {

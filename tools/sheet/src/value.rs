@@ -197,7 +197,11 @@ fn sixteen(text: &str) -> Option<u64> {
     }
 }
 
-fn double(text: &str) -> Result<u64, String> {
+/// What a double's text may be.
+pub const DOUBLE: &str = "a decimal number, inf, -inf, or 0x and 16 hexadecimal digits";
+
+/// The bits of a double; otherwise why there are none, where that needs a word.
+pub fn double(text: &str) -> Result<u64, String> {
     match text {
         "inf" => return Ok(f64::INFINITY.to_bits()),
         "-inf" => return Ok(f64::NEG_INFINITY.to_bits()),
@@ -246,7 +250,7 @@ pub fn expected(field: &Field) -> String {
             };
             format!("one of {}{number}", names.join(", "))
         }
-        Form::Double(_) => "a decimal number, inf, -inf, or 0x and 16 hexadecimal digits".into(),
+        Form::Double(_) => DOUBLE.into(),
         Form::Mask => {
             "all, stop ids with commas between them, or 0x and 16 hexadecimal digits".into()
         }

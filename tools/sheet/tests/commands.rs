@@ -46,10 +46,24 @@ fn too_few_or_too_many_words() {
         (&["show"][..], "few", " SHEET"),
         (&["write"], "few", " IN.txt [OUT]"),
         (&["explain", "a", "b"], "many", " SHEET"),
-        (&["pass", "a", "b"], "many", " SHEET"),
+        (&["pass", "a", "b"], "many", " SHEET [RATES]"),
+        (&["pass"], "few", " SHEET [RATES]"),
+        (
+            &[
+                "pass",
+                "--speed",
+                "1",
+                "--acceleration",
+                "1",
+                "--deceleration",
+                "1",
+            ],
+            "few",
+            " SHEET [RATES]",
+        ),
         (&["grade", "a"], "few", " SHEET GRADES.txt"),
         (&["grade", "a", "b", "c"], "many", " SHEET GRADES.txt"),
-        (&["draw", "a", "b", "c"], "many", " SHEET [OUT]"),
+        (&["draw", "a", "b", "c"], "many", " SHEET [OUT] [RATES]"),
         (&["example", "ETD", "RSR"], "many", " [STRATEGY]"),
         (&["rule", "1", "2"], "many", " [NUMBER]"),
         (&["help", "a"], "many", ""),
@@ -131,7 +145,7 @@ fn texts_to_start_from() {
 #[test]
 fn rules() {
     let all = run(&["rule"], b"");
-    assert_eq!(text(&all.stdout).lines().count(), 2 * (16 + 2 + 7));
+    assert_eq!(text(&all.stdout).lines().count(), 2 * (16 + 3 + 7));
     let one = run(&["rule", "1"], b"");
     assert!(text(&one.stdout).starts_with("rule 1: A buffer that the host lent"));
     for (number, sheet, store) in [
@@ -140,6 +154,7 @@ fn rules() {
         ("18", false, true),
         ("19", true, false),
         ("20", true, false),
+        ("21", true, false),
     ] {
         let said = text(&run(&["rule", number], b"").stdout);
         assert_eq!(said.contains(&format!("rule {number}: ")), sheet, "{said}");
@@ -157,10 +172,10 @@ fn rules() {
     assert!(
         given_no_more.contains("the first release gave this number, and it is not given any more")
     );
-    for number in ["0", "21", "x"] {
+    for number in ["0", "22", "x"] {
         let output = run(&["rule", number], b"");
         assert_eq!(output.status.code(), Some(1));
-        let said = format!("\"{number}\": expected a refusal's number, 1 to 20\n");
+        let said = format!("\"{number}\": expected a refusal's number, 1 to 21\n");
         assert_eq!(text(&output.stderr), said);
     }
 }

@@ -185,7 +185,7 @@ fn has_held(svg: &str, pass: &Pass) {
 fn drawn(bytes: &[u8], pass: &Pass, file: &str) -> [usize; 5] {
     let choice = choose(pass.cars, pass.columns(), &pass.matrix).unwrap();
     assert_eq!(choice.total, pass.total, "{file}");
-    let svg = draw(bytes);
+    let svg = draw(bytes, None);
     let folder = std::path::Path::new(env!("CARGO_TARGET_TMPDIR"));
     std::fs::write(folder.join(format!("{file}.svg")), &svg).unwrap();
     is_well_formed(&svg);
@@ -419,7 +419,7 @@ fn closed_landings_are_marked() {
     for index in 0..300 {
         let bytes = generate::generate(Profile::Closed, 13, index);
         let sheet = Sheet::of_accepted(&bytes);
-        let svg = without_legends(&draw(&bytes));
+        let svg = without_legends(&draw(&bytes, None));
         is_well_formed(&svg);
         let words: Vec<&str> = svg
             .split("<text class=\"shut halo\"")
@@ -446,7 +446,7 @@ fn closed_landings_are_marked() {
         assert_eq!(marks, shafts.sum::<usize>(), "{index}");
     }
     assert!(said.iter().all(|often| *often > 20), "{said:?}");
-    let open = draw(&Sheet::example().write());
+    let open = draw(&Sheet::example().write(), None);
     assert_eq!(count(&open, "shut halo"), 0);
     assert_eq!(
         count(&open, "<rect class=\"closed\""),
@@ -479,5 +479,5 @@ fn closed_examples() {
     }
     let mut sheet = Sheet::example();
     sheet.closed = vec![1];
-    assert!(draw(&sheet.write()).contains(">closed<"));
+    assert!(draw(&sheet.write(), None).contains(">closed<"));
 }

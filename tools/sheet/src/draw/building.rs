@@ -1,6 +1,6 @@
 //! The shafts by line, with stops, cars, riders and decisions.
 
-use dispatch_bench::Decision;
+use dispatch_bench::{Decision, OutsideDomain};
 use sheetgen::sheet::mask_bit;
 use sheetgen::{Car, Line, Sheet, Stop};
 
@@ -10,6 +10,10 @@ use super::riders::{Riders, Way};
 use super::svg::{self, Anchor, Svg, short};
 use super::{Chosen, LEGEND, LONG_ID, car_name};
 use crate::fields::PHASES;
+use crate::numbers::grouped_text;
+use crate::ramps::Ramps;
+use crate::travel;
+use crate::value::show_double;
 
 const SHAFT: f64 = 100.0;
 const GAP: f64 = 16.0;
@@ -37,6 +41,8 @@ const FILLS: [(usize, &str); 6] = [
 struct Building<'a> {
     sheet: &'a Sheet,
     chosen: &'a Chosen,
+    /// The seconds of each run are written at its arrow.
+    ramps: Option<&'a Ramps>,
     heights: Heights,
     left: f64,
     columns: Columns,
@@ -146,7 +152,13 @@ fn labels(sheet: &Sheet, chosen: &Chosen, heights: &Heights) -> Vec<Label> {
 }
 
 /// Draws at a corner; answers the right and lower edge.
-pub fn draw(svg: &mut Svg, sheet: &Sheet, chosen: &Chosen, at: (f64, f64)) -> (f64, f64) {
+pub fn draw(
+    svg: &mut Svg,
+    sheet: &Sheet,
+    chosen: &Chosen,
+    ramps: Option<&Ramps>,
+    at: (f64, f64),
+) -> (f64, f64) {
     let stops: Vec<f64> = sheet.stops.iter().map(|s| s.position).collect();
     let cars: Vec<f64> = sheet.cars.iter().map(|c| c.position).collect();
     let height = match stops.len() {
@@ -159,6 +171,7 @@ pub fn draw(svg: &mut Svg, sheet: &Sheet, chosen: &Chosen, at: (f64, f64)) -> (f
     let building = Building {
         sheet,
         chosen,
+        ramps,
         heights,
         left: at.0,
         columns: Columns::new(&labels, at.0, in_words),
@@ -374,7 +387,8 @@ impl Building<'_> {
         let Some(stop) = stop else { return };
         let (from, to, x) = (self.y(car.position), self.y(stop.position), middle + 22.0);
         let up = to < from;
-        if (from - to).abs() < 8.0 {
+        let is_there = (from - to).abs() < 8.0;
+        if is_there {
             svg.circle("arrow", x, to, 4.0);
         } else {
             let back = if up { 7.0 } else { -7.0 };
@@ -387,6 +401,15 @@ impl Building<'_> {
         });
         if let Some(cost) = cost {
             svg.text("cost halo", x + 8.0, to + 3.5, Anchor::Start, &cost);
+        }
+        if let Some(ramps) = self.ramps {
+            // Beside the arrow, next to the cost at its head.
+            let y = if up || is_there { to + 14.5 } else { to - 7.5 };
+            let words = match travel::seconds(car, stop, ramps) {
+                Ok(seconds) => format!("{} s", short(seconds)),
+                Err(_) => format!("refused {}", OutsideDomain::NUMBER),
+            };
+            svg.text("small halo", x + 8.0, y, Anchor::Start, &words);
         }
     }
 
@@ -403,6 +426,9 @@ impl Building<'_> {
         self.stop_entries(svg, &mut legend);
         shaft_entries(svg, &mut legend);
         car_entries(svg, &mut legend);
+        if let Some(ramps) = self.ramps {
+            legend.sentence(svg, &of_seconds(ramps));
+        }
         legend.end()
     }
 
@@ -426,6 +452,16 @@ impl Building<'_> {
             "N riding: so many riders are on their way to the stop in cars. Not pending: the stop has demand, but this pass sends no car to it; it is closed, cars on their way cover it, or no line serves it. Closed: no car is sent to the stop, whoever waits there or is bound for it. N aboard for it: so many riders of idle-listed cars are bound for a closed stop.",
         );
     }
+}
+
+/// What the seconds at the arrows are of.
+fn of_seconds(ramps: &Ramps) -> String {
+    let said = |value: f64| grouped_text(&show_double(value.to_bits()));
+    let (up, down) = (said(ramps.acceleration), said(ramps.deceleration));
+    let speed = said(ramps.speed);
+    format!(
+        "N s: the seconds of the run from where the car is to the stop, from speed {speed}, by its max speed, acceleration {up} and deceleration {down}. Refused 21: the run is longer than 1,000,000."
+    )
 }
 
 fn shaft_entries(svg: &mut Svg, legend: &mut Legend) {

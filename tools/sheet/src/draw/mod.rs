@@ -14,6 +14,7 @@ use dispatch_bench::{Pass, Refusal, SENTINEL};
 use sheetgen::Sheet;
 
 use crate::fields::STRATEGIES;
+use crate::ramps::Ramps;
 use crate::show::number_of;
 use svg::{Anchor, Svg};
 
@@ -23,10 +24,10 @@ const EDGE: f64 = 24.0;
 /// The least and the most width of a legend.
 const LEGEND: (f64, f64) = (660.0, 1_100.0);
 
-/// A sheet and its pass, or where the sheet is refused.
-pub fn draw(bytes: &[u8]) -> String {
+/// A sheet and its pass, or where the sheet is refused; with rates, the seconds of each run to a stop.
+pub fn draw(bytes: &[u8], ramps: Option<&Ramps>) -> String {
     match Chosen::of(bytes) {
-        Ok(chosen) => draw_pass(&Sheet::of_accepted(bytes), &chosen),
+        Ok(chosen) => draw_pass(&Sheet::of_accepted(bytes), &chosen, ramps),
         Err(refusal) => refused::draw(bytes, refusal),
     }
 }
@@ -93,12 +94,12 @@ fn cell(pass: &Pass, row: usize, column: usize) -> Option<u64> {
     pass.rows().nth(row)?.get(column).copied()
 }
 
-fn draw_pass(sheet: &Sheet, chosen: &Chosen) -> String {
+fn draw_pass(sheet: &Sheet, chosen: &Chosen, ramps: Option<&Ramps>) -> String {
     let mut svg = Svg::default();
     let (title, total) = (title(sheet, chosen), total(chosen));
     svg.text("title", EDGE, 30.0, Anchor::Start, &title);
     svg.text("", EDGE, 49.0, Anchor::Start, &total);
-    let (width, height) = building::draw(&mut svg, sheet, chosen, (EDGE, 78.0));
+    let (width, height) = building::draw(&mut svg, sheet, chosen, ramps, (EDGE, 78.0));
     let (right, bottom) = matrix::draw(&mut svg, sheet, chosen, (EDGE, height + 40.0));
     let width = width.max(right).max(svg::width("title", &title) + EDGE);
     let width = width.max(svg::width("", &total) + EDGE);
