@@ -12,7 +12,7 @@
 extern "C" {
 #endif
 
-/* The number of this interface. It rises where a function or a number of this header changes its meaning.
+/* The number of this interface. It rises where a call or a number of this header changes its meaning.
      2   dispatch_bench_pass has the parameter held, between ranked and offset (document 02, F-5)
      1   the first release, and later ones whose dispatch_bench_pass has no held */
 #define DISPATCH_BENCH_VERSION 2

@@ -67,7 +67,7 @@ pub fn answer(rust: &mut Rust, bytes: &[u8]) -> Answer {
     }
     let sheet = Sheet::of_accepted(bytes);
     Answer::Passed(match sheet.closed.is_empty() {
-        true => of_rust(&sheet, &rust.pass(&sheet, false)),
+        true => of_rust(&rust.pass(&sheet, false)),
         false => paper::answered(&sheet),
     })
 }
@@ -77,7 +77,7 @@ pub fn answer(rust: &mut Rust, bytes: &[u8]) -> Answer {
 /// Riders of idle cars who are bound for such a stop get off beside it instead, so that the Rust does not hold it pending.
 pub fn by_covering(rust: &mut Rust, sheet: &Sheet) -> Pass {
     let covering = covering(sheet);
-    let mut pass = of_rust(&covering, &rust.pass(&covering, false));
+    let mut pass = of_rust(&rust.pass(&covering, false));
     pass.sweeps.truncate(sheet.cars.len());
     pass
 }
@@ -139,7 +139,7 @@ fn beside(twin: &mut Sheet) {
     }
 }
 
-pub fn of_rust(sheet: &Sheet, pass: &RustPass) -> Pass {
+pub fn of_rust(pass: &RustPass) -> Pass {
     let n = pass.idle.len();
     let m = pass.pending.len();
     let columns = n.max(m);
@@ -218,7 +218,7 @@ pub fn details(rust: &mut Rust, bytes: &[u8], with_ranks: bool) -> String {
     let sheet = Sheet::of_accepted(bytes);
     let found = rust.pass(&sheet, with_ranks);
     let pass = match sheet.closed.is_empty() {
-        true => of_rust(&sheet, &found),
+        true => of_rust(&found),
         false => paper::answered(&sheet),
     };
     let columns = pass.cars.max(pass.stops) as usize;

@@ -659,7 +659,7 @@ pub fn survey(seed: u64, count: u64) {
             sent += pass.decisions.iter().filter(|d| **d != 0).count() as u64;
             idle += pass.decisions.iter().filter(|d| **d == 0).count() as u64;
             zero += found.iter().filter(|c| **c == 0).count() as u64;
-            let answered = crate::answer::of_rust(&sheet, &pass);
+            let answered = crate::answer::of_rust(&pass);
             held += answered.held;
             ceiling += answered.at_ceiling();
             ranks += pass.ranks.len() as u64;
