@@ -1,4 +1,5 @@
 /* Wrong answers in front of the library, to see that the checks notice them: the environment variable FAULT names one. fuzz/check runs each. */
+#include <math.h>
 #include <stdlib.h>
 #include <string.h>
 
@@ -21,6 +22,9 @@ uint32_t __real_dispatch_bench_grade(const uint8_t *, size_t, const uint32_t *, 
                                      size_t, uint32_t *, uint64_t *);
 uint32_t __wrap_dispatch_bench_grade(const uint8_t *, size_t, const uint32_t *, size_t, const int64_t *, size_t, const int64_t *, size_t, uint64_t *,
                                      size_t, uint32_t *, uint64_t *);
+
+uint32_t __real_dispatch_bench_travel_time(double, double, double, double, double, double *);
+uint32_t __wrap_dispatch_bench_travel_time(double, double, double, double, double, double *);
 
 static int is(const char *fault) {
     const char *named = getenv("FAULT");
@@ -444,4 +448,58 @@ uint32_t __wrap_dispatch_bench_grade(const uint8_t *sheet, size_t length, const 
         number = 20;
     }
     return is("grade_short_is_2") && number == 1 ? 2 : is("grade_number") && number == 19 ? 20 : number;
+}
+
+/* The faults of the domain, where a run inside of it is refused. */
+static int refuses(double distance, double top, double up, double down) {
+    return (is("travel_least_outside") && (top == DISPATCH_BENCH_LEAST_RATE || up == DISPATCH_BENCH_LEAST_RATE)) ||
+           (is("travel_most_outside") && distance == DISPATCH_BENCH_MOST_INPUT) || (is("travel_zero_outside") && (top == 0 || down == 0));
+}
+
+/* The faults of a run outside of it that is given another run's time: a rate that is too small, too long a distance, a speed that is no number. */
+static void admit(double *distance, double *speed, double *up) {
+    *up = is("travel_small_inside") && *up > 0 && *up < DISPATCH_BENCH_LEAST_RATE ? DISPATCH_BENCH_LEAST_RATE : *up;
+    *distance = is("travel_far_inside") && *distance > DISPATCH_BENCH_MOST_INPUT ? DISPATCH_BENCH_MOST_INPUT : *distance;
+    *speed = is("travel_nan_inside") && isnan(*speed) ? 0 : *speed;
+}
+
+/* The faults of a time; held is what stood there. */
+static void spoil_time(double distance, double speed, double top, double up, double down, uint8_t held, double *time) {
+    int no_run = distance <= 0 || top <= 0 || up <= 0 || down <= 0;
+    speed = speed < top ? speed : top;
+    int brakes = !no_run && speed >= 0 && speed * speed / (2 * down) >= distance;
+    *time = is("travel_takes_time") && no_run ? 1 : *time;
+    *time = is("travel_minus_zero") && no_run ? -0.0 : *time;
+    *time = is("travel_infinite") && *time > 1000 ? INFINITY : *time;
+    *time = is("travel_held") && held == 0xa5 ? *time + 1 : *time;
+    *time = is("travel_next") && *time > 0 ? nextafter(*time, INFINITY) : *time;
+    *time = is("travel_not_below_zero") && *time < 0 ? 0 : *time;
+    if (is("travel_rounds_twice") && brakes) {
+        volatile double product = 2 * distance * -down, sum = product + speed * speed;
+        *time = (speed - sqrt(sum > 0 ? sum : 0)) / down;
+    }
+}
+
+uint32_t __wrap_dispatch_bench_travel_time(double distance, double speed, double top, double up, double down, double *time) {
+    uint8_t held = *(const uint8_t *)time;
+    if (refuses(distance, top, up, down)) {
+        return DISPATCH_BENCH_OUTSIDE;
+    }
+    admit(&distance, &speed, &up);
+    double given = is("travel_backwards") && speed < 0 ? -speed : speed;
+    given = is("travel_slower") && speed > top && top > 0 && speed <= DISPATCH_BENCH_MOST_INPUT ? top / 2 : given;
+    int exchanged = is("travel_rates_exchanged");
+    uint32_t number = __real_dispatch_bench_travel_time(distance, given, top, exchanged ? down : up, exchanged ? up : down, time);
+    if (number == 0) {
+        spoil_time(distance, speed, top, up, down, held, time);
+    } else if (is("travel_refusal_writes")) {
+        *time = 0;
+    }
+    if (is("travel_past") && number == 0) {
+        time[1] = 0;
+    }
+    if (is("travel_writes_before") && number == 0) {
+        time[-1] = 0;
+    }
+    return is("travel_number") && number == DISPATCH_BENCH_OUTSIDE ? 20 : number;
 }
