@@ -26,7 +26,7 @@ use Rattle.accepted.specs.Sound.{SoundSheet}
 use Rattle.accepted.specs.Accepted.{accepted}
 use Rattle.fp.specs.Order.{finite-real}
 use Rattle.fp.specs.Inside.{mass-finite}
-use Rattle.fp.specs.Distances.{room-finite}
+use Rattle.fp.specs.Apart.{room-finite}
 use Rattle.manifest.specs.declared.Waiters.{Waiters}
 use Rattle.manifest.specs.World.{stopId, stopAt}
 use Rattle.manifest.specs.Holds.{HoldsAboard, HoldsWaiting}

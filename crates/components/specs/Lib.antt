@@ -1,3 +1,4 @@
 pub mod Codes
 pub mod Cars
+pub mod Points
 pub mod Sheet

@@ -5,6 +5,7 @@ ghost use Rattle.components.specs.Codes.{HasCode, kindOf, kindCode, stra
 ghost use Rattle.components.specs.Codes.{directionOf, directionCode, modeOf, modeCode};
 ghost use Rattle.laws.specs.Bools.{bit};
 ghost use Rattle.components.specs.Cars.{isMoving, isIdle, servicing, remaining};
+ghost use Rattle.components.specs.Points.{distance};
 
 // The kinds of records.
 pub enum Kind {
@@ -63,10 +64,16 @@ pub enum Threshold {
     At(f64),
 }
 
+// Where a stop or a car stands: its position in the shaft, and of a shuttle that also runs sideways how far across it is.
+pub struct Point {
+    pub along: f64,
+    pub across: f64,
+}
+
 // Where a stop stands, by its id: stop_position of world.rs. An id without a record stands nowhere.
 pub enum Place {
     Nowhere,
-    At(f64),
+    At(Point),
 }
 
 // What a strategy's rank answers of a pair: a cost, or none.
@@ -90,7 +97,7 @@ pub struct Policy {
 
 pub struct Stop {
     pub id: u32,
-    pub position: f64,
+    pub position: Point,
 }
 
 pub struct Line {
@@ -111,7 +118,7 @@ pub struct Car {
     pub down: bool,
     pub direction: Direction,
     pub mode: Mode,
-    pub position: f64,
+    pub position: Point,
     pub speed: f64,
     pub capacity: f64,
     pub load: f64,
@@ -267,6 +274,15 @@ impl Mode {
         ensures { λ r. ⌜ (r ≡ modeOf lenient) × (modeCode r ≡ bit lenient) ⌝ }
     {
         if lenient { Mode::Lenient } else { Mode::Strict }
+    }
+}
+
+impl Point {
+    // How far two points are from each other: along the shaft, and across.
+    pub fn distance(self, other: Point) -> f64
+        ensures { λ r. ⌜ r ≡ distance self other ⌝ }
+    {
+        fp::apart(self.along, other.along) + fp::apart(self.across, other.across)
     }
 }
 

@@ -12,7 +12,7 @@ use Rattle.fp.specs.Num.{times, plus, natural, maxZero, fma}
 use Rattle.fp.specs.Order.{finite-real}
 use Rattle.fp.specs.Ranges.{isPosition, isSpeed, isMass, isTickRate}
 use Rattle.fp.specs.Inside.{AtMost, mass-finite}
-use Rattle.fp.specs.Distances.{room-finite}
+use Rattle.fp.specs.Apart.{room-finite}
 use Rattle.fp.specs.Nonneg.{maxZero-nonneg}
 use Rattle.fp.specs.Sizes.{size-mono, natural-size, neg-size, maxZero-size, plus-size, times-size, fold-size, position-power}
 use Rattle.components.specs.declared.Place.{Place}

@@ -7,6 +7,6 @@ pub mod Order
 pub mod Nonneg
 pub mod Inside
 pub mod Naturals
-pub mod Distances
+pub mod Apart
 pub mod Sizes
 pub mod Least

@@ -78,6 +78,6 @@ lesser a b = cond (lt b a) b a
 abbrev pub natural : ℕ → Float
 natural n = ofInt binary64 (pos n)
 
--- The distance between two positions. Every distance of the pass is this one.
-unfoldable pub distance : Float → Float → Float
-distance a b = abs (minus a b)
+-- how far apart two coordinates are; a distance is made of two of these (components: Points)
+unfoldable pub apart : Float → Float → Float
+apart a b = abs (minus a b)

@@ -18,12 +18,12 @@ use borrow.Author.Tests.{lt-ltb, ltb-false, ne-eqb}
 use Rattle.laws.specs.Bools.{never}
 use Rattle.laws.specs.Folds.{fold}
 use Rattle.fp.specs.Num as Num
-use Rattle.fp.specs.Num.{one, million, abs, plus, minus, times, over, maxZero, finite, natural, distance}
+use Rattle.fp.specs.Num.{one, million, abs, plus, minus, times, over, maxZero, finite, natural, apart}
 use Rattle.fp.specs.Order.{le-tells, no-digits}
 use Rattle.fp.specs.Nonneg.{round-nonneg, unsigned}
 use Rattle.fp.specs.Ranges.{leastSpeed, isPosition, isMass, isSpeed, isTickRate}
 use Rattle.fp.specs.Inside.{AtMost, within-low, position-size, mass-size, speed-finite, speed-least, tickRate-finite}
-use Rattle.fp.specs.Distances.{abs-round, abs-sum, size, size-le}
+use Rattle.fp.specs.Apart.{abs-round, abs-sum, size, size-le}
 
 pub size-mono : (j k : ℕ) (x : Float) → j ≤ k → AtMost j x → AtMost k x
 size-mono j k nan l p = p
@@ -129,9 +129,9 @@ minus-size k x y l p q = plus-size k x (neg y) l p (neg-size (2 ^ k) y q)
 exchange : (a b c d : ℕ) → a * b * (c * d) ≡ a * c * (b * d)
 exchange a b c d = simp (mul-assoc, mul-left-comm)
 
-pub distance-size : (k : ℕ) (x y : Float) → k < 1023 → AtMost (2 ^ k) x → AtMost (2 ^ k) y → AtMost (2 ^ (k + 1)) (distance x y)
-unfolding distance
-distance-size k x y l p q = abs-size (2 ^ (k + 1)) (minus x y) (minus-size k x y l p q)
+pub apart-size : (k : ℕ) (x y : Float) → k < 1023 → AtMost (2 ^ k) x → AtMost (2 ^ k) y → AtMost (2 ^ (k + 1)) (apart x y)
+unfolding apart
+apart-size k x y l p q = abs-size (2 ^ (k + 1)) (minus x y) (minus-size k x y l p q)
 
 pub times-size : (j k : ℕ) (x y : Float) → j + k ≤ 1023 → AtMost (2 ^ j) x → AtMost (2 ^ k) y → AtMost (2 ^ (j + k)) (times x y)
 unfolding mul

@@ -1,7 +1,7 @@
 // Doubles: fp.rs, and what units.rs, the costs and the sheet's ranges need of floats.
 ghost use mathlib.Core.Path.{_≡_};
 ghost use lib.Ieee.{binary64, ofBits};
-ghost use Rattle.fp.specs.Num.{abs, maxZero, finite, fma, lesser, natural, distance};
+ghost use Rattle.fp.specs.Num.{abs, maxZero, finite, fma, lesser, natural, apart};
 ghost use Rattle.fp.specs.Ranges.{within, isPosition, isSpeed, isMass, isThreshold, isTickRate};
 
 // f64::abs: a zero's sign is cleared too.
@@ -43,9 +43,9 @@ pub fn lesser(a: f64, b: f64) -> f64
     if b < a { b } else { a }
 }
 
-// The distance between two positions, the same both ways.
-pub fn distance(a: f64, b: f64) -> f64
-    ensures { λ r. ⌜ r ≡ distance a b ⌝ }
+// How far apart two coordinates are, the same both ways.
+pub fn apart(a: f64, b: f64) -> f64
+    ensures { λ r. ⌜ r ≡ apart a b ⌝ }
 {
     abs(a - b)
 }

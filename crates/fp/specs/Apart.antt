@@ -1,4 +1,5 @@
--- Distances: the same both ways, never a NaN nor below zero between finite positions, and finite between a sheet's. Assumes nothing.
+-- How far apart two coordinates are: the same both ways, never a NaN nor below zero between finite ones, and finite between a sheet's. Assumes
+-- nothing.
 use Prim.Native.Nat.{ℕ, zero, suc, _+_, _-_, _*_, _^_, _≤_, _<_}
 use native.Mathlib.Nat.{add-comm, mul-comm, mul-assoc, mul-pos, mul-le-mul-right, le-trans, le-of-eq}
 use native.Mathlib.Omega.{arith}
@@ -12,7 +13,7 @@ use lib.Ieee.Order.{round-mono}
 use borrow.Author.Tests.{ltb-true, ltb-false}
 use Rattle.laws.specs.Bools.{never}
 use Rattle.fp.specs.Num as Num
-use Rattle.fp.specs.Num.{abs, plus, minus, finite, natural, distance}
+use Rattle.fp.specs.Num.{abs, plus, minus, finite, natural, apart}
 use Rattle.fp.specs.Ranges.{isPosition, isMass}
 use Rattle.fp.specs.Order.{real, le-tells}
 use Rattle.fp.specs.Nonneg.{round-nonneg, finite-under}
@@ -45,13 +46,13 @@ pub abs-sum : (s : Bool) (a : ℕ) (t : Bool) (b c : ℕ) → abs (sum binary64 
 unfolding sum
 abs-sum s a t b c = by (Bool·beq s t)
   where
-    apart : (l : Bool) → ltb a b ≡ l
+    unlike : (l : Bool) → ltb a b ≡ l
         → abs (cond l (round binary64 t (b - a) c) (round binary64 (s && ltb b a) (a - b) c)) ≡ round binary64 false ((a - b) + (b - a)) c
-    apart true h =
+    unlike true h =
         let g = ltb-true a b h in
         let e : b - a ≡ (a - b) + (b - a) = omega arith in
         abs-round binary64 t (b - a) c ∙ ap (λ (n : ℕ). round binary64 false n c) e
-    apart false h =
+    unlike false h =
         let g = ltb-false a b h in
         let e : a - b ≡ (a - b) + (b - a) = omega arith in
         abs-round binary64 (s && ltb b a) (a - b) c ∙ ap (λ (n : ℕ). round binary64 false n c) e
@@ -60,7 +61,7 @@ abs-sum s a t b c = by (Bool·beq s t)
         → abs (cond l (round binary64 s (a + b) c) (cond (ltb a b) (round binary64 t (b - a) c) (round binary64 (s && ltb b a) (a - b) c)))
         ≡ round binary64 false (size l a b) c
     by true = abs-round binary64 s (a + b) c
-    by false = apart (ltb a b) refl
+    by false = unlike (ltb a b) refl
 
 -- ---- the same both ways: each place of the Rust takes its own order
 
@@ -74,20 +75,20 @@ size-comm : (l : Bool) (a b : ℕ) → size l a b ≡ size l b a
 size-comm true a b = add-comm a b
 size-comm false a b = add-comm (a - b) (b - a)
 
-pub distance-comm : (x y : Float) → distance x y ≡ distance y x
-unfolding distance sub add neg
-distance-comm nan nan = refl
-distance-comm nan (inf t) = refl
-distance-comm nan (fin t n d) = refl
-distance-comm (inf s) nan = refl
-distance-comm (inf true) (inf true) = refl
-distance-comm (inf true) (inf false) = refl
-distance-comm (inf false) (inf true) = refl
-distance-comm (inf false) (inf false) = refl
-distance-comm (inf s) (fin t n d) = refl
-distance-comm (fin s m e) nan = refl
-distance-comm (fin s m e) (inf t) = refl
-distance-comm (fin s m e) (fin t n d) =
+pub apart-comm : (x y : Float) → apart x y ≡ apart y x
+unfolding apart sub add neg
+apart-comm nan nan = refl
+apart-comm nan (inf t) = refl
+apart-comm nan (fin t n d) = refl
+apart-comm (inf s) nan = refl
+apart-comm (inf true) (inf true) = refl
+apart-comm (inf true) (inf false) = refl
+apart-comm (inf false) (inf true) = refl
+apart-comm (inf false) (inf false) = refl
+apart-comm (inf s) (fin t n d) = refl
+apart-comm (fin s m e) nan = refl
+apart-comm (fin s m e) (inf t) = refl
+apart-comm (fin s m e) (fin t n d) =
     let a = m * up e * down d in
     let b = n * up d * down e in
     abs-sum s a (not t) b (down e * down d)
@@ -97,17 +98,17 @@ distance-comm (fin s m e) (fin t n d) =
 
 -- ---- at least zero
 
-pub distance-nonneg : (x y : Float) → finite x ≡ true → finite y ≡ true → le Num.zero (distance x y) ≡ true
-unfolding distance sub add neg
-distance-nonneg nan y p q = never p
-distance-nonneg (inf s) y p q = never p
-distance-nonneg (fin s m e) nan p q = never q
-distance-nonneg (fin s m e) (inf t) p q = never q
-distance-nonneg (fin s m e) (fin t n d) p q =
+pub apart-nonneg : (x y : Float) → finite x ≡ true → finite y ≡ true → le Num.zero (apart x y) ≡ true
+unfolding apart sub add neg
+apart-nonneg nan y p q = never p
+apart-nonneg (inf s) y p q = never p
+apart-nonneg (fin s m e) nan p q = never q
+apart-nonneg (fin s m e) (inf t) p q = never q
+apart-nonneg (fin s m e) (fin t n d) p q =
     rw (abs-sum s (m * up e * down d) (not t) (n * up d * down e) (down e * down d)) (round-nonneg _ _ (mul-pos (down-pos e) (down-pos d)))
 
-pub distance-real : (x y : Float) → finite x ≡ true → finite y ≡ true → real (distance x y) ≡ true
-distance-real x y p q = let (a, b, l) = le-tells Num.zero (distance x y) (distance-nonneg x y p q) in b
+pub apart-real : (x y : Float) → finite x ≡ true → finite y ≡ true → real (apart x y) ≡ true
+apart-real x y p q = let (a, b, l) = le-tells Num.zero (apart x y) (apart-nonneg x y p q) in b
 
 abs-real : (x : Float) → real (abs x) ≡ real x
 abs-real nan = refl
@@ -116,8 +117,8 @@ abs-real (fin s m e) = refl
 
 -- a difference and a sum of finite doubles are no NaN
 pub minus-real : (x y : Float) → finite x ≡ true → finite y ≡ true → real (minus x y) ≡ true
-unfolding distance
-minus-real x y p q = sym (abs-real (minus x y)) ∙ distance-real x y p q
+unfolding apart
+minus-real x y p q = sym (abs-real (minus x y)) ∙ apart-real x y p q
 
 pub plus-real : (x y : Float) → finite x ≡ true → finite y ≡ true → real (plus x y) ≡ true
 unfolding sub neg
@@ -132,13 +133,13 @@ pub size-le : (l : Bool) (a b : ℕ) → size l a b ≤ a + b
 size-le true a b = omega arith
 size-le false a b = omega arith
 
-pub distance-le : (k : ℕ) (x y : Float) → AtMost k x → AtMost k y → le (distance x y) (natural (2 * k)) ≡ true
-unfolding distance sub add neg ofInt
-distance-le k nan y p q = absurd p
-distance-le k (inf s) y p q = absurd p
-distance-le k (fin s m e) nan p q = absurd q
-distance-le k (fin s m e) (inf t) p q = absurd q
-distance-le k (fin s m e) (fin t n d) p q =
+pub apart-le : (k : ℕ) (x y : Float) → AtMost k x → AtMost k y → le (apart x y) (natural (2 * k)) ≡ true
+unfolding apart sub add neg ofInt
+apart-le k nan y p q = absurd p
+apart-le k (inf s) y p q = absurd p
+apart-le k (fin s m e) nan p q = absurd q
+apart-le k (fin s m e) (inf t) p q = absurd q
+apart-le k (fin s m e) (fin t n d) p q =
     let a = m * up e * down d in
     let b = n * up d * down e in
     let c = down e * down d in
@@ -151,9 +152,9 @@ distance-le k (fin s m e) (fin t n d) p q =
     (round-mono binary64 (size (Bool·beq s (not t)) a b) c (2 * k) 1 (mul-pos (down-pos e) (down-pos d)) (lit< tt)
     (omega (arith, size-le (Bool·beq s (not t)) a b, mul-assoc 2 k c))))
 
-size-far : (k : ℕ) (x y : Float) → AtMost k x → AtMost k y → finite (natural (2 * k)) ≡ true → finite (distance x y) ≡ true
+size-far : (k : ℕ) (x y : Float) → AtMost k x → AtMost k y → finite (natural (2 * k)) ≡ true → finite (apart x y) ≡ true
 size-far k x y p q f =
-    finite-under (distance x y) (natural (2 * k)) (distance-nonneg x y (size-finite k x p) (size-finite k y q)) (distance-le k x y p q) f
+    finite-under (apart x y) (natural (2 * k)) (apart-nonneg x y (size-finite k x p) (size-finite k y q)) (apart-le k x y p q) f
 
 two-million : finite (natural 2_000_000) ≡ true
 unfolding ofInt
@@ -164,8 +165,8 @@ unfolding ofInt
 two-billion = refl
 
 -- between a sheet's positions
-pub distance-finite : (x y : Float) → isPosition x ≡ true → isPosition y ≡ true → finite (distance x y) ≡ true
-distance-finite x y p q = size-far 1_000_000 x y (position-size x p) (position-size y q) two-million
+pub apart-finite : (x y : Float) → isPosition x ≡ true → isPosition y ≡ true → finite (apart x y) ≡ true
+apart-finite x y p q = size-far 1_000_000 x y (position-size x p) (position-size y q) two-million
 
 abs-finite : (x : Float) → finite (abs x) ≡ finite x
 abs-finite nan = refl
@@ -174,6 +175,6 @@ abs-finite (fin s m e) = refl
 
 -- what a car has room for: its capacity less its load
 pub room-finite : (capacity load : Float) → isMass capacity ≡ true → isMass load ≡ true → finite (minus capacity load) ≡ true
-unfolding distance
+unfolding apart
 room-finite c l p q =
     sym (abs-finite (minus c l)) ∙ size-far 1_000_000_000 c l (mass-size c p) (mass-size l q) two-billion
