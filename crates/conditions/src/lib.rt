@@ -4,11 +4,11 @@ ghost use Prim.Native.Nat.{_<_, _≤_, _^_};
 ghost use Rattle.fp.specs.Ranges.{isMass};
 ghost use Rattle.layout.specs.Offsets.{Small};
 ghost use Rattle.layout.specs.Table.{field};
-ghost use Rattle.layout.specs.Records.{from, double};
+ghost use Rattle.components.specs.Points.{isPlaced};
+ghost use Rattle.layout.specs.Records.{from, double, point};
 ghost use Rattle.layout.specs.Refusals.{absentSet, presentZero, seen, hasStop, hasLine, hasCar, hasDemand, hasClosed, lastStop};
 ghost use Rattle.layout.specs.Verdict.{pick};
 use layout::Counts;
-use layout::car;
 use layout::closed;
 use layout::demand;
 use layout::line;
@@ -41,7 +41,7 @@ pub fn has_stop(s: &[u8], c: Counts, id: u32) -> bool
     requires { ⌜ Small c ⌝ }
     ensures { λ r. ⌜ r ≡ hasStop (now (s .entry)) c id ⌝ }
 {
-    seen(s, c.stops_from(), stop::BITS, c.stops, id)
+    seen(s, c.stops_from(), c.stop_bits(), c.stops, id)
 }
 
 pub fn has_line(s: &[u8], c: Counts, id: u32) -> bool
@@ -55,7 +55,7 @@ pub fn has_car(s: &[u8], c: Counts, id: u32) -> bool
     requires { ⌜ Small c ⌝ }
     ensures { λ r. ⌜ r ≡ hasCar (now (s .entry)) c id ⌝ }
 {
-    seen(s, c.cars_from(), car::BITS, c.cars, id)
+    seen(s, c.cars_from(), c.car_bits(), c.cars, id)
 }
 
 pub fn has_demand(s: &[u8], c: Counts, id: u32) -> bool
@@ -81,7 +81,7 @@ pub fn last_stop(s: &[u8], c: Counts) -> u32
     if n == 0 {
         return 0;
     }
-    bits::field32(s, c.stops_from() + stop::BITS * (n - 1), stop::ID)
+    bits::field32(s, c.stop_start(n - 1), stop::ID)
 }
 
 // Whether a field of w bits is absent and has a one bit.
@@ -108,4 +108,13 @@ pub fn mass_at(s: &[u8], at: u32, off: u32) -> bool
     ensures { λ r. ⌜ r ≡ isMass (double (from (now (s .entry)) at) (field off 64)) ⌝ }
 {
     fp::is_mass(records::double_at(s, at, off))
+}
+
+// Whether a position and a second coordinate of some bits are from -1,000,000 to 1,000,000 each.
+pub fn placed_at(s: &[u8], at: u32, along: u32, across: u32, bits: u32) -> bool
+    requires { ⌜ bits ≤ 64 ⌝ }
+    ensures { λ r. ⌜ r ≡ isPlaced (point (from (now (s .entry)) at) (field along 64) (field across bits)) ⌝ }
+{
+    let p = records::point_at(s, at, along, across, bits);
+    fp::is_position(p.along) & fp::is_position(p.across)
 }

@@ -4,7 +4,7 @@ use mathlib.Core.Path.{_≡_, refl, ap, _∙_}
 use mathlib.Core.Bool.{Bool, true, false}
 use mathlib.Core.List.{List}
 use mathlib.Core.Logic.{_≢_}
-use native.Mathlib.Nat.{mul-le-mul}
+use native.Mathlib.Nat.{mul-le-mul, mul-le-mul-left}
 use native.Mathlib.Omega.{arith}
 use borrow.Author.Tests.{eq-eqb, ne-eqb, leb-false}
 use Rattle.components.specs.declared.Kind.{Kind}
@@ -48,6 +48,10 @@ clean s c e =
 -- records of at most l bits, at most m of them
 lengths : (a n : ℕ) (l m : ℕ) → a ≤ l → n ≤ m → a * n ≤ l * m
 lengths a n l m h k = mul-le-mul h k
+
+-- what stands before record i of n is no longer than all of them
+pub before-all : (a i n : ℕ) → i < n → a * i ≤ a * n
+before-all a i n l = mul-le-mul-left a (omega arith)
 
 pub next-small : (c : Counts) (k : Kind) → Small c → refusal7 c k ≡ false → c .demands < 65535 → c .closures < 65535
     → Small (next c k)

@@ -5,7 +5,7 @@ ghost use mathlib.Core.Path.{_≡_};
 ghost use Prim.Native.Nat.{_<_, _+_};
 ghost use Rattle.components.specs.declared.Kind.the-variants.{Stop, Car};
 ghost use Rattle.layout.specs.Offsets.{Small, bodyLength, acrossIn, acrossBits, recordLength, next, stopsFrom, linesFrom, carsFrom, aboardsFrom, waitsFrom, demandsFrom, closuresFrom, endOf};
-ghost use Rattle.layout.specs.Offsets.{lastKind};
+ghost use Rattle.layout.specs.Offsets.{stopStart, carStart, lastKind};
 ghost use Rattle.layout.specs.Refusals.{refusal6, refusal7};
 use components::Kind;
 
@@ -89,6 +89,14 @@ impl Counts {
         head::BITS + policy::BITS * self.policies
     }
 
+    // Where stop i starts.
+    pub fn stop_start(self, i: u32) -> u32
+        requires { ⌜ Small self × (i < self .stops) ⌝ }
+        ensures { λ r. ⌜ r ≡ stopStart self i ⌝ }
+    {
+        self.stops_from() + (stop::BITS + self.across) * i
+    }
+
     pub fn lines_from(self) -> u32
         requires { ⌜ Small self ⌝ }
         ensures { λ r. ⌜ r ≡ linesFrom self ⌝ }
@@ -101,6 +109,14 @@ impl Counts {
         ensures { λ r. ⌜ r ≡ carsFrom self ⌝ }
     {
         self.lines_from() + line::BITS * self.lines
+    }
+
+    // Where car i starts.
+    pub fn car_start(self, i: u32) -> u32
+        requires { ⌜ Small self × (i < self .cars) ⌝ }
+        ensures { λ r. ⌜ r ≡ carStart self i ⌝ }
+    {
+        self.cars_from() + (car::BITS + self.across) * i
     }
 
     pub fn aboards_from(self) -> u32

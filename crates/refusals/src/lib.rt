@@ -16,6 +16,7 @@ use conditions::has_stop;
 use conditions::last_stop;
 use conditions::mass_at;
 use conditions::pick;
+use conditions::placed_at;
 use conditions::present_zero;
 use layout::Counts;
 use layout::aboard;
@@ -33,7 +34,7 @@ pub fn stop_refusal(s: &[u8], c: Counts) -> u32
     let at = c.end_of();
     let id = bits::field32(s, at, stop::ID);
     let last = last_stop(s, c);
-    let placed = fp::is_position(records::double_at(s, at, stop::POSITION));
+    let placed = placed_at(s, at, stop::POSITION, stop::ACROSS, c.across);
     pick((id == 0) | (id <= last), 9, pick(!placed, 11, 0))
 }
 

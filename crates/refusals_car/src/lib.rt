@@ -54,15 +54,20 @@ fn unused_stop(phase: Phase, set: bool) -> bool
 }
 
 // 8: phase 7, or a one bit in an absent or unused field.
-fn unused_bits(s: &[u8], at: u32) -> bool
-    ensures { λ r. ⌜ r ≡ refusal8Car (from (now (s .entry)) at) ⌝ }
+fn unused_bits(s: &[u8], c: Counts) -> bool
+    requires { ⌜ Small c ⌝ }
+    ensures { λ r. ⌜ r ≡ refusal8Car c (from (now (s .entry)) (endOf c)) ⌝ }
 {
+    let at = c.end_of();
+    let across = c.across;
     let stop = bits::field32(s, at, car::STOP);
     let phase = phase_at(s, at);
     let unused = unused_stop(phase, stop != 0);
     let target = conditions::absent_set(s, at, car::HAS_TARGET, car::TARGET, 32);
-    let up = conditions::absent_set(s, at, car::HAS_BYPASS_UP, car::BYPASS_UP, 64);
-    let down = conditions::absent_set(s, at, car::HAS_BYPASS_DOWN, car::BYPASS_DOWN, 64);
+    let has_up = car::HAS_BYPASS_UP + across;
+    let up = conditions::absent_set(s, at, has_up, car::BYPASS_UP + across, 64);
+    let has_down = car::HAS_BYPASS_DOWN + across;
+    let down = conditions::absent_set(s, at, has_down, car::BYPASS_DOWN + across, 64);
     unknown_phase(phase) | (unused | (target | (up | down)))
 }
 
@@ -90,30 +95,35 @@ fn unknown_records(s: &[u8], c: Counts) -> bool
     let known = conditions::has_line(s, c, bits::field32(s, at, car::LINE));
     let n = c.stops;
     let stops = n as usize;
-    let restricted = mask::past_stops(bits::field(s, at, car::RESTRICTED, 64), stops);
-    let calls = mask::past_stops(bits::field(s, at, car::CALLS, 64), stops);
+    let restricted = mask::past_stops(bits::field(s, at, car::RESTRICTED + c.across, 64), stops);
+    let calls = mask::past_stops(bits::field(s, at, car::CALLS + c.across, 64), stops);
     !known | (restricted | calls)
 }
 
 // 11: a double out of its range.
-fn out_of_range(s: &[u8], at: u32) -> bool
-    ensures { λ r. ⌜ r ≡ refusal11Car (from (now (s .entry)) at) ⌝ }
+fn out_of_range(s: &[u8], c: Counts) -> bool
+    requires { ⌜ Small c ⌝ }
+    ensures { λ r. ⌜ r ≡ refusal11Car c (from (now (s .entry)) (endOf c)) ⌝ }
 {
-    let position = fp::is_position(records::double_at(s, at, car::POSITION));
-    let speed = fp::is_speed(records::double_at(s, at, car::SPEED));
-    let capacity = conditions::mass_at(s, at, car::CAPACITY);
-    let load = conditions::mass_at(s, at, car::LOAD);
-    let up = fp::is_threshold(records::double_at(s, at, car::BYPASS_UP));
-    let down = fp::is_threshold(records::double_at(s, at, car::BYPASS_DOWN));
-    !(position & (speed & (capacity & (load & (up & down)))))
+    let at = c.end_of();
+    let across = c.across;
+    let placed = conditions::placed_at(s, at, car::POSITION, car::ACROSS, across);
+    let speed = fp::is_speed(records::double_at(s, at, car::SPEED + across));
+    let capacity = conditions::mass_at(s, at, car::CAPACITY + across);
+    let load = conditions::mass_at(s, at, car::LOAD + across);
+    let up = fp::is_threshold(records::double_at(s, at, car::BYPASS_UP + across));
+    let down = fp::is_threshold(records::double_at(s, at, car::BYPASS_DOWN + across));
+    !(placed & (speed & (capacity & (load & (up & down)))))
 }
 
 // 13: twice the transition ticks plus the open ticks above 4,294,967,295.
-fn long_doors(s: &[u8], at: u32) -> bool
-    ensures { λ r. ⌜ r ≡ refusal13 (from (now (s .entry)) at) ⌝ }
+fn long_doors(s: &[u8], c: Counts) -> bool
+    requires { ⌜ Small c ⌝ }
+    ensures { λ r. ⌜ r ≡ refusal13 c (from (now (s .entry)) (endOf c)) ⌝ }
 {
-    let transition = bits::field(s, at, car::TRANSITION, 32);
-    let dwell = bits::field(s, at, car::DWELL, 32);
+    let at = c.end_of();
+    let transition = bits::field(s, at, car::TRANSITION + c.across, 32);
+    let dwell = bits::field(s, at, car::DWELL + c.across, 32);
     4_294_967_295 < 2 * transition + dwell
 }
 
@@ -122,10 +132,9 @@ pub fn car_refusal(s: &[u8], c: Counts) -> u32
     requires { ⌜ Small c ⌝ }
     ensures { λ r. ⌜ r ≡ bodyRefusal (now (s .entry)) c Car (from (now (s .entry)) (endOf c)) ⌝ }
 {
-    let at = c.end_of();
-    let late = pick(out_of_range(s, at), 11, pick(long_doors(s, at), 13, 0));
+    let late = pick(out_of_range(s, c), 11, pick(long_doors(s, c), 13, 0));
     pick(
-        unused_bits(s, at),
+        unused_bits(s, c),
         8,
         pick(bad_ids(s, c), 9, pick(unknown_records(s, c), 10, late)),
     )

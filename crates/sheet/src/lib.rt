@@ -13,7 +13,6 @@ use components::Policy;
 use conditions::pick;
 use layout::Counts;
 use layout::Reading;
-use layout::car;
 use layout::head;
 use layout::line;
 use layout::policy;
@@ -44,7 +43,7 @@ fn body_refusal(s: &[u8], c: Counts, kind: Kind) -> u32
     }
 }
 
-// 4: kind not 1 to 7.
+// 4: kind not 1 to 8.
 fn is_unknown(kind: Kind) -> bool
     ensures { λ r. ⌜ r ≡ refusal4 kind ⌝ }
 {
@@ -71,7 +70,7 @@ fn record_refusal(s: &[u8], c: Counts) -> u32
     let len = bits::field(s, at, record::STATED, 16);
     let kind = Kind::of_code(code);
     let short = past_end(s, at + record::BODY + len as u32);
-    let wrong = len != layout::body_length(kind);
+    let wrong = len != layout::body_length(kind, c.across);
     let late = pick(
         c.out_of_order(code),
         6,
@@ -117,11 +116,12 @@ fn tail(s: &[u8], c: Counts) -> Reading
 }
 
 // The records in turn: the first refusal, or the tail.
-fn records(s: &[u8], count: u32) -> Reading
-    requires { ⌜ count ≤ 65535 ⌝ }
-    ensures { λ r. ⌜ r ≡ recordsVerdict (now (s .entry)) count none ⌝ }
+fn records(s: &[u8], across: u32, count: u32) -> Reading
+    requires { ⌜ (across ≤ 64) × (count ≤ 65535) ⌝ }
+    ensures { λ r. ⌜ r ≡ recordsVerdict (now (s .entry)) count (none across) ⌝ }
 {
     let mut c = Counts {
+        across,
         policies: 0,
         stops: 0,
         lines: 0,
@@ -151,8 +151,9 @@ fn records(s: &[u8], count: u32) -> Reading
 fn head_refusal(s: &[u8]) -> u32
     ensures { λ r. ⌜ r ≡ firstOf (headRules (now (s .entry))) ⌝ }
 {
-    let other = bits::field(s, 0, head::EDITION, 8) != 1;
-    pick(past_end(s, head::BITS), 2, pick(other, 3, 0))
+    let edition = bits::field(s, 0, head::EDITION, 8);
+    let known = (edition == 1) | (edition == 2);
+    pick(past_end(s, head::BITS), 2, pick(!known, 3, 0))
 }
 
 // The verdict on a byte string.
@@ -163,8 +164,9 @@ pub fn read(s: &[u8]) -> Reading
     if number != 0 {
         return Reading::Refused { number, offset: 0 };
     }
+    let across = layout::across_bits(bits::field(s, 0, head::EDITION, 8));
     let count = bits::field(s, 0, head::COUNT, 16);
-    records(s, count as u32)
+    records(s, across, count as u32)
 }
 
 // The policy record of a sheet, without its limit.
@@ -194,5 +196,5 @@ pub fn car_at(s: &[u8], c: Counts, i: u32) -> Car
     requires { ⌜ Small c × (i < c .cars) ⌝ }
     ensures { λ r. ⌜ r ≡ sheetOf (now (s .entry)) c .car i ⌝ }
 {
-    records::car_at(s, c.cars_from() + car::BITS * i)
+    records::car_at(s, c.car_start(i), c.across)
 }

@@ -16,4 +16,4 @@ returns-2 c = simp (ne-eqb _ _ (c .before .before .if1 .left)) cc
 pub last-stop-spec : {M : Type 1} → statement M
 last-stop-spec =
     tie.close
-    (tie.spec returns (λ c κs. search needs) (λ c. search needs) (λ c. search needs) (λ c. search needs) (λ c κs. search needs) returns-2)
+    (tie.spec returns (λ c. search needs) (λ c κs. search needs) (λ c κs. search needs) returns-2)

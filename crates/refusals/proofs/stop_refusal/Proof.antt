@@ -1,17 +1,15 @@
 -- refusals::stop_refusal meets its contract.
-use Prim.Native.Nat.{ℕ, _+_}
-use Rattle.bits.specs.Field.{fieldAt}
-use Rattle.fp.specs.Ranges.{isPosition}
+use Prim.Native.Nat.{ℕ}
+use Rattle.components.specs.Points.{isPlaced}
 use Rattle.layout.specs.Offsets.{endOf}
-use Rattle.layout.specs.Table.{stop·position, stop·id}
-use Rattle.layout.specs.Records.{from, double, read}
+use Rattle.layout.specs.Table.{stop·position, stop·across, stop·id}
+use Rattle.layout.specs.Records.{from, read, point}
 use Rattle.layout.specs.Refusals.{lastStop, refusal9Stop, refusal11Stop}
 use Rattle.layout.specs.Verdict.{pick, firstOf, bodyRefusal}
 use Rattle.layout.specs.declared.Counts.{Counts}
 use Rattle.components.specs.declared.Kind.the-variants as Kind
 use borrow.Author.Needs.{needs}
 use lib.Dec.{eqb, leb}
-use lib.Ieee.{Float}
 use mathlib.Core.Bool.{Bool, not, _||_}
 use mathlib.Core.List.{List}
 use mathlib.Core.Path.{_≡_}
@@ -19,28 +17,26 @@ use Rattle.refusals.proofs.stop_refusal.Statement.{statement}
 use Rattle.refusals.proofs.stop_refusal.Tie as tie
 
 -- the conditions as they are read, then the picks from the last to the first
-by-number : (s : List ℕ) (c : Counts) {at id last r11 r9 : ℕ} {position : Float} {placed : Bool} →
+by-number : (s : List ℕ) (c : Counts) {at id last r11 r9 : ℕ} {placed : Bool} →
     at ≡ endOf c →
     id ≡ read (from s at) stop·id →
     last ≡ lastStop s c →
-    position ≡ double (from s at) stop·position →
-    placed ≡ isPosition position →
+    placed ≡ isPlaced (point (from s at) stop·position (stop·across (c .across))) →
     r11 ≡ pick (not placed) 11 0 →
     r9 ≡ pick (eqb id 0 || leb id last) 9 r11 →
     r9 ≡ bodyRefusal s c Kind.Stop (from s (endOf c))
 unfolding firstOf refusal9Stop refusal11Stop
-by-number s c at-is id-is last-is position-is placed-is is11 is9 = rw (is9, is11, placed-is, position-is, last-is, id-is, at-is)
+by-number s c at-is id-is last-is placed-is is11 is9 = rw (is9, is11, placed-is, last-is, id-is, at-is)
 
 returns : tie.Need-returns
 returns c =
     let r = c .before .before in
-    let a = r .before .before .before .before .before .before .args in
-    by-number (a .s .now) (a .c) (r .before .before .before .before .end-of .ensures) (r .before .before .before .field32 .ensures)
-    (r .before .before .last-stop .ensures) (r .before .double-at .ensures) (r .is-position .ensures) (c .before .pick .ensures)
-    (c .pick2 .ensures)
+    let a = r .before .before .before .before .before .args in
+    by-number (a .s .now) (a .c) (r .before .before .before .end-of .ensures) (r .before .before .field32 .ensures)
+    (r .before .last-stop .ensures) (r .placed-at .ensures) (c .before .pick .ensures) (c .pick2 .ensures)
 
 pub stop-refusal-spec : {M : Type 1} → statement M
 stop-refusal-spec =
     tie.close
     (tie.spec (λ c κs. search needs) (λ c κs. search needs) (λ c κs. search needs) (λ c κs. search needs) (λ c κs. search needs)
-    (λ c κs. search needs) (λ c κs. search needs) returns)
+    (λ c κs. search needs) returns)

@@ -1,6 +1,8 @@
 -- refusals_car::long_doors meets its contract.
 use Prim.Native.Nat.{ℕ, _+_, _*_}
-use Rattle.layout.specs.Table.{car·transition, car·dwell}
+use Rattle.layout.specs.Offsets.{endOf}
+use Rattle.layout.specs.Table.{past, car·transition, car·dwell}
+use Rattle.layout.specs.declared.Counts.{Counts}
 use Rattle.layout.specs.Records.{from, read}
 use Rattle.layout.specs.Refusals.{refusal13}
 use borrow.Author.Needs.{needs}
@@ -10,18 +12,18 @@ use mathlib.Core.Path.{_≡_}
 use Rattle.refusals_car.proofs.long_doors.Statement.{statement}
 use Rattle.refusals_car.proofs.long_doors.Tie as tie
 
-as-read : (s : List ℕ) (at : ℕ) {transition dwell : ℕ} →
-    transition ≡ read (from s at) car·transition →
-    dwell ≡ read (from s at) car·dwell →
-    ltb 4294967295 (2 * transition + dwell) ≡ refusal13 (from s at)
+as-read : (s : List ℕ) (c : Counts) {at transition dwell : ℕ} →
+    at ≡ endOf c →
+    transition ≡ read (from s at) (past (c .across) car·transition) →
+    dwell ≡ read (from s at) (past (c .across) car·dwell) →
+    ltb 4294967295 (2 * transition + dwell) ≡ refusal13 c (from s (endOf c))
 unfolding refusal13
-as-read s at transition-is dwell-is = rw (transition-is, dwell-is)
+as-read s c at-is transition-is dwell-is = rw (transition-is, dwell-is, at-is)
 
 returns : tie.Need-returns
 returns c =
-    let a = c .before .before .before .args in as-read (a .s .now) (a .at) (c .before .field .ensures .is) (c .field2 .ensures .is)
+    let a = c .before .before .before .before .before .before .args in
+    as-read (a .s .now) (a .c) (c .before .before .before .before .end-of .ensures) (c .before .before .field .ensures .is) (c .field2 .ensures .is)
 
 pub long-doors-spec : {M : Type 1} → statement M
-long-doors-spec =
-    tie.close
-    (tie.spec (λ c κs. search needs) (λ c κs. search needs) (λ c. search needs) (λ c. search needs) returns)
+long-doors-spec = tie.close (tie.spec (λ c κs. search needs) (λ c. search needs) (λ c κs. search needs) (λ c. search needs) (λ c κs. search needs) (λ c. search needs) (λ c. search needs) returns)

@@ -1,7 +1,7 @@
 -- refusals_car::unknown_records meets its contract.
 use Prim.Native.Nat.{ℕ}
 use Rattle.layout.specs.Offsets.{endOf}
-use Rattle.layout.specs.Table.{car·line, car·restricted, car·calls}
+use Rattle.layout.specs.Table.{past, car·line, car·restricted, car·calls}
 use Rattle.layout.specs.Records.{from, read}
 use Rattle.layout.specs.Refusals.{hasLine, refusal10Car}
 use Rattle.layout.specs.declared.Counts.{Counts}
@@ -17,9 +17,9 @@ as-read : (s : List ℕ) (c : Counts) {at line restricted calls : ℕ} {known re
     at ≡ endOf c →
     line ≡ read (from s at) car·line →
     known ≡ hasLine s c line →
-    restricted ≡ read (from s at) car·restricted →
+    restricted ≡ read (from s at) (past (c .across) car·restricted) →
     restricted-past ≡ pastStops restricted (c .stops) →
-    calls ≡ read (from s at) car·calls →
+    calls ≡ read (from s at) (past (c .across) car·calls) →
     calls-past ≡ pastStops calls (c .stops) →
     (not known || (restricted-past || calls-past)) ≡ refusal10Car s c (from s (endOf c))
 unfolding refusal10Car
@@ -28,14 +28,9 @@ as-read s c at-is line-is known-is restricted-is restricted-past-is calls-is cal
 
 returns : tie.Need-returns
 returns c =
-    let masks = c .before .before .before in
-    let a = masks .before .before .before .before .before .args in
-    as-read (a .s .now) (a .c) (masks .before .before .before .end-of .ensures) (masks .before .before .field32 .ensures)
-    (masks .before .has-line .ensures) (masks .field .ensures .is) (c .before .before .past-stops .ensures) (c .before .field2 .ensures .is)
-    (c .past-stops2 .ensures)
+    let a = c .before .before .before .before .before .before .before .before .before .before .args in
+    as-read (a .s .now) (a .c) (c .before .before .before .before .before .before .before .before .end-of .ensures) (c .before .before .before .before .before .before .before .field32 .ensures) (c .before .before .before .before .before .before .has-line .ensures) (c .before .before .before .before .field .ensures .is)
+    (c .before .before .before .past-stops .ensures) (c .before .field2 .ensures .is) (c .past-stops2 .ensures)
 
 pub unknown-records-spec : {M : Type 1} → statement M
-unknown-records-spec =
-    tie.close
-    (tie.spec (λ c κs. search needs) (λ c κs. search needs) (λ c κs. search needs) (λ c. search needs) (λ c κs. search needs)
-    (λ c κs. search needs) (λ c κs. search needs) (λ c κs. search needs) returns)
+unknown-records-spec = tie.close (tie.spec (λ c κs. search needs) (λ c κs. search needs) (λ c κs. search needs) (λ c. search needs) (λ c. search needs) (λ c κs. search needs) (λ c κs. search needs) (λ c. search needs) (λ c κs. search needs) (λ c κs. search needs) returns)
