@@ -3,7 +3,7 @@ use Prim.Native.Nat.{ℕ, _+_}
 use Rattle.bits.specs.Field.{fieldAt}
 use Rattle.components.specs.Codes.{kindOf}
 use Rattle.components.specs.declared.Kind.{Kind}
-use Rattle.layout.specs.Offsets.{endOf, bodyLength}
+use Rattle.layout.specs.Offsets.{endOf, bodyLength, acrossIn}
 use Rattle.layout.specs.Records.{from}
 use Rattle.layout.specs.Refusals.{pastEnd, refusal2, refusal4, refusal5, refusal6, refusal7}
 use Rattle.layout.specs.Verdict.{pick, firstOf, bodyRefusal, recordRefusal}
@@ -23,7 +23,7 @@ by-number : (s : List ℕ) (c : Counts) {at code len asked body r7 r6 r5 r4 r2 :
     len ≡ fieldAt s (at + 6) 16 →
     kind ≡ kindOf code →
     short ≡ pastEnd s (at + 22 + len) →
-    asked ≡ bodyLength kind →
+    asked ≡ bodyLength kind + acrossIn (c .across) kind →
     unordered ≡ refusal6 c code →
     full ≡ refusal7 c kind →
     body ≡ bodyRefusal s c kind (from s (endOf c)) →

@@ -10,18 +10,35 @@ use Rattle.layout.specs.declared.Reading.the-variants.{Refused}
 use borrow.Author.Needs.{needs}
 use mathlib.Core.Logic.{_≢_}
 use mathlib.Core.Path.{_≡_, refl, sym, ap, ap₂, _∙_}
+use native.Mathlib.Nat.{mul-zero}
 use native.Mathlib.Omega.{arith}
 use Rattle.sheet.proofs.records.Statement.{statement}
 use Rattle.sheet.proofs.records.Tie as tie
 
 abbrev Inv-loop : tie.InvT-loop
-Inv-loop s count c₀ left₀ c left = Small c × (c .demands + left ≤ 65535) × (c .closures + left ≤ 65535) × (recordsVerdict s count none ≡ recordsVerdict s left c)
+Inv-loop s across count c₀ left₀ c left =
+    Small c × (c .demands + left ≤ 65535) × (c .closures + left ≤ 65535) × (recordsVerdict s count (none across) ≡ recordsVerdict s left c)
 
 abbrev μ-loop : tie.MeasureT-loop
-μ-loop s count c₀ left₀ c left = left
+μ-loop s across count c₀ left₀ c left = left
 
 loop-holds : tie.Need-loop-holds Inv-loop μ-loop
-loop-holds c = (search needs, search needs, search needs, refl)
+loop-holds c =
+    let w = c .before .args .across in
+    let l = c .before .pre .0 in
+    (record {
+      across = l;
+      policies = omega arith;
+      stops = omega arith;
+      lines = omega arith;
+      cars = omega arith;
+      aboards = omega arith;
+      waits = omega arith;
+      demands = omega arith;
+      closures = omega arith;
+      stop-bits = omega (arith, mul-zero (118 + w));
+      car-bits = omega (arith, mul-zero (737 + w));
+    }, search needs, search needs, refl)
 
 returns : tie.Need-returns Inv-loop μ-loop
 returns c =
