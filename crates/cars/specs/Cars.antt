@@ -28,7 +28,7 @@ emptyCar x =
       down = false;
       direction = direction.Up;
       mode = mode.Strict;
-      position = x;
+      position = record { along = x; across = x };
       speed = x;
       capacity = x;
       load = x;

@@ -7,6 +7,7 @@ use components::Car;
 use components::Direction;
 use components::Mode;
 use components::Phase;
+use components::Point;
 use components::Threshold;
 use layout::Counts;
 
@@ -24,7 +25,10 @@ fn blank() -> Car
         down: false,
         direction: Direction::Up,
         mode: Mode::Strict,
-        position: 0.0,
+        position: Point {
+            along: 0.0,
+            across: 0.0,
+        },
         speed: 0.0,
         capacity: 0.0,
         load: 0.0,

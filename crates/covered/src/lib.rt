@@ -1,14 +1,13 @@
 // The covered stops of a sheet: its columns, and is_covered for each stop that is asked for.
-ghost use Rattle.components.specs.declared.Kind.the-variants.{Car};
 ghost use mathlib.Core.Path.{_≡_};
 ghost use mathlib.Core.Bool.{_&&_};
 ghost use mathlib.Core.List.{_++_};
-ghost use Prim.Native.Nat.{_+_, _*_, _^_, _<_, _≤_};
+ghost use Prim.Native.Nat.{ℕ, _<_, _≤_};
 ghost use lib.ListN.{length, drop};
 ghost use Rattle.laws.specs.Tables.{tab};
 ghost use Rattle.mask.specs.Mask.{has, built};
 ghost use Rattle.components.specs.Cars.{remaining};
-ghost use Rattle.layout.specs.Offsets.{Small, recordLength};
+ghost use Rattle.layout.specs.Offsets.{Small};
 ghost use Rattle.layout.specs.Records.{from, carOf, sheetOf};
 ghost use Rattle.assignment.specs.Pending.{covered, coveredByCars};
 ghost use Rattle.coverage.specs.Coverage.{coveredBy};
@@ -21,9 +20,9 @@ use layout::closed;
 use layout::line;
 use layout::waiting;
 
-// The target of a car that serves it, else 0.
+// The target of a car that serves it, else 0; it stands before a second coordinate of any bits.
 fn target_at(s: &[u8], at: u32) -> u32
-    ensures { λ r. ⌜ r ≡ servedTarget (carOf (from (now (s .entry)) at)) ⌝ }
+    ensures { λ r. ⌜ (w : ℕ) → r ≡ servedTarget (carOf w (from (now (s .entry)) at)) ⌝ }
 {
     let phase = Phase::of_code(
         bits::field(s, at, car::PHASE, 3),
@@ -37,34 +36,36 @@ fn target_at(s: &[u8], at: u32) -> u32
 }
 
 // The weight that a car still takes.
-fn room_at(s: &[u8], at: u32) -> f64
-    ensures { λ r. ⌜ r ≡ remaining (carOf (from (now (s .entry)) at)) ⌝ }
+fn room_at(s: &[u8], at: u32, across: u32) -> f64
+    requires { ⌜ across ≤ 64 ⌝ }
+    ensures { λ r. ⌜ r ≡ remaining (carOf across (from (now (s .entry)) at)) ⌝ }
 {
-    records::double_at(s, at, car::CAPACITY) - records::double_at(s, at, car::LOAD)
+    let capacity = records::double_at(s, at, car::CAPACITY + across);
+    capacity - records::double_at(s, at, car::LOAD + across)
 }
 
-fn fill_targets(s: &[u8], base: u32, n: usize, out: &mut [u32])
-    requires { ⌜ (base < 2 ^ 31) × (n ≤ 32) × (length (now out) ≡ 32) ⌝ }
+fn fill_targets(s: &[u8], c: Counts, out: &mut [u32])
+    requires { ⌜ Small c × (length (now out) ≡ 32) ⌝ }
     ensures { λ _. ⌜ (length (now (out .exit)) ≡ length (now (out .entry)))
-        × (now (out .exit) ≡ tab (λ i. servedTarget (carOf (from (now (s .entry)) (base + recordLength Car * i)))) n ++ drop n (now (out .entry)))
-        ⌝ }
+        × (now (out .exit) ≡ tab (λ i. servedTarget (sheetOf (now (s .entry)) c .car i)) (c .cars) ++ drop (c .cars) (now (out .entry))) ⌝ }
 {
-    let mut i: usize = 0;
+    let n = c.cars;
+    let mut i: u32 = 0;
     while i < n {
-        out[i] = target_at(s, base + car::BITS * (i as u32));
+        out[i as usize] = target_at(s, c.car_start(i));
         i += 1;
     }
 }
 
-fn fill_rooms(s: &[u8], base: u32, n: usize, out: &mut [f64])
-    requires { ⌜ (base < 2 ^ 31) × (n ≤ 32) × (length (now out) ≡ 32) ⌝ }
+fn fill_rooms(s: &[u8], c: Counts, out: &mut [f64])
+    requires { ⌜ Small c × (length (now out) ≡ 32) ⌝ }
     ensures { λ _. ⌜ (length (now (out .exit)) ≡ length (now (out .entry)))
-        × (now (out .exit) ≡ tab (λ i. remaining (carOf (from (now (s .entry)) (base + recordLength Car * i)))) n ++ drop n (now (out .entry)))
-        ⌝ }
+        × (now (out .exit) ≡ tab (λ i. remaining (sheetOf (now (s .entry)) c .car i)) (c .cars) ++ drop (c .cars) (now (out .entry))) ⌝ }
 {
-    let mut i: usize = 0;
+    let n = c.cars;
+    let mut i: u32 = 0;
     while i < n {
-        out[i] = room_at(s, base + car::BITS * (i as u32));
+        out[i as usize] = room_at(s, c.car_start(i), c.across);
         i += 1;
     }
 }
@@ -178,7 +179,7 @@ fn covered_waits<'a>(
     let at = c.waits_from();
     fields::fill32(s, at, waiting::BITS, waiting::STOP, n, &mut stops);
     fields::fill32(s, at, waiting::BITS, waiting::LINE, n, &mut required);
-    fields::fill_doubles(s, at, waiting::BITS, waiting::WEIGHT, n, &mut weights);
+    fields::fill_doubles(s, at, waiting::BITS, waiting::WEIGHT, 64, n, &mut weights);
     covered_mask(
         targets,
         lines,
@@ -204,11 +205,16 @@ fn covered_by_cars<'a>(s: &'a [u8], c: Counts, asked: u64, names: &'a [u32]) -> 
     let mut lines = [0u32; 32];
     let mut rooms = [0.0f64; 32];
     let mut ids = [0u32; 8];
-    let n = c.cars as usize;
-    let at = c.cars_from();
-    fill_targets(s, at, n, &mut targets);
-    fields::fill32(s, at, car::BITS, car::LINE, n, &mut lines);
-    fill_rooms(s, at, n, &mut rooms);
+    fill_targets(s, c, &mut targets);
+    fields::fill32(
+        s,
+        c.cars_from(),
+        c.car_bits(),
+        car::LINE,
+        c.cars as usize,
+        &mut lines,
+    );
+    fill_rooms(s, c, &mut rooms);
     fields::fill32(
         s,
         c.lines_from(),

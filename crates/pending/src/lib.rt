@@ -149,7 +149,7 @@ fn bound_stops<'a>(s: &'a [u8], c: Counts, names: &'a [u32]) -> u64
     fields::fill_guarded(
         s,
         c.cars_from(),
-        car::BITS,
+        c.car_bits(),
         car::ID,
         car::LISTED,
         1,

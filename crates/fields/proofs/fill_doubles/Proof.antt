@@ -13,10 +13,10 @@ use Rattle.fields.proofs.fill_doubles.Statement.{statement}
 use Rattle.fields.proofs.fill_doubles.Tie as tie
 
 abbrev Inv-loop : tie.InvT-loop
-Inv-loop s base len off n out₀ i₀ out i = (i ≤ n) × (length out ≡ length out₀) × (out ≡ tab (λ k. ofBits binary64 (fieldAt (s) (base + len * k + off) 64)) i ++ drop i out₀)
+Inv-loop s base len off w n out₀ i₀ out i = (i ≤ n) × (length out ≡ length out₀) × (out ≡ tab (λ k. ofBits binary64 (fieldAt (s) (base + len * k + off) w)) i ++ drop i out₀)
 
 abbrev μ-loop : tie.MeasureT-loop
-μ-loop s base len off n out₀ i₀ out i = n - i
+μ-loop s base len off w n out₀ i₀ out i = n - i
 
 loop-holds : tie.Need-loop-holds Inv-loop μ-loop
 unfolding tab
@@ -34,7 +34,7 @@ loop-again c =
     let a = c .before .before .before .before .before .before .args in (
       omega arith,
       simp length-set (l .inv .1),
-      tab-next (λ k. ofBits binary64 (fieldAt (a .s .now) (a .base + a .len * k + a .off) 64)) (a .out .now) (l .out) (l .i) (c .double .result) (omega arith) (l .inv .2) (c .double .ensures ∙ ap (ofBits binary64) (c .before .field .ensures .is)),
+      tab-next (λ k. ofBits binary64 (fieldAt (a .s .now) (a .base + a .len * k + a .off) (a .w))) (a .out .now) (l .out) (l .i) (c .double .result) (omega arith) (l .inv .2) (c .double .ensures ∙ ap (ofBits binary64) (c .before .field .ensures .is)),
     )
 
 returns : tie.Need-returns Inv-loop μ-loop
@@ -42,7 +42,7 @@ returns c =
     let l = c .before .loop in
     let a = c .before .before .before .before .args in
     let e : l .i ≡ a .n = omega arith in
-    (l .inv .1, l .inv .2 ∙ ap (λ (m : ℕ). tab (λ k. ofBits binary64 (fieldAt (a .s .now) (a .base + a .len * k + a .off) 64)) m ++ drop m (a .out .now)) e)
+    (l .inv .1, l .inv .2 ∙ ap (λ (m : ℕ). tab (λ k. ofBits binary64 (fieldAt (a .s .now) (a .base + a .len * k + a .off) (a .w))) m ++ drop m (a .out .now)) e)
 
 pub fill-doubles-spec : {M : Type 1} → statement M
 fill-doubles-spec =
