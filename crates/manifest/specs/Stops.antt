@@ -6,8 +6,9 @@ use mathlib.Core.Bool.{Bool, true, false, cond, _&&_}
 use mathlib.Core.List.{List}
 use mathlib.Core.Logic.{_≢_}
 use lib.Dec.{eqb, ltb}
-use lib.ListN.{getD}
+use lib.ListN.{getD, drop}
 use lib.Ieee.{Float, nan}
+use lib.Seq.{getD-drop}
 use borrow.Author.Tests.{lt-ltb, le-ltb, eq-eqb, ne-eqb, eqb-true, ltb-true}
 use Rattle.laws.specs.Bools.{same-test, both, both-left, both-right}
 use Rattle.laws.specs.Folds.{lookup, lookup-next, lookup-cong, lookup-at}
@@ -62,6 +63,13 @@ module _ (ids : List ℕ) (n id : ℕ) where
 -- the point of stop j
 unfoldable pub pointIn : List Float → ℕ → Point
 pointIn xs j = pointOf (getD xs j nan) (getD xs (64 + j) nan)
+
+-- the second coordinates
+abbrev pub sidesOf : List Float → List Float
+sidesOf xs = drop 64 xs
+
+pub side-of : (xs : List Float) (j : ℕ) → getD (sidesOf xs) j nan ≡ getD xs (64 + j) nan
+side-of xs j = getD-drop 64 xs j nan
 
 -- where the stop of an index stands
 unfoldable pub placeAt : List Float → ℕ → ℕ → Place
