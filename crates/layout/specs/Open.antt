@@ -5,6 +5,7 @@ use Rattle.laws.specs.Folds.{any}
 use Rattle.fp.specs.Ranges.{isPosition, isSpeed, isMass, isThreshold, isTickRate}
 use Rattle.bits.specs.Field.{bitAt, fieldAt}
 use Rattle.mask.specs.Mask.{has, pastStops}
+use Rattle.components.specs.Points.{isPlaced}
 use Rattle.components.specs.Codes.{kindOf, strategyOf, trafficOf, phaseOf, directionOf, modeOf}
 use Rattle.layout.specs.Offsets.{lastKind}
 use Rattle.layout.specs.Records.{policyOf, stopOf, lineOf, carOf, aboardOf, waitingOf, demandOf, sheetOf, limitOf}
@@ -16,7 +17,7 @@ use Rattle.layout.specs.Refusals.{refusal14, refusal9Demand, refusal10De
 use Rattle.layout.specs.Verdict.{pick, firstOf, recordRefusal, tailVerdict, recordsVerdict, verdict}
 
 unfoldable pub reading : ℕ
-unfolding ofBits lt le eq neg any isPosition isSpeed isMass isThreshold isTickRate bitAt fieldAt has pastStops kindOf strategyOf trafficOf phaseOf
+unfolding ofBits lt le eq neg any isPlaced isPosition isSpeed isMass isThreshold isTickRate bitAt fieldAt has pastStops kindOf strategyOf trafficOf phaseOf
     directionOf modeOf lastKind policyOf stopOf lineOf carOf aboardOf waitingOf demandOf sheetOf limitOf refusal2Head refusal3 refusal6Empty
     tailFits refusal16 refusal2 refusal5 refusal6 seen lastStop refusal8Policy refusal11Policy refusal12 refusal9Stop refusal11Stop
     refusal9Line refusal10Line refusal8Car refusal9Car refusal10Car refusal11Car refusal13 refusal8Aboard refusal9Aboard refusal10Aboard

@@ -8,6 +8,7 @@ use lib.Dec.{eqb}
 use lib.Ieee.{Float, ofBits, binary64}
 use Rattle.bits.specs.Field.{fieldAt}
 use Rattle.components.specs.declared.Policy.{Policy}
+use Rattle.components.specs.declared.Point.{Point}
 use Rattle.components.specs.declared.Stop.{Stop}
 use Rattle.components.specs.declared.Line.{Line}
 use Rattle.components.specs.declared.Car.{Car}
@@ -19,7 +20,7 @@ use Rattle.components.specs.declared.Threshold.the-variants as threshold
 use Rattle.components.specs.Codes.{strategyOf, trafficOf, phaseOf, directionOf, modeOf}
 use Rattle.components.specs.Sheet.{Sheet}
 use Rattle.layout.specs.declared.Counts.{Counts}
-use Rattle.layout.specs.Table.{Field, policy·strategy, policy·limit, policy·rate, policy·traffic, policy·w0, policy·w1, policy·w2, policy·w3}
+use Rattle.layout.specs.Table.{Field, past, stop·across, car·across, policy·strategy, policy·limit, policy·rate, policy·traffic, policy·w0, policy·w1, policy·w2, policy·w3}
 use Rattle.layout.specs.Table.{policy·w4, policy·w5, stop·id, stop·position, line·id, line·serves, car·id, car·line, car·phase, car·stop}
 use Rattle.layout.specs.Table.{car·target, car·listed, car·up, car·down, car·sweep, car·mode, car·position, car·speed, car·capacity, car·load}
 use Rattle.layout.specs.Table.{car·hasBypassUp, car·bypassUp, car·hasBypassDown, car·bypassDown, car·transition, car·dwell, car·restricted}
@@ -63,17 +64,21 @@ policyOf f =
       w5 = double f policy·w5;
     }
 
+-- a position and a second coordinate; of no bits it is 0, and so is the double
+abbrev pub point : Fields → Field → Field → Point
+point f along across = record { along = double f along; across = double f across }
+
 -- kind 2, stop
-unfoldable pub stopOf : Fields → Stop
-stopOf f = record { id = read f stop·id; position = double f stop·position }
+unfoldable pub stopOf : ℕ → Fields → Stop
+stopOf w f = record { id = read f stop·id; position = point f stop·position (stop·across w) }
 
 -- kind 3, line
 unfoldable pub lineOf : Fields → Line
 lineOf f = record { id = read f line·id; serves = read f line·serves }
 
 -- kind 4, car
-unfoldable pub carOf : Fields → Car
-carOf f =
+unfoldable pub carOf : ℕ → Fields → Car
+carOf w f =
     record {
       id = read f car·id;
       line = read f car·line;
@@ -84,16 +89,16 @@ carOf f =
       down = flag f car·down;
       direction = directionOf (flag f car·sweep);
       mode = modeOf (flag f car·mode);
-      position = double f car·position;
-      speed = double f car·speed;
-      capacity = double f car·capacity;
-      load = double f car·load;
-      bypassup = optional f car·hasBypassUp car·bypassUp;
-      bypassdown = optional f car·hasBypassDown car·bypassDown;
-      transition = read f car·transition;
-      dwell = read f car·dwell;
-      restricted = read f car·restricted;
-      calls = read f car·calls;
+      position = point f car·position (car·across w);
+      speed = double f (past w car·speed);
+      capacity = double f (past w car·capacity);
+      load = double f (past w car·load);
+      bypassup = optional f (past w car·hasBypassUp) (past w car·bypassUp);
+      bypassdown = optional f (past w car·hasBypassDown) (past w car·bypassDown);
+      transition = read f (past w car·transition);
+      dwell = read f (past w car·dwell);
+      restricted = read f (past w car·restricted);
+      calls = read f (past w car·calls);
     }
 
 -- kind 5, aboard
@@ -121,11 +126,11 @@ sheetOf s c =
     record {
       policy = policyOf (from s headLength);
       stops = c .stops;
-      stop = λ i. stopOf (from s (stopStart c i));
+      stop = λ i. stopOf (c .across) (from s (stopStart c i));
       lines = c .lines;
       line = λ i. lineOf (from s (lineStart c i));
       cars = c .cars;
-      car = λ i. carOf (from s (carStart c i));
+      car = λ i. carOf (c .across) (from s (carStart c i));
       aboards = c .aboards;
       aboard = λ i. aboardOf (from s (aboardStart c i));
       waits = c .waits;

@@ -6,7 +6,7 @@ use mathlib.Core.List.{List}
 use lib.Dec.{eqb, ltb, leb}
 use lib.ListN.{length}
 use Rattle.laws.specs.Folds.{any}
-use Rattle.fp.specs.Ranges.{isPosition, isSpeed, isMass, isThreshold, isTickRate}
+use Rattle.fp.specs.Ranges.{isSpeed, isMass, isThreshold, isTickRate}
 use Rattle.mask.specs.Mask.{pastStops}
 use Rattle.components.specs.declared.Kind.{Kind}
 use Rattle.components.specs.declared.Kind.the-variants.{Policy, Stop, Line, Car, Aboard, Waiting, Demand, Closed, Unknown}
@@ -18,7 +18,9 @@ use Rattle.components.specs.declared.Phase.the-variants.{Idle, MovingToStop, Re
 use Rattle.components.specs.declared.Phase.the-variants as phase
 use Rattle.components.specs.Codes.{kindCode, strategyOf, strategyCode, phaseOf, phaseCode}
 use Rattle.components.specs.Cars.{isMoving}
+use Rattle.components.specs.Points.{isPlaced}
 use Rattle.layout.specs.declared.Counts.{Counts}
+use Rattle.layout.specs.Offsets.{acrossIn}
 use Rattle.layout.specs.Offsets.{headLength, bodyFrom, bodyLength, recordLength, lastKind, stopsFrom, linesFrom, carsFrom, demandsFrom, closuresFrom}
 use Rattle.layout.specs.Offsets.{stopStart, endOf}
 use Rattle.layout.specs.Table.{Field, head·edition, head·count, record·kind, record·stated, first, policy·strategy, policy·limit, policy·rate}
@@ -27,7 +29,8 @@ use Rattle.layout.specs.Table.{car·id, car·line, car·phase, car·stop
 use Rattle.layout.specs.Table.{car·load, car·hasBypassUp, car·bypassUp, car·hasBypassDown, car·bypassDown, car·transition, car·dwell}
 use Rattle.layout.specs.Table.{car·restricted, car·calls, aboard·car, aboard·hasDestination, aboard·destination, waiting·stop, waiting·hasLine}
 use Rattle.layout.specs.Table.{waiting·line, waiting·hasDestination, waiting·destination, waiting·weight, waiting·wait, demand·stop, closed·stop}
-use Rattle.layout.specs.Records.{Fields, from, read, flag, double}
+use Rattle.layout.specs.Table.{past, stop·across, car·across}
+use Rattle.layout.specs.Records.{Fields, from, read, flag, double, point}
 
 -- ---- the head
 
@@ -45,9 +48,9 @@ pastEnd s e = ltb (8 * length s) e
 unfoldable pub refusal2Head : List ℕ → Bool
 refusal2Head s = pastEnd s headLength
 
--- "3, edition not 1"
+-- "3, edition not 1", of request F-12: "3 is for editions other than 1 and 2"
 unfoldable pub refusal3 : List ℕ → Bool
-refusal3 s = not (eqb (edition s) 1)
+refusal3 s = not (eqb (edition s) 1 || eqb (edition s) 2)
 
 -- "6, .. no kind 1 first", where the count is 0 and so no record is first: "24 for an empty count"
 unfoldable pub refusal6Empty : List ℕ → Bool
@@ -78,9 +81,9 @@ refusal4 Demand = false
 refusal4 Closed = false
 refusal4 Unknown = true
 
--- "5, length not the kind's"
-unfoldable pub refusal5 : Kind → ℕ → Bool
-refusal5 k n = not (eqb n (bodyLength k))
+-- "5, length not the kind's", in the sheet's edition
+unfoldable pub refusal5 : Counts → Kind → ℕ → Bool
+refusal5 c k n = not (eqb n (bodyLength k + acrossIn (c .across) k))
 
 -- "6, kinds out of order, or no kind 1 first"
 unfoldable pub refusal6 : Counts → ℕ → Bool
@@ -115,19 +118,19 @@ unfoldable pub seen : List ℕ → ℕ → ℕ → ℕ → ℕ → Bool
 seen s base len n id = any (λ i. eqb (read (from s (base + len * i)) (first 32)) id) n
 
 abbrev pub hasStop : List ℕ → Counts → ℕ → Bool
-hasStop s c id = seen s (stopsFrom c) (recordLength Stop) (c .stops) id
+hasStop s c id = seen s (stopsFrom c) (recordLength (c .across) Stop) (c .stops) id
 
 abbrev pub hasLine : List ℕ → Counts → ℕ → Bool
-hasLine s c id = seen s (linesFrom c) (recordLength Line) (c .lines) id
+hasLine s c id = seen s (linesFrom c) (recordLength (c .across) Line) (c .lines) id
 
 abbrev pub hasCar : List ℕ → Counts → ℕ → Bool
-hasCar s c id = seen s (carsFrom c) (recordLength Car) (c .cars) id
+hasCar s c id = seen s (carsFrom c) (recordLength (c .across) Car) (c .cars) id
 
 abbrev pub hasDemand : List ℕ → Counts → ℕ → Bool
-hasDemand s c id = seen s (demandsFrom c) (recordLength Demand) (c .demands) id
+hasDemand s c id = seen s (demandsFrom c) (recordLength (c .across) Demand) (c .demands) id
 
 abbrev pub hasClosed : List ℕ → Counts → ℕ → Bool
-hasClosed s c id = seen s (closuresFrom c) (recordLength Closed) (c .closures) id
+hasClosed s c id = seen s (closuresFrom c) (recordLength (c .across) Closed) (c .closures) id
 
 -- the id of the last stop record, 0 before the first
 unfoldable pub lastStop : List ℕ → Counts → ℕ
@@ -184,9 +187,9 @@ refusal12 f = eqb (read f policy·limit) 0
 unfoldable pub refusal9Stop : List ℕ → Counts → Fields → Bool
 refusal9Stop s c f = eqb (read f stop·id) 0 || leb (read f stop·id) (lastStop s c)
 
--- "11, .. positions -1,000,000 to 1,000,000"
-unfoldable pub refusal11Stop : Fields → Bool
-refusal11Stop f = not (isPosition (double f stop·position))
+-- "11, .. positions -1,000,000 to 1,000,000"; of request F-12: "a second coordinate after the position, same range"
+unfoldable pub refusal11Stop : Counts → Fields → Bool
+refusal11Stop c f = not (isPlaced (point f stop·position (stop·across (c .across))))
 
 -- ---- kind 3, line
 
@@ -215,13 +218,13 @@ unusedStop Stopped set = set
 unusedStop phase.Unknown set = false
 
 -- "8, .. phase 7, or a one bit in an absent or unused field"
-unfoldable pub refusal8Car : Fields → Bool
-refusal8Car f =
+unfoldable pub refusal8Car : Counts → Fields → Bool
+refusal8Car c f =
     eqb (phaseCode (phaseAt f)) 7
     || (unusedStop (phaseAt f) (not (eqb (read f car·stop) 0))
     || (absentSet f car·hasTarget car·target
-    || (absentSet f car·hasBypassUp car·bypassUp
-    || absentSet f car·hasBypassDown car·bypassDown)))
+    || (absentSet f (past (c .across) car·hasBypassUp) (past (c .across) car·bypassUp)
+    || absentSet f (past (c .across) car·hasBypassDown) (past (c .across) car·bypassDown))))
 
 -- "9, id 0 in any id field that is present and used, .. a car id of an earlier car"
 unfoldable pub refusal9Car : List ℕ → Counts → Fields → Bool
@@ -234,22 +237,25 @@ refusal9Car s c f =
 
 -- "10, no record for a car's line, .. a mask bit past the stops"
 unfoldable pub refusal10Car : List ℕ → Counts → Fields → Bool
-refusal10Car s c f = not (hasLine s c (read f car·line)) || (pastStops (read f car·restricted) (c .stops) || pastStops (read f car·calls) (c .stops))
+refusal10Car s c f =
+    not (hasLine s c (read f car·line))
+    || (pastStops (read f (past (c .across) car·restricted)) (c .stops)
+    || pastStops (read f (past (c .across) car·calls)) (c .stops))
 
 -- "11, a double outside: positions ..; speed 0, or 1/1,024 to 1,000; capacity, load .. 0 to 1,000,000,000; thresholds 0 to 1,000"; an absent
 -- threshold is zero by then
-unfoldable pub refusal11Car : Fields → Bool
-refusal11Car f =
-    not (isPosition (double f car·position)
-    && (isSpeed (double f car·speed)
-    && (isMass (double f car·capacity)
-    && (isMass (double f car·load)
-    && (isThreshold (double f car·bypassUp)
-    && isThreshold (double f car·bypassDown))))))
+unfoldable pub refusal11Car : Counts → Fields → Bool
+refusal11Car c f =
+    not (isPlaced (point f car·position (car·across (c .across)))
+    && (isSpeed (double f (past (c .across) car·speed))
+    && (isMass (double f (past (c .across) car·capacity))
+    && (isMass (double f (past (c .across) car·load))
+    && (isThreshold (double f (past (c .across) car·bypassUp))
+    && isThreshold (double f (past (c .across) car·bypassDown)))))))
 
 -- "13, twice the transition ticks plus open ticks above 4,294,967,295"
-unfoldable pub refusal13 : Fields → Bool
-refusal13 f = ltb 4294967295 (2 * read f car·transition + read f car·dwell)
+unfoldable pub refusal13 : Counts → Fields → Bool
+refusal13 c f = ltb 4294967295 (2 * read f (past (c .across) car·transition) + read f (past (c .across) car·dwell))
 
 -- ---- kind 5, aboard
 

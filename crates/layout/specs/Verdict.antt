@@ -11,9 +11,9 @@ use Rattle.components.specs.Codes.{kindOf}
 use Rattle.layout.specs.declared.Counts.{Counts}
 use Rattle.layout.specs.declared.Reading.{Reading}
 use Rattle.layout.specs.declared.Reading.the-variants.{Refused, Accepted}
-use Rattle.layout.specs.Offsets.{none, next, endOf}
+use Rattle.layout.specs.Offsets.{acrossBits, none, next, endOf}
 use Rattle.layout.specs.Records.{Fields, from}
-use Rattle.layout.specs.Refusals.{recordCount, kindAt, lengthAt, refusal2Head, refusal3, refusal6Empty, refusal16}
+use Rattle.layout.specs.Refusals.{edition, recordCount, kindAt, lengthAt, refusal2Head, refusal3, refusal6Empty, refusal16}
 use Rattle.layout.specs.Refusals.{refusal2, refusal4, refusal5, refusal6, refusal7}
 use Rattle.layout.specs.Refusals.{refusal8Policy, refusal11Policy, refusal12, refusal9Stop, refusal11Stop, refusal9Line}
 use Rattle.layout.specs.Refusals.{refusal10Line}
@@ -36,9 +36,9 @@ module _ (s : List ℕ) (c : Counts) where
   -- the numbers from 8 on, by kind
   abbrev pub bodyRules : Kind → Fields → List Rule
   bodyRules Policy f = (8, refusal8Policy f) ∷ (11, refusal11Policy f) ∷ (12, refusal12 f) ∷ []
-  bodyRules Stop f = (9, refusal9Stop s c f) ∷ (11, refusal11Stop f) ∷ []
+  bodyRules Stop f = (9, refusal9Stop s c f) ∷ (11, refusal11Stop c f) ∷ []
   bodyRules Line f = (9, refusal9Line s c f) ∷ (10, refusal10Line c f) ∷ []
-  bodyRules Car f = (8, refusal8Car f) ∷ (9, refusal9Car s c f) ∷ (10, refusal10Car s c f) ∷ (11, refusal11Car f) ∷ (13, refusal13 f) ∷ []
+  bodyRules Car f = (8, refusal8Car c f) ∷ (9, refusal9Car s c f) ∷ (10, refusal10Car s c f) ∷ (11, refusal11Car c f) ∷ (13, refusal13 c f) ∷ []
   bodyRules Aboard f = (8, refusal8Aboard f) ∷ (9, refusal9Aboard f) ∷ (10, refusal10Aboard s c f) ∷ []
   bodyRules Waiting f =
       (8, refusal8Waiting f) ∷ (9, refusal9Waiting f) ∷ (10, refusal10Waiting s c f) ∷ (11, refusal11Waiting f) ∷ (14, refusal14 f) ∷ []
@@ -51,7 +51,7 @@ module _ (s : List ℕ) (c : Counts) where
   rulesOf k =
       (2, refusal2 s c)
       ∷ (4, refusal4 k)
-      ∷ (5, refusal5 k (lengthAt s c))
+      ∷ (5, refusal5 c k (lengthAt s c))
       ∷ (6, refusal6 c (kindAt s c))
       ∷ (7, refusal7 c k)
       ∷ bodyRules k (from s (endOf c))
@@ -93,5 +93,9 @@ unfoldable pub recordsVerdict : List ℕ → ℕ → Counts → Reading
 recordsVerdict s zero c = tailVerdict s c
 recordsVerdict s (suc n) c = given (recordRefusal s c) (endOf c) (recordsVerdict s n (next c (kindOf (kindAt s c))))
 
+-- before the first record of a sheet
+abbrev pub atFirst : List ℕ → Counts
+atFirst s = none (acrossBits (edition s))
+
 unfoldable pub verdict : List ℕ → Reading
-verdict s = given (firstOf (headRules s)) 0 (recordsVerdict s (recordCount s) none)
+verdict s = given (firstOf (headRules s)) 0 (recordsVerdict s (recordCount s) (atFirst s))

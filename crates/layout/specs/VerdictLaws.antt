@@ -1,9 +1,10 @@
 -- Laws of the verdict: what a record without a refusal says, and one record more. Assumes nothing.
-use Prim.Native.Nat.{ℕ, suc, _+_, _-_, _≤_, _<_}
+use Prim.Native.Nat.{ℕ, suc, _+_, _-_, _*_, _≤_, _<_}
 use mathlib.Core.Path.{_≡_, refl, ap, _∙_}
 use mathlib.Core.Bool.{Bool, true, false}
 use mathlib.Core.List.{List}
 use mathlib.Core.Logic.{_≢_}
+use native.Mathlib.Nat.{mul-le-mul}
 use native.Mathlib.Omega.{arith}
 use borrow.Author.Tests.{eq-eqb, ne-eqb, leb-false}
 use Rattle.components.specs.declared.Kind.{Kind}
@@ -27,7 +28,7 @@ pick-none false n rest h e = (refl, e)
 pub record Clean (s : List ℕ) (c : Counts) : Type 0 where
   pub whole : refusal2 s c ≡ false
   pub known : refusal4 (kindOf (kindAt s c)) ≡ false
-  pub its-length : refusal5 (kindOf (kindAt s c)) (lengthAt s c) ≡ false
+  pub its-length : refusal5 c (kindOf (kindAt s c)) (lengthAt s c) ≡ false
   pub in-order : refusal6 c (kindAt s c) ≡ false
   pub has-room : refusal7 c (kindOf (kindAt s c)) ≡ false
   pub body : bodyRefusal s c (kindOf (kindAt s c)) (from s (endOf c)) ≡ 0
@@ -37,17 +38,22 @@ unfolding recordRefusal firstOf
 clean s c e =
     let a = pick-none (refusal2 s c) 2 _ (omega arith) e in
     let b = pick-none (refusal4 (kindOf (kindAt s c))) 4 _ (omega arith) (a .1) in
-    let d = pick-none (refusal5 (kindOf (kindAt s c)) (lengthAt s c)) 5 _ (omega arith) (b .1) in
+    let d = pick-none (refusal5 c (kindOf (kindAt s c)) (lengthAt s c)) 5 _ (omega arith) (b .1) in
     let f = pick-none (refusal6 c (kindAt s c)) 6 _ (omega arith) (d .1) in
     let g = pick-none (refusal7 c (kindOf (kindAt s c))) 7 _ (omega arith) (f .1) in
     record { whole = a .0; known = b .0; its-length = d .0; in-order = f .0; has-room = g .0; body = g .1 }
 
 -- ---- one record more
 
+-- records of at most l bits, at most m of them
+lengths : (a n : ℕ) (l m : ℕ) → a ≤ l → n ≤ m → a * n ≤ l * m
+lengths a n l m h k = mul-le-mul h k
+
 pub next-small : (c : Counts) (k : Kind) → Small c → refusal7 c k ≡ false → c .demands < 65535 → c .closures < 65535
     → Small (next c k)
 next-small c Policy h e d x = let l = leb-false 1 (c .policies) e in
     record {
+      across = h .across;
       policies = omega arith;
       stops = h .stops;
       lines = h .lines;
@@ -56,9 +62,12 @@ next-small c Policy h e d x = let l = leb-false 1 (c .policies) e in
       waits = h .waits;
       demands = h .demands;
       closures = h .closures;
+      stop-bits = h .stop-bits;
+      car-bits = h .car-bits;
     }
 next-small c Stop h e d x = let l = leb-false 64 (c .stops) e in
     record {
+      across = h .across;
       policies = h .policies;
       stops = omega arith;
       lines = h .lines;
@@ -67,9 +76,12 @@ next-small c Stop h e d x = let l = leb-false 64 (c .stops) e in
       waits = h .waits;
       demands = h .demands;
       closures = h .closures;
+      stop-bits = lengths (118 + c .across) (c .stops + 1) 182 64 (let w = h .across in omega arith) (omega arith);
+      car-bits = h .car-bits;
     }
 next-small c Line h e d x = let l = leb-false 8 (c .lines) e in
     record {
+      across = h .across;
       policies = h .policies;
       stops = h .stops;
       lines = omega arith;
@@ -78,9 +90,12 @@ next-small c Line h e d x = let l = leb-false 8 (c .lines) e in
       waits = h .waits;
       demands = h .demands;
       closures = h .closures;
+      stop-bits = h .stop-bits;
+      car-bits = h .car-bits;
     }
 next-small c Car h e d x = let l = leb-false 32 (c .cars) e in
     record {
+      across = h .across;
       policies = h .policies;
       stops = h .stops;
       lines = h .lines;
@@ -89,9 +104,12 @@ next-small c Car h e d x = let l = leb-false 32 (c .cars) e in
       waits = h .waits;
       demands = h .demands;
       closures = h .closures;
+      stop-bits = h .stop-bits;
+      car-bits = lengths (737 + c .across) (c .cars + 1) 801 32 (let w = h .across in omega arith) (omega arith);
     }
 next-small c Aboard h e d x = let l = leb-false 512 (c .aboards) e in
     record {
+      across = h .across;
       policies = h .policies;
       stops = h .stops;
       lines = h .lines;
@@ -100,9 +118,12 @@ next-small c Aboard h e d x = let l = leb-false 512 (c .aboards) e in
       waits = h .waits;
       demands = h .demands;
       closures = h .closures;
+      stop-bits = h .stop-bits;
+      car-bits = h .car-bits;
     }
 next-small c Waiting h e d x = let l = leb-false 512 (c .waits) e in
     record {
+      across = h .across;
       policies = h .policies;
       stops = h .stops;
       lines = h .lines;
@@ -111,9 +132,12 @@ next-small c Waiting h e d x = let l = leb-false 512 (c .waits) e in
       waits = omega arith;
       demands = h .demands;
       closures = h .closures;
+      stop-bits = h .stop-bits;
+      car-bits = h .car-bits;
     }
 next-small c Demand h e d x =
     record {
+      across = h .across;
       policies = h .policies;
       stops = h .stops;
       lines = h .lines;
@@ -122,9 +146,12 @@ next-small c Demand h e d x =
       waits = h .waits;
       demands = omega arith;
       closures = h .closures;
+      stop-bits = h .stop-bits;
+      car-bits = h .car-bits;
     }
 next-small c Closed h e d x =
     record {
+      across = h .across;
       policies = h .policies;
       stops = h .stops;
       lines = h .lines;
@@ -133,6 +160,8 @@ next-small c Closed h e d x =
       waits = h .waits;
       demands = h .demands;
       closures = omega arith;
+      stop-bits = h .stop-bits;
+      car-bits = h .car-bits;
     }
 next-small c Unknown h e d x = h
 

@@ -2,8 +2,9 @@
 // in specs/.
 
 ghost use mathlib.Core.Path.{_≡_};
-ghost use Prim.Native.Nat.{_<_};
-ghost use Rattle.layout.specs.Offsets.{Small, bodyLength, next, stopsFrom, linesFrom, carsFrom, aboardsFrom, waitsFrom, demandsFrom, closuresFrom, endOf};
+ghost use Prim.Native.Nat.{_<_, _+_};
+ghost use Rattle.components.specs.declared.Kind.the-variants.{Stop, Car};
+ghost use Rattle.layout.specs.Offsets.{Small, bodyLength, acrossIn, acrossBits, recordLength, next, stopsFrom, linesFrom, carsFrom, aboardsFrom, waitsFrom, demandsFrom, closuresFrom, endOf};
 ghost use Rattle.layout.specs.Offsets.{lastKind};
 ghost use Rattle.layout.specs.Refusals.{refusal6, refusal7};
 use components::Kind;
@@ -20,8 +21,9 @@ pub mod record;
 pub mod stop;
 pub mod waiting;
 
-// How many records of each kind.
+// How many records of each kind, and how long they are: the bits of a stop's and of a car's second coordinate, 64 in edition 2, else none.
 pub struct Counts {
+    pub across: u32,
     pub policies: u32,
     pub stops: u32,
     pub lines: u32,
@@ -38,15 +40,22 @@ pub enum Reading {
     Accepted(Counts),
 }
 
-// The length of a kind's body in bits.
-pub fn body_length(kind: Kind) -> u64
-    ensures { λ r. ⌜ r ≡ bodyLength kind ⌝ }
+// The bits of a second coordinate in a sheet of this edition.
+pub fn across_bits(edition: u64) -> u32
+    ensures { λ r. ⌜ r ≡ acrossBits edition ⌝ }
+{
+    if edition == 2 { 64 } else { 0 }
+}
+
+// The length of a kind's body in bits, where a second coordinate has some.
+pub fn body_length(kind: Kind, across: u32) -> u64
+    ensures { λ r. ⌜ r ≡ bodyLength kind + acrossIn across kind ⌝ }
 {
     match kind {
         Kind::Policy => (policy::BITS - record::BODY) as u64,
-        Kind::Stop => (stop::BITS - record::BODY) as u64,
+        Kind::Stop => (stop::BITS - record::BODY) as u64 + across as u64,
         Kind::Line => (line::BITS - record::BODY) as u64,
-        Kind::Car => (car::BITS - record::BODY) as u64,
+        Kind::Car => (car::BITS - record::BODY) as u64 + across as u64,
         Kind::Aboard => (aboard::BITS - record::BODY) as u64,
         Kind::Waiting => (waiting::BITS - record::BODY) as u64,
         Kind::Demand => (demand::BITS - record::BODY) as u64,
@@ -56,6 +65,22 @@ pub fn body_length(kind: Kind) -> u64
 }
 
 impl Counts {
+    // A stop's length.
+    pub fn stop_bits(self) -> u32
+        requires { ⌜ Small self ⌝ }
+        ensures { λ r. ⌜ r ≡ recordLength (self .across) Stop ⌝ }
+    {
+        stop::BITS + self.across
+    }
+
+    // A car's length.
+    pub fn car_bits(self) -> u32
+        requires { ⌜ Small self ⌝ }
+        ensures { λ r. ⌜ r ≡ recordLength (self .across) Car ⌝ }
+    {
+        car::BITS + self.across
+    }
+
     // Where the stops start.
     pub fn stops_from(self) -> u32
         requires { ⌜ Small self ⌝ }
@@ -68,41 +93,35 @@ impl Counts {
         requires { ⌜ Small self ⌝ }
         ensures { λ r. ⌜ r ≡ linesFrom self ⌝ }
     {
-        head::BITS + policy::BITS * self.policies + stop::BITS * self.stops
+        self.stops_from() + (stop::BITS + self.across) * self.stops
     }
 
     pub fn cars_from(self) -> u32
         requires { ⌜ Small self ⌝ }
         ensures { λ r. ⌜ r ≡ carsFrom self ⌝ }
     {
-        head::BITS
-            + policy::BITS * self.policies
-            + stop::BITS * self.stops
-            + line::BITS * self.lines
+        self.lines_from() + line::BITS * self.lines
     }
 
     pub fn aboards_from(self) -> u32
         requires { ⌜ Small self ⌝ }
         ensures { λ r. ⌜ r ≡ aboardsFrom self ⌝ }
     {
-        self.cars_from() + car::BITS * self.cars
+        self.cars_from() + (car::BITS + self.across) * self.cars
     }
 
     pub fn waits_from(self) -> u32
         requires { ⌜ Small self ⌝ }
         ensures { λ r. ⌜ r ≡ waitsFrom self ⌝ }
     {
-        self.cars_from() + car::BITS * self.cars + aboard::BITS * self.aboards
+        self.aboards_from() + aboard::BITS * self.aboards
     }
 
     pub fn demands_from(self) -> u32
         requires { ⌜ Small self ⌝ }
         ensures { λ r. ⌜ r ≡ demandsFrom self ⌝ }
     {
-        self.cars_from()
-            + car::BITS * self.cars
-            + aboard::BITS * self.aboards
-            + waiting::BITS * self.waits
+        self.waits_from() + waiting::BITS * self.waits
     }
 
     pub fn closures_from(self) -> u32
@@ -117,7 +136,7 @@ impl Counts {
         requires { ⌜ Small self ⌝ }
         ensures { λ r. ⌜ r ≡ endOf self ⌝ }
     {
-        self.demands_from() + demand::BITS * self.demands + closed::BITS * self.closures
+        self.closures_from() + closed::BITS * self.closures
     }
 
     // The code of the last record's kind, 0 before the first.

@@ -3,5 +3,8 @@ pub const ID: u32 = crate::record::BODY;
 
 pub const POSITION: u32 = ID + 32;
 
-// The record's length.
-pub const BITS: u32 = POSITION + 64;
+// In edition 2 the second coordinate, after all else.
+pub const ACROSS: u32 = POSITION + 64;
+
+// The record's length in edition 1.
+pub const BITS: u32 = ACROSS;

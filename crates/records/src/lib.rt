@@ -1,12 +1,14 @@
 // The records of a sheet, each decoded in place from the bit where it starts.
 ghost use mathlib.Core.Path.{_≡_};
 ghost use Rattle.layout.specs.Table.{field};
-ghost use Rattle.layout.specs.Records.{from, double, optional, policyOf, lineOf, carOf};
+ghost use Rattle.layout.specs.Records.{from, double, optional, point, policyOf, lineOf, carOf};
+ghost use Prim.Native.Nat.{_≤_};
 use components::Car;
 use components::Direction;
 use components::Line;
 use components::Mode;
 use components::Phase;
+use components::Point;
 use components::Policy;
 use components::Strategy;
 use components::Threshold;
@@ -20,6 +22,17 @@ pub fn double_at(s: &[u8], at: u32, off: u32) -> f64
     ensures { λ r. ⌜ r ≡ double (from (now (s .entry)) at) (field off 64) ⌝ }
 {
     fp::double(bits::field(s, at, off, 64))
+}
+
+// A position at one offset, and at another a second coordinate of some bits; of none it is 0.
+pub fn point_at(s: &[u8], at: u32, along: u32, across: u32, bits: u32) -> Point
+    requires { ⌜ bits ≤ 64 ⌝ }
+    ensures { λ r. ⌜ r ≡ point (from (now (s .entry)) at) (field along 64) (field across bits) ⌝ }
+{
+    Point {
+        along: double_at(s, at, along),
+        across: fp::double(bits::field(s, at, across, bits as usize)),
+    }
 }
 
 // An optional double: its present bit, and where the double stands.
@@ -58,8 +71,10 @@ pub fn line_at(s: &[u8], at: u32) -> Line
     }
 }
 
-pub fn car_at(s: &[u8], at: u32) -> Car
-    ensures { λ r. ⌜ r ≡ carOf (from (now (s .entry)) at) ⌝ }
+// Where second coordinates have some bits, what follows one stands so much later.
+pub fn car_at(s: &[u8], at: u32, across: u32) -> Car
+    requires { ⌜ across ≤ 64 ⌝ }
+    ensures { λ r. ⌜ r ≡ carOf across (from (now (s .entry)) at) ⌝ }
 {
     Car {
         id: bits::field32(s, at, car::ID),
@@ -74,15 +89,15 @@ pub fn car_at(s: &[u8], at: u32) -> Car
         down: bits::flag(s, at, car::DOWN),
         direction: Direction::of_bit(bits::flag(s, at, car::SWEEP)),
         mode: Mode::of_bit(bits::flag(s, at, car::MODE)),
-        position: double_at(s, at, car::POSITION),
-        speed: double_at(s, at, car::SPEED),
-        capacity: double_at(s, at, car::CAPACITY),
-        load: double_at(s, at, car::LOAD),
-        bypassup: threshold_at(s, at, car::HAS_BYPASS_UP, car::BYPASS_UP),
-        bypassdown: threshold_at(s, at, car::HAS_BYPASS_DOWN, car::BYPASS_DOWN),
-        transition: bits::field32(s, at, car::TRANSITION),
-        dwell: bits::field32(s, at, car::DWELL),
-        restricted: bits::field(s, at, car::RESTRICTED, 64),
-        calls: bits::field(s, at, car::CALLS, 64),
+        position: point_at(s, at, car::POSITION, car::ACROSS, across),
+        speed: double_at(s, at, car::SPEED + across),
+        capacity: double_at(s, at, car::CAPACITY + across),
+        load: double_at(s, at, car::LOAD + across),
+        bypassup: threshold_at(s, at, car::HAS_BYPASS_UP + across, car::BYPASS_UP + across),
+        bypassdown: threshold_at(s, at, car::HAS_BYPASS_DOWN + across, car::BYPASS_DOWN + across),
+        transition: bits::field32(s, at, car::TRANSITION + across),
+        dwell: bits::field32(s, at, car::DWELL + across),
+        restricted: bits::field(s, at, car::RESTRICTED + across, 64),
+        calls: bits::field(s, at, car::CALLS + across, 64),
     }
 }
