@@ -4,9 +4,9 @@ use mathlib.Core.Bool.{Bool, not, _&&_, _||_}
 use lib.Dec.{eqb, ltb}
 use lib.Ieee.{Float, lt}
 use Rattle.laws.specs.Folds.{any, count}
-use Rattle.fp.specs.Num.{distance}
 use Rattle.mask.specs.Mask.{has}
 use Rattle.components.specs.declared.Car.{Car}
+use Rattle.components.specs.Points.{distance}
 use Rattle.components.specs.Sheet.{Sheet}
 use Rattle.manifest.specs.World.{stopId, stopAt}
 use Rattle.assignment.specs.Pending.{pending}
@@ -38,6 +38,7 @@ module _ (s : Sheet) (car : Car) where
   unfoldable pub viableOf : ℕ → Bool
   viableOf j = pending s j && (not (barredOf j) && lineServesOf j)
 
+  -- F-12: "Every distance becomes the sum of the two absolute differences, in the candidate cut"
   abbrev pub awayOf : ℕ → Float
   awayOf j = distance (car .position) (stopAt s j)
 

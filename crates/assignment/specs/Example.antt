@@ -5,9 +5,10 @@ use Prim.Native.Nat.{ℕ}
 use lib.Ieee.{ofBits, add, sub, mul, div, neg, lt, le, eq, round, ofInt}
 use Rattle.laws.specs.Folds.{fold, any, every, count, nth, lookup}
 use Rattle.laws.specs.Tables.{tab}
-use Rattle.fp.specs.Num.{distance}
+use Rattle.fp.specs.Num.{apart}
 use Rattle.scale.specs.Scale.{whole, scaleCost}
 use Rattle.mask.specs.Mask.{has}
+use Rattle.components.specs.Points.{distance}
 use Rattle.components.specs.Sheet.{Sheet}
 use Rattle.layout.specs.declared.Counts.{Counts}
 use Rattle.layout.specs.declared.Reading.the-variants.{Accepted}
@@ -41,14 +42,14 @@ bytes =
     12 ∷ 64 ∷ 0 ∷ 0 ∷ 0 ∷ 128 ∷ 0 ∷ 35 ∷ 128 ∷ 24 ∷ 128 ∷ 0 ∷ 0 ∷ 1 ∷ 128 ∷ 0 ∷ 64 ∷ []
 
 unfoldable pub counts : Counts
-counts = record { policies = 1; stops = 3; lines = 1; cars = 2; aboards = 0; waits = 0; demands = 2; closures = 0 }
+counts = record { across = 0; policies = 1; stops = 3; lines = 1; cars = 2; aboards = 0; waits = 0; demands = 2; closures = 0 }
 
 unfoldable pub sheet : Sheet
 sheet = sheetOf bytes counts
 
 -- one name that opens every definition on the way
 unfoldable pub everything : ℕ
-unfolding ofBits add sub mul div neg lt le eq round ofInt fold any every count nth lookup tab distance whole scaleCost has sheetOf limitOf
+unfolding ofBits add sub mul div neg lt le eq round ofInt fold any every count nth lookup tab apart distance whole scaleCost has sheetOf limitOf
     stopPosition goal inGroup someoneWaits riderlessCall riddenTo hasDemand demandStop prepared sweepRank sweepCode rankOf strictDemandAhead
     preparedSweep riderCanBoard canExitHere servable onAboardPath pairIsUseful scan best chosen leastTotal serves lineCapacity capacityAt weightAt
     lineServed coveredByCars closedAt covered idle idleBound pending idleCars rowCar pendingStops columnStop columns keeps precedes lineServesOf viableOf nearerOf keptOf

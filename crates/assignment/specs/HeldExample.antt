@@ -8,7 +8,7 @@ use lib.Ieee.{ofBits, add, sub, mul, div, neg, lt, le, eq, round, ofInt}
 use Rattle.laws.specs.Folds.{fold, any, every, count, nth, lookup}
 use Rattle.laws.specs.Sums.{sum}
 use Rattle.laws.specs.Tables.{tab}
-use Rattle.fp.specs.Num.{zero, natural, distance}
+use Rattle.fp.specs.Num.{zero, natural, apart}
 use Rattle.scale.specs.Scale.{whole, aboveCeiling, scaleCost, heldDown, sentinel, ceiling}
 use Rattle.mask.specs.Mask.{has}
 use Rattle.components.specs.declared.Strategy.the-variants.{Etd}
@@ -17,6 +17,7 @@ use Rattle.components.specs.declared.Phase.the-variants as phase
 use Rattle.components.specs.declared.Direction.the-variants as direction
 use Rattle.components.specs.declared.Mode.the-variants as mode
 use Rattle.components.specs.declared.Threshold.the-variants as threshold
+use Rattle.components.specs.Points.{pointOf, distance}
 use Rattle.components.specs.Sheet.{Sheet}
 use Rattle.manifest.specs.World.{stopPosition, goal, inGroup}
 use Rattle.manifest.specs.Manifest.{someoneWaits, riderlessCall, riddenTo, hasDemand, demandStop}
@@ -48,7 +49,7 @@ sheet =
         w5 = zero;
       };
       stops = 2;
-      stop = λ j. record { id = j + 1; position = cond (eqb j 0) (natural 10) (natural 1) };
+      stop = λ j. record { id = j + 1; position = pointOf (cond (eqb j 0) (natural 10) (natural 1)) zero };
       lines = 1;
       line = λ l. record { id = 1; serves = 0xc000_0000_0000_0000 };
       cars = 4;
@@ -62,7 +63,7 @@ sheet =
         down = true;
         direction = direction.Up;
         mode = mode.Strict;
-        position = zero;
+        position = pointOf zero zero;
         speed = natural 1;
         capacity = natural 100;
         load = cond (eqb i 2) (natural 100) zero;
@@ -85,7 +86,7 @@ sheet =
 
 -- one name that opens every definition on the way
 unfoldable pub everything : ℕ
-unfolding ofBits add sub mul div neg lt le eq round ofInt fold any every count nth lookup sum tab distance whole aboveCeiling scaleCost heldDown has
+unfolding ofBits add sub mul div neg lt le eq round ofInt fold any every count nth lookup sum tab apart distance whole aboveCeiling scaleCost heldDown has
     stopPosition goal inGroup someoneWaits riderlessCall riddenTo hasDemand demandStop riderCanBoard canExitHere servable onAboardPath pairIsUseful
     fairnessBonus withBonus sumAt waitTicksSum waitTicksSquaredSum intervenes doorCost extraDelay isAhead directionBonus weighted finiteRank
     travelTime interveningStops riderDelay computeCost etdRank serves lineCapacity capacityAt weightAt lineServed coveredByCars closedAt covered idle

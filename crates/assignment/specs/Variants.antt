@@ -74,20 +74,20 @@ hundred = 0x4059_0000_0000_0000
 
 -- car 1 of line 1, at stop 1, which is its target
 unfoldable opening : Bits
-opening = of Car (1 ∷ 1 ∷ 3 ∷ 0 ∷ 1 ∷ 1 ∷ 0 ∷ 1 ∷ 1 ∷ 0 ∷ 0 ∷ 0 ∷ one ∷ hundred ∷ 0 ∷ 0 ∷ 0 ∷ 0 ∷ 0 ∷ 0 ∷ 0 ∷ 0 ∷ 0 ∷ [])
+opening = of 1 Car (1 ∷ 1 ∷ 3 ∷ 0 ∷ 1 ∷ 1 ∷ 0 ∷ 1 ∷ 1 ∷ 0 ∷ 0 ∷ 0 ∷ 0 ∷ one ∷ hundred ∷ 0 ∷ 0 ∷ 0 ∷ 0 ∷ 0 ∷ 0 ∷ 0 ∷ 0 ∷ 0 ∷ [])
 
 -- a rider at stop 1 of a weight, who takes any line, or one that is required
 unfoldable any-line : ℕ → Bits
-any-line weight = of Waiting (1 ∷ 0 ∷ 0 ∷ 0 ∷ 0 ∷ weight ∷ 0 ∷ [])
+any-line weight = of 1 Waiting (1 ∷ 0 ∷ 0 ∷ 0 ∷ 0 ∷ weight ∷ 0 ∷ [])
 
 unfoldable that-line : ℕ → ℕ → Bits
-that-line required weight = of Waiting (1 ∷ 1 ∷ required ∷ 0 ∷ 0 ∷ weight ∷ 0 ∷ [])
+that-line required weight = of 1 Waiting (1 ∷ 1 ∷ required ∷ 0 ∷ 0 ∷ weight ∷ 0 ∷ [])
 
 unfoldable crowdBytes : Bits → List ℕ
-crowdBytes riders = sheet 6 (scan ++ stop 1 ++ line 1 0x8000_0000_0000_0000 ++ opening ++ riders)
+crowdBytes riders = sheet 1 6 (scan ++ stop 1 ++ line 1 0x8000_0000_0000_0000 ++ opening ++ riders)
 
 unfoldable crowdCounts : Counts
-crowdCounts = record { policies = 1; stops = 1; lines = 1; cars = 1; aboards = 0; waits = 2; demands = 0; closures = 0 }
+crowdCounts = record { across = 0; policies = 1; stops = 1; lines = 1; cars = 1; aboards = 0; waits = 2; demands = 0; closures = 0 }
 
 unfoldable crowd : Bits → Sheet
 crowd riders = sheetOf (crowdBytes riders) crowdCounts
@@ -111,15 +111,15 @@ covered-by-line = (refl, refl)
 
 -- car 1 of line 1 at 1, idle-listed, its sweep up and strict
 unfoldable pub above : Bits
-above = of Car (1 ∷ 1 ∷ 0 ∷ 0 ∷ 0 ∷ 0 ∷ 1 ∷ 1 ∷ 1 ∷ 0 ∷ 0 ∷ one ∷ one ∷ hundred ∷ 0 ∷ 0 ∷ 0 ∷ 0 ∷ 0 ∷ 0 ∷ 0 ∷ 0 ∷ 0 ∷ [])
+above = of 1 Car (1 ∷ 1 ∷ 0 ∷ 0 ∷ 0 ∷ 0 ∷ 1 ∷ 1 ∷ 1 ∷ 0 ∷ 0 ∷ one ∷ 0 ∷ one ∷ hundred ∷ 0 ∷ 0 ∷ 0 ∷ 0 ∷ 0 ∷ 0 ∷ 0 ∷ 0 ∷ 0 ∷ [])
 
 -- its rider is bound for stop 1, where someone waits and which is closed
 unfoldable pub shutBytes : List ℕ
 shutBytes =
-    sheet 7 (scan ++ stop 1 ++ line 1 0x8000_0000_0000_0000 ++ above ++ of Aboard (1 ∷ 1 ∷ 1 ∷ []) ++ waiting 0 ++ of Closed (1 ∷ []))
+    sheet 1 7 (scan ++ stop 1 ++ line 1 0x8000_0000_0000_0000 ++ above ++ of 1 Aboard (1 ∷ 1 ∷ 1 ∷ []) ++ waiting 0 ++ of 1 Closed (1 ∷ []))
 
 unfoldable pub shutCounts : Counts
-shutCounts = record { policies = 1; stops = 1; lines = 1; cars = 1; aboards = 1; waits = 1; demands = 0; closures = 1 }
+shutCounts = record { across = 0; policies = 1; stops = 1; lines = 1; cars = 1; aboards = 1; waits = 1; demands = 0; closures = 1 }
 
 unfoldable pub shut : Sheet
 shut = sheetOf shutBytes shutCounts

@@ -1,15 +1,16 @@
 // The candidate cut: of a car's viable stops, the nearest that the limit keeps.
 ghost use mathlib.Core.Path.{_≡_};
 ghost use Prim.Native.Nat.{_<_};
-ghost use lib.ListN.{length, getD};
-ghost use lib.Ieee.{nan};
+ghost use lib.ListN.{length};
 ghost use Rattle.laws.specs.Bools.{bit};
 ghost use Rattle.laws.specs.Folds.{count};
 ghost use Rattle.laws.specs.Tables.{tab};
-ghost use Rattle.fp.specs.Num.{distance};
+ghost use Rattle.components.specs.Points.{distance};
+ghost use Rattle.manifest.specs.Stops.{pointIn};
 ghost use Rattle.mask.specs.Mask.{built};
 ghost use Rattle.assignment.specs.Candidates.{precedes};
 ghost use Rattle.candidates.specs.Cut.{viableBy, comesBefore, cut};
+use components::Point;
 
 // The stops that are pending and on the car's line, and not barred to it.
 pub fn viable_stops(pending: u64, restricted: u64, serves: u64) -> u64
@@ -18,14 +19,14 @@ pub fn viable_stops(pending: u64, restricted: u64, serves: u64) -> u64
     mask::both(pending, mask::without(serves, restricted))
 }
 
-// How far each of 64 positions is from x.
-pub fn fill_distances(xs: &[f64], x: f64, ds: &mut [f64])
-    requires { ⌜ (length (now xs) ≡ 64) × (length (now ds) ≡ 64) ⌝ }
-    ensures { λ _. ⌜ now (ds .exit) ≡ tab (λ j. distance x (getD (now (xs .entry)) j nan)) 64 ⌝ }
+// How far each of 64 points is from x.
+pub fn fill_distances(xs: &[f64], x: Point, ds: &mut [f64])
+    requires { ⌜ (length (now xs) ≡ 128) × (length (now ds) ≡ 64) ⌝ }
+    ensures { λ _. ⌜ now (ds .exit) ≡ tab (λ j. distance x (pointIn (now (xs .entry)) j)) 64 ⌝ }
 {
     let mut j: usize = 0;
     while j < 64 {
-        ds[j] = fp::distance(x, xs[j]);
+        ds[j] = x.distance(manifest::point(xs, j));
         j += 1;
     }
 }

@@ -16,6 +16,7 @@ use Rattle.components.specs.declared.Phase.the-variants as phase
 use Rattle.components.specs.declared.Direction.the-variants as direction
 use Rattle.components.specs.declared.Mode.the-variants as mode
 use Rattle.components.specs.declared.Threshold.the-variants as threshold
+use Rattle.components.specs.Points.{pointOf}
 use Rattle.components.specs.Sheet.{Sheet}
 use Rattle.dispatch.specs.Waits.{waitTicksSum}
 use Rattle.assignment.specs.Pending.{serves, lineCapacity, capacityAt, weightAt, lineServed, coveredByCars, closedAt, covered, idle, idleBound, pending}
@@ -51,7 +52,7 @@ carOf id line ph target =
       down = true;
       direction = direction.Up;
       mode = mode.Strict;
-      position = zero;
+      position = pointOf zero zero;
       speed = natural 2;
       capacity = natural 100;
       load = zero;
@@ -70,7 +71,7 @@ sheetWith ticks =
     record {
       policy = policy;
       stops = 3;
-      stop = λ j. record { id = j + 1; position = getD (natural 5 ∷ natural 10 ∷ natural 8 ∷ []) j zero };
+      stop = λ j. record { id = j + 1; position = pointOf (getD (natural 5 ∷ natural 10 ∷ natural 8 ∷ []) j zero) zero };
       lines = 2;
       line = λ l. record { id = l + 1; serves = getD (0xc000_0000_0000_0000 ∷ 0x2000_0000_0000_0000 ∷ []) l 0 };
       cars = 2;

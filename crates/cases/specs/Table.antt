@@ -9,7 +9,7 @@ use lib.Dec.{ltb}
 use lib.ListN.{length, getD}
 use lib.Ieee.{Float, ofBits, binary64, add, sub, mul, div, neg, lt, le, eq, round, ofInt}
 use Rattle.laws.specs.Folds.{fold, any, every, count, nth, lookup}
-use Rattle.fp.specs.Num.{zero, epsilon, natural, distance}
+use Rattle.fp.specs.Num.{zero, epsilon, natural, apart}
 use Rattle.scale.specs.Scale.{whole, aboveCeiling, scaleCost, heldDown, sentinel, ceiling}
 use Rattle.mask.specs.Mask.{has}
 use Rattle.components.specs.declared.Policy.{Policy}
@@ -26,6 +26,7 @@ use Rattle.components.specs.declared.Mode.the-variants as mode
 use Rattle.components.specs.declared.Threshold.the-variants as threshold
 use Rattle.components.specs.declared.Rank.{Rank}
 use Rattle.components.specs.declared.Rank.the-variants.{Never}
+use Rattle.components.specs.Points.{pointOf, distance}
 use Rattle.components.specs.Sheet.{Sheet}
 use Rattle.manifest.specs.World.{stopPosition, goal, inGroup}
 use Rattle.manifest.specs.Manifest.{someoneWaits, riderlessCall, riddenTo, hasDemand, demandStop}
@@ -71,7 +72,7 @@ car ph calls =
       down = true;
       direction = direction.Up;
       mode = mode.Strict;
-      position = zero;
+      position = pointOf zero zero;
       speed = natural 2;
       capacity = natural 100;
       load = zero;
@@ -89,7 +90,7 @@ sheet p q c =
     record {
       policy = p;
       stops = 2;
-      stop = λ j. record { id = j + 1; position = getD (natural 10 ∷ q ∷ []) j zero };
+      stop = λ j. record { id = j + 1; position = pointOf (getD (natural 10 ∷ q ∷ []) j zero) zero };
       lines = 1;
       line = λ l. record { id = 1; serves = 0xc000_0000_0000_0000 };
       cars = 1;
@@ -106,7 +107,7 @@ sheet p q c =
 
 -- one name that opens every definition on the way
 unfoldable pub everything : ℕ
-unfolding ofBits add sub mul div neg lt le eq round ofInt fold any every count nth lookup distance whole aboveCeiling scaleCost heldDown has
+unfolding ofBits add sub mul div neg lt le eq round ofInt fold any every count nth lookup apart distance whole aboveCeiling scaleCost heldDown has
     stopPosition goal inGroup
     someoneWaits riderlessCall riddenTo hasDemand demandStop sweepRank riderCanBoard canExitHere servable onAboardPath pairIsUseful fairnessBonus
     withBonus sumAt waitTicksSum waitTicksSquaredSum intervenes doorCost extraDelay isAhead directionBonus weighted finiteRank travelTime
@@ -120,7 +121,7 @@ scaled x = (scaleCost x, heldDown x)
 
 -- a car at 0 that sweeps up, and a stop at 1e-9
 abbrev pub upAtZero : Mode → Rank
-upAtZero m = sweepRank (record { direction = direction.Up; mode = m }) zero epsilon
+upAtZero m = sweepRank (record { direction = direction.Up; mode = m }) (pointOf zero zero) (pointOf epsilon zero)
 
 -- the cells of two cars over two columns
 abbrev pub cells : ℕ → ℕ → ℕ → ℕ → ℕ → ℕ → ℕ

@@ -15,6 +15,10 @@ use Rattle.fp.specs.Apart.{apart-comm, apart-nonneg}
 use Rattle.fp.specs.Sizes.{plus-size, apart-size, position-power}
 use Rattle.components.specs.declared.Point.{Point}
 
+-- the point of two coordinates
+abbrev pub pointOf : Float → Float → Point
+pointOf x y = record { along = x; across = y }
+
 -- every distance of the pass is this one
 unfoldable pub distance : Point → Point → Float
 distance p q = plus (apart (p .along) (q .along)) (apart (p .across) (q .across))

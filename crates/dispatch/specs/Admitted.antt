@@ -10,13 +10,14 @@ use Rattle.laws.specs.Folds.{lookup}
 use Rattle.fp.specs.Num as Num
 use Rattle.fp.specs.Num.{times, plus, natural, maxZero, fma}
 use Rattle.fp.specs.Order.{finite-real}
-use Rattle.fp.specs.Ranges.{isPosition, isSpeed, isMass, isTickRate}
+use Rattle.fp.specs.Ranges.{isSpeed, isMass, isTickRate}
 use Rattle.fp.specs.Inside.{AtMost, mass-finite}
 use Rattle.fp.specs.Apart.{room-finite}
 use Rattle.fp.specs.Nonneg.{maxZero-nonneg}
-use Rattle.fp.specs.Sizes.{size-mono, natural-size, neg-size, maxZero-size, plus-size, times-size, fold-size, position-power}
+use Rattle.fp.specs.Sizes.{size-mono, natural-size, neg-size, maxZero-size, plus-size, times-size, fold-size}
 use Rattle.components.specs.declared.Place.{Place}
 use Rattle.components.specs.declared.Place.the-variants.{At, Nowhere}
+use Rattle.components.specs.Points.{isPlaced, Sized, placed-size}
 use Rattle.components.specs.Sheet.{Sheet}
 use Rattle.manifest.specs.World.{stopId, stopAt, stopPosition}
 use Rattle.manifest.specs.Manifest.{waitsAt}
@@ -28,8 +29,8 @@ pub record Admitted (s : Sheet) : Type 0 where
   pub stops : s .stops ≤ 64
   pub aboards : s .aboards ≤ 512
   pub waits : s .waits ≤ 512
-  pub stop-at : (j : ℕ) → j < s .stops → isPosition (stopAt s j) ≡ true
-  pub car-at : (i : ℕ) → i < s .cars → isPosition (s .car i .position) ≡ true
+  pub stop-at : (j : ℕ) → j < s .stops → isPlaced (stopAt s j) ≡ true
+  pub car-at : (i : ℕ) → i < s .cars → isPlaced (s .car i .position) ≡ true
   pub speed : (i : ℕ) → i < s .cars → isSpeed (s .car i .speed) ≡ true
   pub capacity : (i : ℕ) → i < s .cars → isMass (s .car i .capacity) ≡ true
   pub load : (i : ℕ) → i < s .cars → isMass (s .car i .load) ≡ true
@@ -116,7 +117,7 @@ module _ (s : Sheet) (a : Admitted s) where
 
 abbrev pub Placed : Place → Type 0
 Placed Nowhere = Unit {0}
-Placed (At d) = AtMost (2 ^ 20) d
+Placed (At d) = Sized 20 d
 
 lookup-all : {A : Type 0} (P : A → Type 0) (p : ℕ → Bool) (f : ℕ → A) (z : A) (n : ℕ) → P z → ((k : ℕ) → k < n → P (f k))
     → P (lookup p f z n)
@@ -131,4 +132,4 @@ lookup-all {A} P p f z (suc n) h g = by (p n) (lookup-all P p f z n h (λ k l. g
 pub placed : (s : Sheet) → Admitted s → (id : ℕ) → Placed (stopPosition s id)
 unfolding stopPosition
 placed s a id =
-    lookup-all Placed (λ j. eqb (stopId s j) id) (λ j. At (stopAt s j)) Nowhere (s .stops) tt (λ k l. position-power (stopAt s k) (a .stop-at k l))
+    lookup-all Placed (λ j. eqb (stopId s j) id) (λ j. At (stopAt s j)) Nowhere (s .stops) tt (λ k l. placed-size (stopAt s k) (a .stop-at k l))

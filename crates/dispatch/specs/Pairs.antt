@@ -8,11 +8,10 @@ use Rattle.laws.specs.Folds.{any}
 use Rattle.fp.specs.Num.{zero}
 use Rattle.components.specs.declared.Car.{Car}
 use Rattle.components.specs.declared.Place.{Place}
-use Rattle.components.specs.declared.Place.the-variants.{At}
 use Rattle.components.specs.Cars.{remaining}
 use Rattle.manifest.specs.declared.Waiters.{Waiters}
 use Rattle.riders.specs.declared.Riders.{Riders}
-use Rattle.dispatch.specs.Useful.{bypass, onPathTo}
+use Rattle.dispatch.specs.Useful.{bypass, onPath}
 
 -- some waiter can board: the least weight of a class that the lamps let in is at most what the car still takes
 unfoldable pub canBoard : Waiters → Car → Bool
@@ -23,13 +22,13 @@ canBoard w c =
 unfoldable pub servableBy : Waiters → Car → Bool
 servableBy w c = cond (w .someone) (canBoard w c) (w .call)
 
--- the stop at p is on the path of a car at x to one of the positions held
+-- the stop at p is on the path of a car at x to one of the first coordinates held
 unfoldable pub onPathIn : Float → Float → List Float → ℕ → Bool
-onPathIn x p dests n = any (λ k. onPathTo x p (At (getD dests k nan))) n
+onPathIn x p dests n = any (λ k. onPath x p (getD dests k nan)) n
 
 -- the aboard-path test, where it is asked for
 unfoldable pub pathAllows : Car → Riders → List Float → Float → Bool → Bool
-pathAllows c r dests p path = not path || (not (r .routed) || onPathIn (c .position) p dests (r .count))
+pathAllows c r dests p path = not path || (not (r .routed) || onPathIn (c .position .along) p dests (r .count))
 
 -- pair_is_useful: here says that a rider of the car is bound for the stop, which stands at p
 unfoldable pub usefulBy : Car → Place → Riders → List Float → Waiters → Bool → Float → Bool → Bool

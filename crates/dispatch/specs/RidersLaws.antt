@@ -12,16 +12,18 @@ use Rattle.laws.specs.Folds.{any, any-cong, count, count-cong}
 use Rattle.laws.specs.Collected.{collected, collected-cong, any-collected}
 use Rattle.mask.specs.Mask.{has}
 use Rattle.mask.specs.MaskLaws.{has-built}
+use Rattle.components.specs.declared.Point.{Point}
 use Rattle.components.specs.declared.Place.{Place}
 use Rattle.components.specs.declared.Place.the-variants.{At, Nowhere}
+use Rattle.components.specs.Points.{pointOf}
 use Rattle.components.specs.Sheet.{Sheet}
 use Rattle.manifest.specs.declared.Waiters.{Waiters}
 use Rattle.manifest.specs.World.{stopId, stopAt, stopPosition, goal, rides}
-use Rattle.manifest.specs.Stops.{HoldsStops, DistinctStops, stopIndex, placeAt, positionIn, position-is, index-is}
+use Rattle.manifest.specs.Stops.{HoldsStops, DistinctStops, stopIndex, pointIn, sidesOf, side-of, placeAt, positionIn, position-is, index-is}
 use Rattle.manifest.specs.Holds.{HoldsAboard}
 use Rattle.riders.specs.declared.Riders.{Riders}
 use Rattle.riders.specs.Riders.{knownAt, exitsAt, exitsIn, destsIn, routed, routedIn, ridersIn, Seats}
-use Rattle.dispatch.specs.Useful.{onPathTo, canExitHere, onAboardPath, pairIsUseful}
+use Rattle.dispatch.specs.Useful.{onPath, onPathTo, canExitHere, onAboardPath, pairIsUseful}
 use Rattle.dispatch.specs.Pairs.{onPathIn, pathAllows, usefulBy}
 use Rattle.dispatch.specs.WaitersLaws.{HoldsWaiters, Weighed, servable-is}
 
@@ -29,9 +31,10 @@ abbrev pub isAt : Place → Bool
 isAt Nowhere = false
 isAt (At d) = true
 
-abbrev pub positionOf : Place → Float
-positionOf Nowhere = nan
-positionOf (At d) = d
+-- the point of a place that is one
+abbrev pub standsAt : Place → Point
+standsAt Nowhere = pointOf nan nan
+standsAt (At d) = d
 
 module _ (s : Sheet) (i : ℕ) where
   -- where rider a is bound for
@@ -43,12 +46,14 @@ module _ (s : Sheet) (i : ℕ) where
   ridesTo a = rides s i a && isAt (boundFor a)
 
   -- what is held of car i's riders is the sheet's
-  pub record HoldsRiders (r : Riders) (dests : List Float) : Type 0 where
+  pub record HoldsRiders (r : Riders) (dests sides : List Float) : Type 0 where
     pub exits : (j : ℕ) → j < s .stops → has (r .exits) j ≡ canExitHere s i j
     pub routed : r .routed ≡ any (λ a. rides s i a && not (eqb (s .aboard a .destination) 0)) (s .aboards)
     pub counted : r .count ≡ count ridesTo (s .aboards)
     pub rest : List Float
-    pub held : dests ≡ collected ridesTo (λ a. positionOf (boundFor a)) (s .aboards) ++ rest
+    pub held : dests ≡ collected ridesTo (λ a. standsAt (boundFor a) .along) (s .aboards) ++ rest
+    pub rest-aside : List Float
+    pub aside : sides ≡ collected ridesTo (λ a. standsAt (boundFor a) .across) (s .aboards) ++ rest-aside
 
 module _ (s : Sheet) (ids : List ℕ) (xs : List Float) (n : ℕ) (hs : HoldsStops s ids xs n) (small : n ≤ 64) (ds : DistinctStops s)
     (acar adest : List ℕ) (na : ℕ) (ha : HoldsAboard s acar adest na) (i : ℕ) where
@@ -57,14 +62,14 @@ module _ (s : Sheet) (ids : List ℕ) (xs : List Float) (n : ℕ) (hs : HoldsSto
   unfolding positionIn placeAt
   place-known id = by (ltb (stopIndex ids n id) n) ∙ ap isAt (position-is s ids xs n hs id)
     where
-      by : (b : Bool) → b ≡ isAt (cond b (At (getD xs (stopIndex ids n id) nan)) Nowhere)
+      by : (b : Bool) → b ≡ isAt (cond b (At (pointIn xs (stopIndex ids n id))) Nowhere)
       by true = refl
       by false = refl
 
-  place-is : (id : ℕ) → ltb (stopIndex ids n id) n ≡ true → getD xs (stopIndex ids n id) nan ≡ positionOf (stopPosition s id)
+  place-is : (id : ℕ) → ltb (stopIndex ids n id) n ≡ true → pointIn xs (stopIndex ids n id) ≡ standsAt (stopPosition s id)
   unfolding positionIn placeAt
   place-is id e =
-      ap (λ (b : Bool). positionOf (cond b (At (getD xs (stopIndex ids n id) nan)) Nowhere)) (sym e) ∙ ap positionOf (position-is s ids xs n hs id)
+      ap (λ (b : Bool). standsAt (cond b (At (pointIn xs (stopIndex ids n id))) Nowhere)) (sym e) ∙ ap standsAt (position-is s ids xs n hs id)
 
   known-is : (a : ℕ) → a < na → knownAt ids n acar adest (s .car i .id) a ≡ ridesTo s i a
   known-is a l =
@@ -72,7 +77,7 @@ module _ (s : Sheet) (ids : List ℕ) (xs : List Float) (n : ℕ) (hs : HoldsSto
       ∙ ap (λ (b : Bool). rides s i a && b) (place-known (s .aboard a .destination))
 
   dest-is : (a : ℕ) → a < na → knownAt ids n acar adest (s .car i .id) a ≡ true
-      → getD xs (stopIndex ids n (getD adest a 0)) nan ≡ positionOf (boundFor s i a)
+      → pointIn xs (stopIndex ids n (getD adest a 0)) ≡ standsAt (boundFor s i a)
   dest-is a l e =
       rw (ha .bound-for a l)
       (place-is (s .aboard a .destination)
@@ -104,52 +109,67 @@ module _ (s : Sheet) (ids : List ℕ) (xs : List Float) (n : ℕ) (hs : HoldsSto
   count-is : count (knownAt ids n acar adest (s .car i .id)) na ≡ count (ridesTo s i) (s .aboards)
   count-is = count-cong (knownAt ids n acar adest (s .car i .id)) (ridesTo s i) na known-is ∙ ap (count (ridesTo s i)) (ha .counted)
 
-  dests-are : destsIn ids n acar adest (s .car i .id) xs na ≡ collected (ridesTo s i) (λ a. positionOf (boundFor s i a)) (s .aboards)
+  -- a coordinate of every stop, in a list
+  dests-are : (ys : List Float) (coordinate : Point → Float) → ((k : ℕ) → getD ys k nan ≡ coordinate (pointIn xs k))
+      → destsIn ids n acar adest (s .car i .id) ys na ≡ collected (ridesTo s i) (λ a. coordinate (standsAt (boundFor s i a))) (s .aboards)
   unfolding destsIn
-  dests-are =
-      collected-cong (knownAt ids n acar adest (s .car i .id)) (ridesTo s i) (λ a. getD xs (stopIndex ids n (getD adest a 0)) nan)
-      (λ a. positionOf (boundFor s i a)) na known-is dest-is
-      ∙ ap (collected (ridesTo s i) (λ a. positionOf (boundFor s i a))) (ha .counted)
+  dests-are ys coordinate h =
+      collected-cong (knownAt ids n acar adest (s .car i .id)) (ridesTo s i) (λ a. getD ys (stopIndex ids n (getD adest a 0)) nan)
+      (λ a. coordinate (standsAt (boundFor s i a))) na known-is (λ a l e. h (stopIndex ids n (getD adest a 0)) ∙ ap coordinate (dest-is a l e))
+      ∙ ap (collected (ridesTo s i) (λ a. coordinate (standsAt (boundFor s i a)))) (ha .counted)
+
+  along-of : (k : ℕ) → getD xs k nan ≡ pointIn xs k .along
+  unfolding pointIn
+  along-of k = refl
+
+  across-of : (k : ℕ) → getD (sidesOf xs) k nan ≡ pointIn xs k .across
+  unfolding pointIn
+  across-of k = side-of xs k
 
   -- what riders_of answers and leaves is the sheet's
-  pub riders-held : (entry : List Float) (r : Riders) (dests : List Float) → Seats ids xs n acar adest na (s .car i .id) entry r dests
-      → HoldsRiders s i r dests
+  pub riders-held : (dests sides : List Float) (r : Riders) (dests′ sides′ : List Float)
+      → Seats ids xs n acar adest na (s .car i .id) dests sides r dests′ sides′ → HoldsRiders s i r dests′ sides′
   unfolding ridersIn
-  riders-held entry r dests h =
+  riders-held dests sides r dests′ sides′ h =
       record {
         exits = λ j l. ap (λ (z : Riders). has (z .exits) j) (h .answered) ∙ exit-is j (let e = hs .counted in omega arith);
         routed = ap (λ (z : Riders). z .routed) (h .answered) ∙ routed-is;
         counted = ap (λ (z : Riders). z .count) (h .answered) ∙ count-is;
-        rest = drop (r .count) entry;
-        held = h .held ∙ ap (λ (l : List Float). l ++ drop (r .count) entry) dests-are;
+        rest = drop (r .count) dests;
+        held = h .held ∙ ap (λ (l : List Float). l ++ drop (r .count) dests) (dests-are xs (λ p. p .along) along-of);
+        rest-aside = drop (r .count) sides;
+        aside = h .aside ∙ ap (λ (l : List Float). l ++ drop (r .count) sides) (dests-are (sidesOf xs) (λ p. p .across) across-of);
       }
 
 -- ---- pair_is_useful
 
-module _ (s : Sheet) (i j : ℕ) (weighed : Weighed s i) (r : Riders) (dests : List Float) (hr : HoldsRiders s i r dests) (v : Waiters)
+module _ (s : Sheet) (i j : ℕ) (weighed : Weighed s i) (r : Riders) (dests sides : List Float) (hr : HoldsRiders s i r dests sides) (v : Waiters)
     (hv : HoldsWaiters s j v)
   where
-    on-path-is : onPathIn (s .car i .position) (stopAt s j) dests (r .count)
-        ≡ any (λ a. rides s i a && onPathTo (s .car i .position) (stopAt s j) (boundFor s i a)) (s .aboards)
+    abbrev passes : Float → Bool
+    passes d = onPath (s .car i .position .along) (stopAt s j .along) d
+
+    on-path-is : onPathIn (s .car i .position .along) (stopAt s j .along) dests (r .count)
+        ≡ any (λ a. rides s i a && onPathTo (s .car i .position .along) (stopAt s j .along) (boundFor s i a)) (s .aboards)
     unfolding onPathIn
     on-path-is =
-        ap₂ (λ (l : List Float) (m : ℕ). any (λ k. onPathTo (s .car i .position) (stopAt s j) (At (getD l k nan))) m) (hr .held) (hr .counted)
-        ∙ any-collected (ridesTo s i) (λ a. positionOf (boundFor s i a)) (λ (d : Float). onPathTo (s .car i .position) (stopAt s j) (At d))
-        (s .aboards) (hr .rest) nan
-        ∙ any-cong (λ a. ridesTo s i a && onPathTo (s .car i .position) (stopAt s j) (At (positionOf (boundFor s i a))))
-        (λ a. rides s i a && onPathTo (s .car i .position) (stopAt s j) (boundFor s i a)) (s .aboards) (λ a l. by (rides s i a) (boundFor s i a))
+        ap₂ (λ (l : List Float) (m : ℕ). any (λ k. passes (getD l k nan)) m) (hr .held) (hr .counted)
+        ∙ any-collected (ridesTo s i) (λ a. standsAt (boundFor s i a) .along) passes (s .aboards) (hr .rest) nan
+        ∙ any-cong (λ a. ridesTo s i a && passes (standsAt (boundFor s i a) .along))
+        (λ a. rides s i a && onPathTo (s .car i .position .along) (stopAt s j .along) (boundFor s i a)) (s .aboards)
+        (λ a l. by (rides s i a) (boundFor s i a))
       where
         by : (b : Bool) (d : Place)
-            → ((b && isAt d) && onPathTo (s .car i .position) (stopAt s j) (At (positionOf d))) ≡ (b && onPathTo (s .car i .position) (stopAt s j) d)
+            → ((b && isAt d) && passes (standsAt d .along)) ≡ (b && onPathTo (s .car i .position .along) (stopAt s j .along) d)
         by false d = refl
         by true Nowhere = refl
         by true (At x) = refl
 
-    path-is : (path : Bool) → pathAllows (s .car i) r dests (stopAt s j) path ≡ (not path || onAboardPath s i j)
+    path-is : (path : Bool) → pathAllows (s .car i) r dests (stopAt s j .along) path ≡ (not path || onAboardPath s i j)
     unfolding pathAllows onAboardPath
     path-is path = rw (hr .routed, on-path-is)
 
     pub useful-is : (path : Bool) → j < s .stops
-        → usefulBy (s .car i) (goal s i) r dests v (has (r .exits) j) (stopAt s j) path ≡ pairIsUseful s i j path
+        → usefulBy (s .car i) (goal s i) r dests v (has (r .exits) j) (stopAt s j .along) path ≡ pairIsUseful s i j path
     unfolding usefulBy pairIsUseful
     useful-is path l = rw (hr .exits j l, servable-is s i j weighed v hv, path-is path)

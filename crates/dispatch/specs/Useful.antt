@@ -1,5 +1,5 @@
--- Whether a car's trip to a stop does any work: pair_is_useful of mod.rs, "as there, in its order; the aboard-path test for RSR only". Assumes
--- nothing.
+-- Whether a car's trip to a stop does any work: pair_is_useful of mod.rs, "as there, in its order; the aboard-path test for RSR only". F-12:
+-- "Directions, intervening stops and the aboard-path test use the first coordinate." Assumes nothing.
 use Prim.Native.Nat.{ℕ}
 use mathlib.Core.Bool.{Bool, true, false, not, _&&_, _||_, cond}
 use lib.Dec.{eqb}
@@ -16,7 +16,7 @@ use Rattle.components.specs.Sheet.{Sheet}
 use Rattle.manifest.specs.World.{stopId, stopAt, stopPosition, goal, rides}
 use Rattle.manifest.specs.Manifest.{waitsAt, someoneWaits, riderlessCall}
 
--- ---- on values: c a car, x its position, p the stop's position
+-- ---- on values: c a car, x its first coordinate, p the stop's
 
 -- the car is at or above the threshold
 abbrev pub loadedTo : Car → Threshold → Bool
@@ -27,23 +27,26 @@ loadedTo c (threshold.At pct) = not (le (c .capacity) zero) && not (lt (over (c 
 abbrev pub bypass : Car → Place → Float → Bool
 bypass c place.Nowhere p = false
 bypass c (place.At g) p =
-    cond (lt (c .position) g)
-    (loadedTo c (c .bypassup) && lt (c .position) p)
-    (lt g (c .position) && (loadedTo c (c .bypassdown) && lt p (c .position)))
+    cond (lt (c .position .along) (g .along))
+    (loadedTo c (c .bypassup) && lt (c .position .along) p)
+    (lt (g .along) (c .position .along) && (loadedTo c (c .bypassdown) && lt p (c .position .along)))
 
 -- the car's lamps let a rider bound for d board at p
 abbrev pub lampsAllow : Car → Float → Place → Bool
 lampsAllow c p place.Nowhere = true
-lampsAllow c p (place.At d) = not (lt p d && not (c .up)) && not (lt d p && not (c .down))
+lampsAllow c p (place.At d) = not (lt p (d .along) && not (c .up)) && not (lt (d .along) p && not (c .down))
 
 -- rider_can_board
 unfoldable pub riderCanBoard : Car → Float → Float → Place → Bool
 riderCanBoard c p weight d = not (lt (remaining c) weight) && lampsAllow c p d
 
 -- the stop is on the path to d: to_dest * to_cand >= 0.0 && to_cand.abs() <= to_dest.abs()
+unfoldable pub onPath : Float → Float → Float → Bool
+onPath x p d = le zero (times (minus d x) (minus p x)) && le (abs (minus p x)) (abs (minus d x))
+
 abbrev pub onPathTo : Float → Float → Place → Bool
 onPathTo x p place.Nowhere = false
-onPathTo x p (place.At d) = le zero (times (minus d x) (minus p x)) && le (abs (minus p x)) (abs (minus d x))
+onPathTo x p (place.At d) = onPath x p (d .along)
 
 -- ---- over a sheet
 
@@ -56,7 +59,7 @@ module _ (s : Sheet) (i j : ℕ) where
   unfoldable pub servable : Bool
   servable =
       cond (someoneWaits s j)
-      (any (λ w. waitsAt s j w && riderCanBoard (s .car i) (stopAt s j) (s .waiting w .weight) (stopPosition s (s .waiting w .destination)))
+      (any (λ w. waitsAt s j w && riderCanBoard (s .car i) (stopAt s j .along) (s .waiting w .weight) (stopPosition s (s .waiting w .destination)))
       (s .waits))
       (riderlessCall s j)
 
@@ -64,11 +67,11 @@ module _ (s : Sheet) (i j : ℕ) where
   unfoldable pub onAboardPath : Bool
   onAboardPath =
       not (any (λ a. rides s i a && not (eqb (s .aboard a .destination) 0)) (s .aboards))
-      || any (λ a. rides s i a && onPathTo (s .car i .position) (stopAt s j) (stopPosition s (s .aboard a .destination))) (s .aboards)
+      || any (λ a. rides s i a && onPathTo (s .car i .position .along) (stopAt s j .along) (stopPosition s (s .aboard a .destination))) (s .aboards)
 
   -- pair_is_useful, with respect_aboard_path
   unfoldable pub pairIsUseful : Bool → Bool
   pairIsUseful path =
       canExitHere
-      || (not (bypass (s .car i) (goal s i) (stopAt s j))
+      || (not (bypass (s .car i) (goal s i) (stopAt s j .along))
       && (not (le (remaining (s .car i)) zero) && (servable && (not path || onAboardPath))))

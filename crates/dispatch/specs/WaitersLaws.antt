@@ -36,13 +36,13 @@ module _ (s : Sheet) (j : ℕ) where
 
   -- w waits at stop j and goes up, goes down, does neither
   abbrev pub waitsUp : ℕ → Bool
-  waitsUp w = waitsAt s j w && goesUp (stopAt s j) (placeOf w)
+  waitsUp w = waitsAt s j w && goesUp (stopAt s j .along) (placeOf w)
 
   abbrev pub waitsDown : ℕ → Bool
-  waitsDown w = waitsAt s j w && goesDown (stopAt s j) (placeOf w)
+  waitsDown w = waitsAt s j w && goesDown (stopAt s j .along) (placeOf w)
 
   abbrev pub waitsLevel : ℕ → Bool
-  waitsLevel w = waitsAt s j w && staysLevel (stopAt s j) (placeOf w)
+  waitsLevel w = waitsAt s j w && staysLevel (stopAt s j .along) (placeOf w)
 
   -- what is held of stop j's waiters is the sheet's
   pub record HoldsWaiters (v : Waiters) : Type 0 where
@@ -55,7 +55,7 @@ module _ (s : Sheet) (j : ℕ) where
     pub level : v .level ≡ least waitsLevel weightOf (s .waits)
 
   step : Waiters → ℕ → Waiters
-  step v w = cond (waitsAt s j w) (withRider v (stopAt s j) (placeOf w) (weightOf w) (s .waiting w .wait)) v
+  step v w = cond (waitsAt s j w) (withRider v (stopAt s j .along) (placeOf w) (weightOf w) (s .waiting w .wait)) v
 
   waiters : Bool → Waiters
   waiters call = fold step (nobody call) (s .waits)
@@ -70,7 +70,7 @@ module _ (s : Sheet) (j : ℕ) where
         (λ v w l. by v w (waitsAt s j w))
         ∙ fold-flag (waitsAt s j) (s .waits)
       where
-        by : (v : Waiters) (w : ℕ) (c : Bool) → cond c (withRider v (stopAt s j) (placeOf w) (weightOf w) (s .waiting w .wait)) v .someone ≡
+        by : (v : Waiters) (w : ℕ) (c : Bool) → cond c (withRider v (stopAt s j .along) (placeOf w) (weightOf w) (s .waiting w .wait)) v .someone ≡
             cond c true (v .someone)
         by v w true = refl
         by v w false = refl
@@ -81,7 +81,7 @@ module _ (s : Sheet) (j : ℕ) where
         fold-map (λ (v : Waiters). v .call) step (λ (b : Bool) (w : ℕ). b) (nobody call) (s .waits) (λ v w l. by v w (waitsAt s j w))
         ∙ fold-keep call (s .waits)
       where
-        by : (v : Waiters) (w : ℕ) (c : Bool) → cond c (withRider v (stopAt s j) (placeOf w) (weightOf w) (s .waiting w .wait)) v .call ≡ v
+        by : (v : Waiters) (w : ℕ) (c : Bool) → cond c (withRider v (stopAt s j .along) (placeOf w) (weightOf w) (s .waiting w .wait)) v .call ≡ v
             .call
         by v w true = refl
         by v w false = refl
@@ -93,7 +93,7 @@ module _ (s : Sheet) (j : ℕ) where
         (nobody call) (s .waits)
         (λ v w l. by v w (waitsAt s j w))
       where
-        by : (v : Waiters) (w : ℕ) (c : Bool) → cond c (withRider v (stopAt s j) (placeOf w) (weightOf w) (s .waiting w .wait)) v .waitsum
+        by : (v : Waiters) (w : ℕ) (c : Bool) → cond c (withRider v (stopAt s j .along) (placeOf w) (weightOf w) (s .waiting w .wait)) v .waitsum
             ≡ cond c (plus (v .waitsum) (natural (s .waiting w .wait))) (v .waitsum)
         by v w true = refl
         by v w false = refl
@@ -106,7 +106,7 @@ module _ (s : Sheet) (j : ℕ) where
         (s .waits)
         (λ v w l. by v w (waitsAt s j w))
       where
-        by : (v : Waiters) (w : ℕ) (c : Bool) → cond c (withRider v (stopAt s j) (placeOf w) (weightOf w) (s .waiting w .wait)) v .squares
+        by : (v : Waiters) (w : ℕ) (c : Bool) → cond c (withRider v (stopAt s j .along) (placeOf w) (weightOf w) (s .waiting w .wait)) v .squares
             ≡ cond c (plus (v .squares) (times (natural (s .waiting w .wait)) (natural (s .waiting w .wait)))) (v .squares)
         by v w true = refl
         by v w false = refl
@@ -117,8 +117,8 @@ module _ (s : Sheet) (j : ℕ) where
         fold-map (λ (v : Waiters). v .up) step (λ (a : Float) (w : ℕ). cond (waitsUp w) (lesser a (weightOf w)) a) (nobody call) (s .waits)
         (λ v w l. by v w (waitsAt s j w))
       where
-        by : (v : Waiters) (w : ℕ) (c : Bool) → cond c (withRider v (stopAt s j) (placeOf w) (weightOf w) (s .waiting w .wait)) v .up
-            ≡ cond (c && goesUp (stopAt s j) (placeOf w)) (lesser (v .up) (weightOf w)) (v .up)
+        by : (v : Waiters) (w : ℕ) (c : Bool) → cond c (withRider v (stopAt s j .along) (placeOf w) (weightOf w) (s .waiting w .wait)) v .up
+            ≡ cond (c && goesUp (stopAt s j .along) (placeOf w)) (lesser (v .up) (weightOf w)) (v .up)
         by v w true = refl
         by v w false = refl
 
@@ -128,8 +128,8 @@ module _ (s : Sheet) (j : ℕ) where
         fold-map (λ (v : Waiters). v .down) step (λ (a : Float) (w : ℕ). cond (waitsDown w) (lesser a (weightOf w)) a) (nobody call) (s .waits)
         (λ v w l. by v w (waitsAt s j w))
       where
-        by : (v : Waiters) (w : ℕ) (c : Bool) → cond c (withRider v (stopAt s j) (placeOf w) (weightOf w) (s .waiting w .wait)) v .down
-            ≡ cond (c && goesDown (stopAt s j) (placeOf w)) (lesser (v .down) (weightOf w)) (v .down)
+        by : (v : Waiters) (w : ℕ) (c : Bool) → cond c (withRider v (stopAt s j .along) (placeOf w) (weightOf w) (s .waiting w .wait)) v .down
+            ≡ cond (c && goesDown (stopAt s j .along) (placeOf w)) (lesser (v .down) (weightOf w)) (v .down)
         by v w true = refl
         by v w false = refl
 
@@ -139,8 +139,8 @@ module _ (s : Sheet) (j : ℕ) where
         fold-map (λ (v : Waiters). v .level) step (λ (a : Float) (w : ℕ). cond (waitsLevel w) (lesser a (weightOf w)) a) (nobody call) (s .waits)
         (λ v w l. by v w (waitsAt s j w))
       where
-        by : (v : Waiters) (w : ℕ) (c : Bool) → cond c (withRider v (stopAt s j) (placeOf w) (weightOf w) (s .waiting w .wait)) v .level
-            ≡ cond (c && staysLevel (stopAt s j) (placeOf w)) (lesser (v .level) (weightOf w)) (v .level)
+        by : (v : Waiters) (w : ℕ) (c : Bool) → cond c (withRider v (stopAt s j .along) (placeOf w) (weightOf w) (s .waiting w .wait)) v .level
+            ≡ cond (c && staysLevel (stopAt s j .along) (placeOf w)) (lesser (v .level) (weightOf w)) (v .level)
         by v w true = refl
         by v w false = refl
 
@@ -213,7 +213,7 @@ lamps c p (At d) = refl
 
 not-both-ways : (p : Float) (d : Place) → goesUp p d ≡ true → goesDown p d ≡ false
 not-both-ways p Nowhere h = refl
-not-both-ways p (At d) h = lt-asym p d h
+not-both-ways p (At d) h = lt-asym p (d .along) h
 
 module _ (s : Sheet) (i j : ℕ) (h : Weighed s i) where
   fits : ℕ → Bool
@@ -221,16 +221,16 @@ module _ (s : Sheet) (i j : ℕ) (h : Weighed s i) where
 
   one : (w : ℕ)
       → ((waitsLevel s j w && fits w) || ((s .car i .up && (waitsUp s j w && fits w)) || (s .car i .down && (waitsDown s j w && fits w))))
-      ≡ (waitsAt s j w && riderCanBoard (s .car i) (stopAt s j) (weightOf s j w) (placeOf s j w))
+      ≡ (waitsAt s j w && riderCanBoard (s .car i) (stopAt s j .along) (weightOf s j w) (placeOf s j w))
   unfolding riderCanBoard fits
   one w =
-      one-rider (waitsAt s j w) (fits w) (goesUp (stopAt s j) (placeOf s j w)) (goesDown (stopAt s j) (placeOf s j w)) (s .car i .up) (s .car i .down)
-      (not-both-ways (stopAt s j) (placeOf s j w))
-      ∙ ap (λ (b : Bool). waitsAt s j w && (fits w && b)) (sym (lamps (s .car i) (stopAt s j) (placeOf s j w)))
+      one-rider (waitsAt s j w) (fits w) (goesUp (stopAt s j .along) (placeOf s j w)) (goesDown (stopAt s j .along) (placeOf s j w)) (s .car i .up) (s .car i .down)
+      (not-both-ways (stopAt s j .along) (placeOf s j w))
+      ∙ ap (λ (b : Bool). waitsAt s j w && (fits w && b)) (sym (lamps (s .car i) (stopAt s j .along) (placeOf s j w)))
 
   all : (any (λ w. waitsLevel s j w && fits w) (s .waits)
       || ((s .car i .up && any (λ w. waitsUp s j w && fits w) (s .waits)) || (s .car i .down && any (λ w. waitsDown s j w && fits w) (s .waits))))
-      ≡ any (λ w. waitsAt s j w && riderCanBoard (s .car i) (stopAt s j) (weightOf s j w) (placeOf s j w)) (s .waits)
+      ≡ any (λ w. waitsAt s j w && riderCanBoard (s .car i) (stopAt s j .along) (weightOf s j w) (placeOf s j w)) (s .waits)
   all =
       ap₂ (λ (x y : Bool). any (λ w. waitsLevel s j w && fits w) (s .waits) || (x || y))
       (any-and (s .car i .up) (λ w. waitsUp s j w && fits w) (s .waits)) (any-and (s .car i .down) (λ w. waitsDown s j w && fits w) (s .waits))
@@ -240,7 +240,7 @@ module _ (s : Sheet) (i j : ℕ) (h : Weighed s i) where
       (λ w. (s .car i .up && (waitsUp s j w && fits w)) || (s .car i .down && (waitsDown s j w && fits w))) (s .waits)
       ∙ any-cong
       (λ w. (waitsLevel s j w && fits w) || ((s .car i .up && (waitsUp s j w && fits w)) || (s .car i .down && (waitsDown s j w && fits w))))
-      (λ w. waitsAt s j w && riderCanBoard (s .car i) (stopAt s j) (weightOf s j w) (placeOf s j w)) (s .waits)
+      (λ w. waitsAt s j w && riderCanBoard (s .car i) (stopAt s j .along) (weightOf s j w) (placeOf s j w)) (s .waits)
       (λ w l. one w)
 
   class : (p : ℕ → Bool) → not (lt (remaining (s .car i)) (least p (weightOf s j) (s .waits))) ≡ any (λ w. p w && fits w) (s .waits)

@@ -6,12 +6,13 @@ ghost use lib.ListN.{length};
 ghost use lib.Ieee.{lt, le};
 ghost use Rattle.fp.specs.Num.{zero, over};
 ghost use Rattle.components.specs.declared.Place.the-variants.{At};
-ghost use Rattle.dispatch.specs.Useful.{loadedTo, bypass, onPathTo};
+ghost use Rattle.dispatch.specs.Useful.{loadedTo, bypass, onPath};
 ghost use Rattle.dispatch.specs.Pairs.{canBoard, servableBy, onPathIn, pathAllows, usefulBy};
 ghost use Rattle.dispatch.specs.FiniteRank.{finiteRank};
 ghost use Rattle.dispatch.specs.Waits.{fairnessBonus, withBonus};
 use components::Car;
 use components::Place;
+use components::Point;
 use components::Rank;
 use components::Threshold;
 use manifest::Waiters;
@@ -41,15 +42,16 @@ fn loaded_to(car: Car, threshold: Threshold) -> bool
 }
 
 // Whether a car that moves to g passes by a stop at p.
-fn bypass_to(car: Car, g: f64, p: f64) -> bool
+fn bypass_to(car: Car, g: Point, p: f64) -> bool
     ensures { λ r. ⌜ r ≡ bypass car (At g) p ⌝ }
 {
-    let x = car.position;
-    if x < g {
+    let x = car.position.along;
+    let to = g.along;
+    if x < to {
         let up = car.bypassup;
         if loaded_to(car, up) { x < p } else { false }
     } else {
-        if g < x {
+        if to < x {
             let down = car.bypassdown;
             if loaded_to(car, down) { p < x } else { false }
         } else {
@@ -89,7 +91,7 @@ fn servable(waiters: Waiters, car: Car) -> bool
 
 // Whether a stop at p is on the path of a car at x to d. The product's sign is the Rust's test, underflow and all.
 fn on_path_to(x: f64, p: f64, d: f64) -> bool
-    ensures { λ r. ⌜ r ≡ onPathTo x p (At d) ⌝ }
+    ensures { λ r. ⌜ r ≡ onPath x p d ⌝ }
 {
     let to_stop = p - x;
     let to_dest = d - x;
@@ -102,7 +104,7 @@ fn on_path_to(x: f64, p: f64, d: f64) -> bool
     }
 }
 
-// Whether it is on the path to one of the first n positions of dests.
+// Whether it is on the path to one of the first n of dests.
 fn on_path(x: f64, p: f64, dests: &[f64], n: usize) -> bool
     requires { ⌜ n ≤ length (now dests) ⌝ }
     ensures { λ r. ⌜ r ≡ onPathIn x p (now (dests .entry)) n ⌝ }
@@ -122,7 +124,7 @@ fn path_allows(car: Car, riders: Riders, dests: &[f64], p: f64, path: bool) -> b
     requires { ⌜ riders .count ≤ length (now dests) ⌝ }
     ensures { λ r. ⌜ r ≡ pathAllows car riders (now (dests .entry)) p path ⌝ }
 {
-    let x = car.position;
+    let x = car.position.along;
     let n = riders.count;
     if path {
         if riders.routed {
@@ -135,7 +137,8 @@ fn path_allows(car: Car, riders: Riders, dests: &[f64], p: f64, path: bool) -> b
     }
 }
 
-// Whether the trip does any work: here says that a rider of the car is bound for the stop, which stands at p.
+// Whether the trip does any work: here says that a rider of the car is bound for the stop, which stands at p. Directions and the path are of
+// first coordinates.
 pub fn pair_is_useful(
     car: Car,
     goal: Place,

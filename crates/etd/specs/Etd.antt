@@ -1,15 +1,18 @@
--- ETD: etd.rs, with its order of operations. Assumes nothing.
+-- ETD: etd.rs, with its order of operations. F-12: "Every distance becomes the sum of the two absolute differences, in .. travel, detours";
+-- "Directions, intervening stops .. use the first coordinate." Assumes nothing.
 use Prim.Native.Nat.{ℕ, _+_, _*_}
 use mathlib.Core.Bool.{Bool, false, _&&_, cond}
 use lib.Ieee.{Float, lt, le, neg}
 use Rattle.laws.specs.Folds.{fold, count}
-use Rattle.fp.specs.Num.{zero, half, threeTenths, epsilon, plus, minus, times, over, maxZero, fma, finite, natural, distance}
+use Rattle.fp.specs.Num.{zero, half, threeTenths, epsilon, plus, minus, times, over, maxZero, fma, finite, natural}
+use Rattle.components.specs.declared.Point.{Point}
 use Rattle.components.specs.declared.Place.{Place}
 use Rattle.components.specs.declared.Place.the-variants.{At, Nowhere}
 use Rattle.components.specs.declared.Phase.{Phase}
 use Rattle.components.specs.declared.Rank.{Rank}
 use Rattle.components.specs.declared.Rank.the-variants.{Cost, Never}
 use Rattle.components.specs.Cars.{isMoving, isIdle}
+use Rattle.components.specs.Points.{distance}
 use Rattle.components.specs.Sheet.{Sheet}
 use Rattle.manifest.specs.World.{stopAt, stopPosition, goal, rides}
 use Rattle.manifest.specs.Manifest.{demandStop}
@@ -17,7 +20,7 @@ use Rattle.dispatch.specs.Useful.{pairIsUseful}
 use Rattle.dispatch.specs.FiniteRank.{finiteRank}
 use Rattle.dispatch.specs.Waits.{waitTicksSum, waitTicksSquaredSum, withBonus}
 
--- ---- on values: x the car's position, p the stop's
+-- ---- on values: x where the car stands, p where the stop does, as points or by their first coordinates
 
 -- p' lies strictly between the two, by more than 1e-9 from either
 unfoldable pub intervenes : Float → Float → Float → Bool
@@ -28,11 +31,11 @@ unfoldable pub doorCost : ℕ → ℕ → ℕ → Float → Float
 doorCost k transition dwell rate = times (natural k) (over (natural (transition * 2 + dwell)) rate)
 
 -- what the detour by the stop adds to the trip to d, in seconds
-unfoldable pub extraDelay : Float → Float → Float → Float → Float
+unfoldable pub extraDelay : Point → Point → Point → Float → Float
 extraDelay x p d speed = over (maxZero (minus (plus (distance x p) (distance p d)) (distance x d))) speed
 
 -- a rider's delay, added where the destination has a position
-abbrev pub addDelay : Float → Float → Float → Float → Place → Float
+abbrev pub addDelay : Point → Point → Float → Float → Place → Float
 addDelay x p speed a Nowhere = a
 addDelay x p speed a (At d) = plus a (extraDelay x p d speed)
 
@@ -43,7 +46,7 @@ isAhead x p g = cond (lt x g) (lt x p && le p g) (lt p x && le g p)
 -- half of the travel time off where the car moves past the stop
 abbrev pub movingBonus : Float → Float → Float → Place → Float
 movingBonus x p travel Nowhere = zero
-movingBonus x p travel (At g) = cond (isAhead x p g) (times (neg travel) half) zero
+movingBonus x p travel (At g) = cond (isAhead x p (g .along)) (times (neg travel) half) zero
 
 -- direction_bonus: that, three tenths off for an idle car, nothing for any other
 unfoldable pub directionBonus : Phase → Place → Float → Float → Float → Float
@@ -62,7 +65,7 @@ module _ (s : Sheet) (i j : ℕ) where
 
   -- "ETD counts intervening stops among all demand stops of the group, covered ones too."
   unfoldable pub interveningStops : ℕ
-  interveningStops = count (λ k. demandStop s k && intervenes (s .car i .position) (stopAt s j) (stopAt s k)) (s .stops)
+  interveningStops = count (λ k. demandStop s k && intervenes (s .car i .position .along) (stopAt s j .along) (stopAt s k .along)) (s .stops)
 
   -- existing_rider_delay, over the riders aboard in record order
   unfoldable pub riderDelay : Float
@@ -76,7 +79,7 @@ module _ (s : Sheet) (i j : ℕ) where
   computeCost =
       weighted (s .policy .w0) (s .policy .w1) (s .policy .w2) travelTime riderDelay
       (doorCost interveningStops (s .car i .transition) (s .car i .dwell) (s .policy .rate))
-      (directionBonus (s .car i .phase) (goal s i) (s .car i .position) (stopAt s j) travelTime)
+      (directionBonus (s .car i .phase) (goal s i) (s .car i .position .along) (stopAt s j .along) travelTime)
 
   -- rank. "Speed 0 gives ETD and RSR no rank": the Rust comes to it by way of an infinite cost
   unfoldable pub etdRank : Rank

@@ -1,4 +1,5 @@
--- ETD's cost and rank from what is held: the demand stops as a mask over n positions, the riders' destinations as a list. Assumes nothing.
+-- ETD's cost and rank from what is held: the demand stops as a mask over n stops, the riders' destinations as two lists, of first and of second
+-- coordinates. Assumes nothing.
 use Prim.Native.Nat.{ℕ, _+_}
 use mathlib.Core.Path.{_≡_, refl, sym, ap, _∙_}
 use mathlib.Core.Bool.{Bool, true, false, _&&_, cond}
@@ -7,15 +8,18 @@ use lib.ListN.{getD}
 use lib.Ieee.{Float, nan, lt, neg}
 use Rattle.laws.specs.Bools.{bit}
 use Rattle.laws.specs.Folds.{fold, count, count-step}
-use Rattle.fp.specs.Num.{zero, half, plus, times, over, distance, maxZero, fma}
+use Rattle.fp.specs.Num.{zero, half, plus, times, over, maxZero, fma}
 use Rattle.mask.specs.Mask.{has}
 use Rattle.components.specs.declared.Car.{Car}
 use Rattle.components.specs.declared.Policy.{Policy}
+use Rattle.components.specs.declared.Point.{Point}
 use Rattle.components.specs.declared.Place.{Place}
 use Rattle.components.specs.declared.Place.the-variants.{At}
 use Rattle.components.specs.declared.Rank.{Rank}
 use Rattle.components.specs.declared.Rank.the-variants.{Never}
+use Rattle.components.specs.Points.{pointOf, distance}
 use Rattle.manifest.specs.declared.Waiters.{Waiters}
+use Rattle.manifest.specs.Stops.{pointIn}
 use Rattle.riders.specs.declared.Riders.{Riders}
 use Rattle.dispatch.specs.Waits.{withBonus}
 use Rattle.dispatch.specs.Pairs.{usefulBy}
@@ -23,7 +27,7 @@ use Rattle.etd.specs.Etd.{intervenes, doorCost, extraDelay, isAhead, mov
 use Rattle.dispatch.specs.FiniteRank.{finiteRank}
 
 -- the bonus of a moving car, by whether its goal lies ahead
-module _ (x p travel : Float) (goal : Place) {g : Float} (at : goal ≡ At g) {ahead : Bool} (e : ahead ≡ isAhead x p g) where
+module _ (x p travel : Float) (goal : Place) {g : Point} (at : goal ≡ At g) {ahead : Bool} (e : ahead ≡ isAhead x p (g .along)) where
   as-ahead : (b : Bool) → ahead ≡ b → cond b (times (neg travel) half) zero ≡ movingBonus x p travel goal
   as-ahead b t = ap (λ (c : Bool). cond c (times (neg travel) half) zero) (sym t ∙ e) ∙ sym (ap (movingBonus x p travel) at)
 
@@ -50,34 +54,34 @@ pub intervening-next : (x p : Float) (demand : ℕ) (xs : List Float) (k m r : �
 unfolding interveningIn
 intervening-next x p demand xs k m r e d = ap (λ (z : ℕ). m + z) d ∙ count-step (λ i. has demand i && intervenes x p (getD xs i nan)) k e refl
 
--- existing_rider_delay, over the first n positions of dests
-unfoldable pub delayIn : Float → Float → Float → List Float → ℕ → Float
-delayIn x p speed dests n = fold (λ a k. plus a (extraDelay x p (getD dests k nan) speed)) zero n
+-- existing_rider_delay, over the first n points of dests and sides
+unfoldable pub delayIn : Point → Point → Float → List Float → List Float → ℕ → Float
+delayIn x p speed dests sides n = fold (λ a k. plus a (extraDelay x p (pointOf (getD dests k nan) (getD sides k nan)) speed)) zero n
 
 -- compute_cost, of a stop at p
-unfoldable pub costBy : Policy → Car → Place → ℕ → List Float → ℕ → List Float → ℕ → Float → Float
-costBy y c goal count dests demand xs n p =
+unfoldable pub costBy : Policy → Car → Place → ℕ → List Float → List Float → ℕ → List Float → ℕ → Point → Float
+costBy y c goal count dests sides demand xs n p =
     weighted (y .w0) (y .w1) (y .w2) (over (distance (c .position) p) (c .speed))
-    (delayIn (c .position) p (c .speed) dests count)
-    (doorCost (interveningIn (c .position) p demand xs n) (c .transition) (c .dwell) (y .rate))
-    (directionBonus (c .phase) goal (c .position) p (over (distance (c .position) p) (c .speed)))
+    (delayIn (c .position) p (c .speed) dests sides count)
+    (doorCost (interveningIn (c .position .along) (p .along) demand xs n) (c .transition) (c .dwell) (y .rate))
+    (directionBonus (c .phase) goal (c .position .along) (p .along) (over (distance (c .position) p) (c .speed)))
 
 -- the cost less both fairness bonuses, wait squared first
-unfoldable pub fairCostBy : Policy → Car → Place → ℕ → List Float → Waiters → ℕ → List Float → ℕ → Float → Float
-fairCostBy y c goal count dests w demand xs n p =
-    withBonus (withBonus (costBy y c goal count dests demand xs n p) (y .w3) (w .squares)) (y .w4) (w .waitsum)
+unfoldable pub fairCostBy : Policy → Car → Place → ℕ → List Float → List Float → Waiters → ℕ → List Float → ℕ → Point → Float
+fairCostBy y c goal count dests sides w demand xs n p =
+    withBonus (withBonus (costBy y c goal count dests sides demand xs n p) (y .w3) (w .squares)) (y .w4) (w .waitsum)
 
-pub fair-by : (y : Policy) (c : Car) (goal : Place) (count : ℕ) (dests : List Float) (w : Waiters) (demand : ℕ) (xs : List Float) (n : ℕ)
-    (p : Float) {cost squared r : Float}
-    → cost ≡ costBy y c goal count dests demand xs n p → squared ≡ withBonus cost (y .w3) (w .squares) → r ≡ withBonus squared (y .w4) (w .waitsum)
-    → r ≡ fairCostBy y c goal count dests w demand xs n p
+pub fair-by : (y : Policy) (c : Car) (goal : Place) (count : ℕ) (dests sides : List Float) (w : Waiters) (demand : ℕ) (xs : List Float) (n : ℕ)
+    (p : Point) {cost squared r : Float}
+    → cost ≡ costBy y c goal count dests sides demand xs n p → squared ≡ withBonus cost (y .w3) (w .squares) → r ≡ withBonus squared (y .w4) (w .waitsum)
+    → r ≡ fairCostBy y c goal count dests sides w demand xs n p
 unfolding fairCostBy
-fair-by y c goal count dests w demand xs n p ec es er =
+fair-by y c goal count dests sides w demand xs n p ec es er =
     er ∙ ap (λ (x : Float). withBonus x (y .w4) (w .waitsum)) (es ∙ ap (λ (x : Float). withBonus x (y .w3) (w .squares)) ec)
 
 -- rank, of stop j
-unfoldable pub rankBy : Policy → Car → Place → Riders → List Float → Waiters → ℕ → List Float → ℕ → ℕ → Rank
-rankBy y c goal r dests w demand xs n j =
-    cond (usefulBy c goal r dests w (has (r .exits) j) (getD xs j nan) false && lt zero (c .speed))
-    (finiteRank (fairCostBy y c goal (r .count) dests w demand xs n (getD xs j nan)))
+unfoldable pub rankBy : Policy → Car → Place → Riders → List Float → List Float → Waiters → ℕ → List Float → ℕ → ℕ → Rank
+rankBy y c goal r dests sides w demand xs n j =
+    cond (usefulBy c goal r dests w (has (r .exits) j) (pointIn xs j .along) false && lt zero (c .speed))
+    (finiteRank (fairCostBy y c goal (r .count) dests sides w demand xs n (pointIn xs j)))
     Never

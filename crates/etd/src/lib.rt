@@ -1,7 +1,7 @@
 // ETD: etd.rs.
 ghost use mathlib.Core.Path.{_≡_};
 ghost use mathlib.Core.Bool.{_&&_, cond};
-ghost use Prim.Native.Nat.{_≤_, _<_};
+ghost use Prim.Native.Nat.{_+_, _≤_, _<_};
 ghost use lib.ListN.{length};
 ghost use lib.Ieee.{lt};
 ghost use Rattle.laws.specs.Bools.{bit};
@@ -11,6 +11,7 @@ ghost use Rattle.etd.specs.Pairs.{interveningIn, delayIn, costBy, fairCo
 use components::Car;
 use components::Phase;
 use components::Place;
+use components::Point;
 use components::Policy;
 use components::Rank;
 use manifest::Waiters;
@@ -67,23 +68,34 @@ fn door_cost(stops: u64, transition: u32, dwell: u32, rate: f64) -> f64
 }
 
 // What the detour by a stop at p adds to the trip to d, in seconds.
-fn extra_delay(x: f64, p: f64, d: f64, speed: f64) -> f64
+fn extra_delay(x: Point, p: Point, d: Point, speed: f64) -> f64
     ensures { λ r. ⌜ r ≡ extraDelay x p d speed ⌝ }
 {
-    let detour = fp::distance(x, p) + fp::distance(p, d);
-    let direct = fp::distance(x, d);
+    let detour = x.distance(p) + p.distance(d);
+    let direct = x.distance(d);
     fp::max_zero(detour - direct) / speed
 }
 
-// existing_rider_delay, over the first n positions of dests.
-fn existing_rider_delay(x: f64, p: f64, speed: f64, dests: &[f64], n: usize) -> f64
-    requires { ⌜ n ≤ length (now dests) ⌝ }
-    ensures { λ r. ⌜ r ≡ delayIn x p speed (now (dests .entry)) n ⌝ }
+// existing_rider_delay, over the first n points of dests and sides.
+fn existing_rider_delay(
+    x: Point,
+    p: Point,
+    speed: f64,
+    dests: &[f64],
+    sides: &[f64],
+    n: usize,
+) -> f64
+    requires { ⌜ (n ≤ length (now dests)) × (n ≤ length (now sides)) ⌝ }
+    ensures { λ r. ⌜ r ≡ delayIn x p speed (now (dests .entry)) (now (sides .entry)) n ⌝ }
 {
     let mut delay = 0.0;
     let mut k: usize = 0;
     while k < n {
-        delay = delay + extra_delay(x, p, dests[k], speed);
+        let d = Point {
+            along: dests[k],
+            across: sides[k],
+        };
+        delay = delay + extra_delay(x, p, d, speed);
         k += 1;
     }
     delay
@@ -107,7 +119,7 @@ fn moving_bonus(x: f64, p: f64, travel: f64, goal: Place) -> f64
     match goal {
         Place::Nowhere => 0.0,
         Place::At(g) => {
-            if is_ahead(x, p, g) {
+            if is_ahead(x, p, g.along) {
                 -travel * 0.5
             } else {
                 0.0
@@ -144,29 +156,30 @@ fn weighted(
     fp::max_zero(fp::fma(wait, travel, b))
 }
 
-// compute_cost, of a stop at p, for a car whose riders go to the first count positions of dests.
+// compute_cost, of a stop at p, for a car whose riders go to the first count points of dests and sides.
 fn compute_cost(
     policy: Policy,
     car: Car,
     goal: Place,
     count: usize,
     dests: &[f64],
+    sides: &[f64],
     demand: u64,
     xs: &[f64],
     n: usize,
-    p: f64,
+    p: Point,
 ) -> f64
-    requires { ⌜ (count ≤ length (now dests)) × (n ≤ 64) × (n ≤ length (now xs)) ⌝ }
-    ensures { λ r. ⌜ r ≡ costBy policy car goal count (now (dests .entry)) demand (now (xs .entry)) n p ⌝ }
+    requires { ⌜ (count ≤ length (now dests)) × (count ≤ length (now sides)) × (n ≤ 64) × (n ≤ length (now xs)) ⌝ }
+    ensures { λ r. ⌜ r ≡ costBy policy car goal count (now (dests .entry)) (now (sides .entry)) demand (now (xs .entry)) n p ⌝ }
 {
     let x = car.position;
     let speed = car.speed;
     let phase = car.phase;
-    let travel = fp::distance(x, p) / speed;
-    let stops = intervening_stops(x, p, demand, xs, n);
+    let travel = x.distance(p) / speed;
+    let stops = intervening_stops(x.along, p.along, demand, xs, n);
     let doors = door_cost(stops, car.transition, car.dwell, policy.rate);
-    let delay = existing_rider_delay(x, p, speed, dests, count);
-    let bonus = direction_bonus(phase, goal, x, p, travel);
+    let delay = existing_rider_delay(x, p, speed, dests, sides, count);
+    let bonus = direction_bonus(phase, goal, x.along, p.along, travel);
     weighted(policy.w0, policy.w1, policy.w2, travel, delay, doors, bonus)
 }
 
@@ -177,16 +190,17 @@ fn fair_cost(
     goal: Place,
     count: usize,
     dests: &[f64],
+    sides: &[f64],
     waiters: Waiters,
     demand: u64,
     xs: &[f64],
     n: usize,
-    p: f64,
+    p: Point,
 ) -> f64
-    requires { ⌜ (count ≤ length (now dests)) × (n ≤ 64) × (n ≤ length (now xs)) ⌝ }
-    ensures { λ r. ⌜ r ≡ fairCostBy policy car goal count (now (dests .entry)) waiters demand (now (xs .entry)) n p ⌝ }
+    requires { ⌜ (count ≤ length (now dests)) × (count ≤ length (now sides)) × (n ≤ 64) × (n ≤ length (now xs)) ⌝ }
+    ensures { λ r. ⌜ r ≡ fairCostBy policy car goal count (now (dests .entry)) (now (sides .entry)) waiters demand (now (xs .entry)) n p ⌝ }
 {
-    let cost = compute_cost(policy, car, goal, count, dests, demand, xs, n, p);
+    let cost = compute_cost(policy, car, goal, count, dests, sides, demand, xs, n, p);
     let squared = dispatch::with_bonus(cost, policy.w3, waiters.squares);
     dispatch::with_bonus(squared, policy.w4, waiters.waitsum)
 }
@@ -198,19 +212,22 @@ pub fn rank(
     goal: Place,
     riders: Riders,
     dests: &[f64],
+    sides: &[f64],
     waiters: Waiters,
     demand: u64,
     xs: &[f64],
     n: usize,
     j: usize,
 ) -> Rank
-    requires { ⌜ (riders .count ≤ length (now dests)) × (n ≤ 64) × (n ≤ length (now xs)) × (j < n) ⌝ }
-    ensures { λ r. ⌜ r ≡ rankBy policy car goal riders (now (dests .entry)) waiters demand (now (xs .entry)) n j ⌝ }
+    requires { ⌜ (riders .count ≤ length (now dests)) × (riders .count ≤ length (now sides)) × (n ≤ 64) × (64 + n ≤ length (now xs))
+        × (j < n) ⌝ }
+    ensures { λ r. ⌜ r ≡ rankBy policy car goal riders (now (dests .entry)) (now (sides .entry)) waiters demand
+        (now (xs .entry)) n j ⌝ }
 {
-    let p = xs[j];
+    let p = manifest::point(xs, j);
     let count = riders.count;
     let here = mask::has(riders.exits, j);
-    if dispatch::pair_is_useful(car, goal, riders, dests, waiters, here, p, false) {
+    if dispatch::pair_is_useful(car, goal, riders, dests, waiters, here, p.along, false) {
         if car.speed > 0.0 {
             dispatch::finite_rank(fair_cost(
                 policy,
@@ -218,6 +235,7 @@ pub fn rank(
                 goal,
                 count,
                 dests,
+                sides,
                 waiters,
                 demand,
                 xs,

@@ -1,21 +1,24 @@
--- Stops by two lists, their ids and their positions, n of each: what the code looks up. Assumes nothing.
+-- Stops by two lists, n ids and 128 coordinates: of stop j the first is element j, the second element 64 + j. What the code looks up. Assumes nothing.
 use Prim.Native.Nat.{ℕ, zero, suc, _+_, _-_, _≤_, _<_}
 use native.Mathlib.Omega.{arith}
-use mathlib.Core.Path.{_≡_, refl, sym, ap, _∙_}
+use mathlib.Core.Path.{_≡_, refl, sym, ap, ap₂, _∙_}
 use mathlib.Core.Bool.{Bool, true, false, cond, _&&_}
 use mathlib.Core.List.{List}
 use mathlib.Core.Logic.{_≢_}
 use lib.Dec.{eqb, ltb}
-use lib.ListN.{getD}
+use lib.ListN.{getD, drop}
 use lib.Ieee.{Float, nan}
+use lib.Seq.{getD-drop}
 use borrow.Author.Tests.{lt-ltb, le-ltb, eq-eqb, ne-eqb, eqb-true, ltb-true}
 use Rattle.laws.specs.Bools.{same-test, both, both-left, both-right}
 use Rattle.laws.specs.Folds.{lookup, lookup-next, lookup-cong, lookup-at}
 use Rattle.mask.specs.Mask.{has}
+use Rattle.components.specs.declared.Point.{Point}
 use Rattle.components.specs.declared.Place.{Place}
 use Rattle.components.specs.declared.Place.the-variants.{At, Nowhere}
 use Rattle.components.specs.declared.Phase.{Phase}
 use Rattle.components.specs.declared.Phase.the-variants.{Idle, MovingToStop, Repositioning, DoorOpening, Loading, DoorClosing, Stopped, Unknown}
+use Rattle.components.specs.Points.{pointOf}
 use Rattle.components.specs.Sheet.{Sheet}
 use Rattle.manifest.specs.World.{stopId, stopAt, stopPosition, goal, goalOf}
 use Rattle.manifest.specs.Manifest.{demandStop}
@@ -57,9 +60,20 @@ module _ (ids : List ℕ) (n id : ℕ) where
   unfolding lookup
   search-none k h l = let e : k ≡ 0 = omega arith in sym (h .so-far ∙ ap (lookup (λ j. eqb (getD ids j 0) id) (λ j. j) n) e)
 
+-- the point of stop j
+unfoldable pub pointIn : List Float → ℕ → Point
+pointIn xs j = pointOf (getD xs j nan) (getD xs (64 + j) nan)
+
+-- the second coordinates
+abbrev pub sidesOf : List Float → List Float
+sidesOf xs = drop 64 xs
+
+pub side-of : (xs : List Float) (j : ℕ) → getD (sidesOf xs) j nan ≡ getD xs (64 + j) nan
+side-of xs j = getD-drop 64 xs j nan
+
 -- where the stop of an index stands
 unfoldable pub placeAt : List Float → ℕ → ℕ → Place
-placeAt xs n j = cond (ltb j n) (At (getD xs j nan)) Nowhere
+placeAt xs n j = cond (ltb j n) (At (pointIn xs j)) Nowhere
 
 -- stop_position
 unfoldable pub positionIn : List ℕ → List Float → ℕ → ℕ → Place
@@ -70,7 +84,8 @@ positionIn ids xs n id = placeAt xs n (stopIndex ids n id)
 pub record HoldsStops (s : Sheet) (ids : List ℕ) (xs : List Float) (n : ℕ) : Type 0 where
   pub counted : n ≡ s .stops
   pub id-of : (j : ℕ) → j < n → getD ids j 0 ≡ stopId s j
-  pub at : (j : ℕ) → j < n → getD xs j nan ≡ stopAt s j
+  pub at : (j : ℕ) → j < n → getD xs j nan ≡ stopAt s j .along
+  pub side : (j : ℕ) → j < n → getD xs (64 + j) nan ≡ stopAt s j .across
 
 -- a mask that holds the demand stops of the group
 pub record HoldsDemand (s : Sheet) (mask n : ℕ) : Type 0 where
@@ -82,13 +97,13 @@ pub record DistinctStops (s : Sheet) : Type 0 where
 
 -- the index that a look-up gives is one that passes, or none does
 found : (p : ℕ → Bool) (xs : List Float) (n k : ℕ) → k ≤ n
-    → placeAt xs n (lookup p (λ j. j) n k) ≡ lookup p (λ j. At (getD xs j nan)) Nowhere k
+    → placeAt xs n (lookup p (λ j. j) n k) ≡ lookup p (λ j. At (pointIn xs j)) Nowhere k
 unfolding lookup placeAt
 found p xs n zero l = rw (le-ltb n n (omega arith))
 found p xs n (suc k) l = by (p k) (found p xs n k (omega arith))
   where
-    by : (b : Bool) → placeAt xs n (lookup p (λ j. j) n k) ≡ lookup p (λ j. At (getD xs j nan)) Nowhere k
-        → placeAt xs n (cond b k (lookup p (λ j. j) n k)) ≡ cond b (At (getD xs k nan)) (lookup p (λ j. At (getD xs j nan)) Nowhere k)
+    by : (b : Bool) → placeAt xs n (lookup p (λ j. j) n k) ≡ lookup p (λ j. At (pointIn xs j)) Nowhere k
+        → placeAt xs n (cond b k (lookup p (λ j. j) n k)) ≡ cond b (At (pointIn xs k)) (lookup p (λ j. At (pointIn xs j)) Nowhere k)
     by true h = rw (lt-ltb k n (omega arith))
     by false h = h
 
@@ -113,13 +128,17 @@ goalOf-cong f g h Stopped = refl
 goalOf-cong f g h Unknown = refl
 
 module _ (s : Sheet) (ids : List ℕ) (xs : List Float) (n : ℕ) (h : HoldsStops s ids xs n) where
+  pub point-is : (j : ℕ) → j < n → pointIn xs j ≡ stopAt s j
+  unfolding pointIn
+  point-is j l = ap₂ pointOf (h .at j l) (h .side j l)
+
   -- the place by the lists is the sheet's
   pub position-is : (id : ℕ) → positionIn ids xs n id ≡ stopPosition s id
   unfolding positionIn stopIndex stopPosition
   position-is id =
       found (λ j. eqb (getD ids j 0) id) xs n n (omega arith)
-      ∙ lookup-cong (λ j. eqb (getD ids j 0) id) (λ j. eqb (stopId s j) id) (λ j. At (getD xs j nan)) (λ j. At (stopAt s j)) Nowhere n
-      (λ k l. ap (λ (z : ℕ). eqb z id) (h .id-of k l)) (λ k l. ap At (h .at k l))
+      ∙ lookup-cong (λ j. eqb (getD ids j 0) id) (λ j. eqb (stopId s j) id) (λ j. At (pointIn xs j)) (λ j. At (stopAt s j)) Nowhere n
+      (λ k l. ap (λ (z : ℕ). eqb z id) (h .id-of k l)) (λ k l. ap At (point-is k l))
       ∙ ap (λ (z : ℕ). lookup (λ j. eqb (stopId s j) id) (λ j. At (stopAt s j)) Nowhere z) (h .counted)
 
   pub goal-is : (i : ℕ) → goalOf (positionIn ids xs n) (s .car i .phase) ≡ goal s i

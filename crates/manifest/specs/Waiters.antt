@@ -13,14 +13,14 @@ use Rattle.components.specs.declared.Place.the-variants.{At, Nowhere}
 use Rattle.manifest.specs.Stops.{positionIn}
 use Rattle.manifest.specs.declared.Waiters.{Waiters}
 
--- a rider at p bound for a place goes up, goes down; one whose destination is unknown does neither
+-- a rider at p bound for a place goes up, goes down; one whose destination is unknown does neither. F-12: "Directions .. use the first coordinate."
 abbrev pub goesUp : Float → Place → Bool
 goesUp p Nowhere = false
-goesUp p (At d) = lt p d
+goesUp p (At d) = lt p (d .along)
 
 abbrev pub goesDown : Float → Place → Bool
 goesDown p Nowhere = false
-goesDown p (At d) = lt d p
+goesDown p (At d) = lt (d .along) p
 
 abbrev pub staysLevel : Float → Place → Bool
 staysLevel p d = not (goesUp p d || goesDown p d)

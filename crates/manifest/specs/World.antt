@@ -2,9 +2,9 @@
 use Prim.Native.Nat.{ℕ}
 use mathlib.Core.Bool.{Bool}
 use lib.Dec.{eqb}
-use lib.Ieee.{Float}
 use Rattle.laws.specs.Folds.{any, lookup}
 use Rattle.mask.specs.Mask.{has}
+use Rattle.components.specs.declared.Point.{Point}
 use Rattle.components.specs.declared.Place.{Place}
 use Rattle.components.specs.declared.Place.the-variants.{At, Nowhere}
 use Rattle.components.specs.declared.Phase.{Phase}
@@ -26,7 +26,7 @@ module _ (s : Sheet) where
   abbrev pub stopId : ℕ → ℕ
   stopId j = s .stop j .id
 
-  abbrev pub stopAt : ℕ → Float
+  abbrev pub stopAt : ℕ → Point
   stopAt j = s .stop j .position
 
   -- stop_position: "Phase and target stops, destinations and a required line may name ids without a record; such a stop has no position."

@@ -1,12 +1,14 @@
-// What waits where: manifest.rs, and the look-ups of world.rs and the group that the costs share. Stops are two lists, of ids and of positions.
+// What waits where: manifest.rs, and the look-ups of world.rs and the group that the costs share. Stops are two lists, of ids and
+// of coordinates: 64 first ones, then 64 second ones.
 ghost use mathlib.Core.Path.{_≡_};
-ghost use Prim.Native.Nat.{_≤_, _<_};
+ghost use Prim.Native.Nat.{_+_, _≤_, _<_};
 ghost use lib.ListN.{length};
 ghost use Rattle.manifest.specs.World.{goalOf};
-ghost use Rattle.manifest.specs.Stops.{stopIndex, placeAt, positionIn};
+ghost use Rattle.manifest.specs.Stops.{stopIndex, pointIn, placeAt, positionIn};
 ghost use Rattle.manifest.specs.Waiters.{goesUp, goesDown, lesserIf, nobody, withRider, meet, waitersIn};
 use components::Phase;
 use components::Place;
+use components::Point;
 
 // The index of the stop with this id, n where there is none.
 pub fn stop_index(ids: &[u32], n: usize, id: u32) -> usize
@@ -23,13 +25,24 @@ pub fn stop_index(ids: &[u32], n: usize, id: u32) -> usize
     n
 }
 
+// The point of stop j.
+pub fn point(xs: &[f64], j: usize) -> Point
+    requires { ⌜ 64 + j < length (now xs) ⌝ }
+    ensures { λ r. ⌜ r ≡ pointIn (now (xs .entry)) j ⌝ }
+{
+    Point {
+        along: xs[j],
+        across: xs[64 + j],
+    }
+}
+
 // Where the stop of an index stands.
 fn place(xs: &[f64], n: usize, index: usize) -> Place
-    requires { ⌜ n ≤ length (now xs) ⌝ }
+    requires { ⌜ 64 + n ≤ length (now xs) ⌝ }
     ensures { λ r. ⌜ r ≡ placeAt (now (xs .entry)) n index ⌝ }
 {
     if index < n {
-        Place::At(xs[index])
+        Place::At(point(xs, index))
     } else {
         Place::Nowhere
     }
@@ -37,7 +50,7 @@ fn place(xs: &[f64], n: usize, index: usize) -> Place
 
 // stop_position: where the stop with this id stands.
 fn stop_position(ids: &[u32], xs: &[f64], n: usize, id: u32) -> Place
-    requires { ⌜ (n ≤ length (now ids)) × (n ≤ length (now xs)) ⌝ }
+    requires { ⌜ (n ≤ length (now ids)) × (64 + n ≤ length (now xs)) ⌝ }
     ensures { λ r. ⌜ r ≡ positionIn (now (ids .entry)) (now (xs .entry)) n id ⌝ }
 {
     let index = stop_index(ids, n, id);
@@ -46,7 +59,7 @@ fn stop_position(ids: &[u32], xs: &[f64], n: usize, id: u32) -> Place
 
 // Where a car in this phase moves to: the position of its moving_target.
 pub fn goal(ids: &[u32], xs: &[f64], n: usize, phase: Phase) -> Place
-    requires { ⌜ (n ≤ length (now ids)) × (n ≤ length (now xs)) ⌝ }
+    requires { ⌜ (n ≤ length (now ids)) × (64 + n ≤ length (now xs)) ⌝ }
     ensures { λ r. ⌜ r ≡ goalOf (positionIn (now (ids .entry)) (now (xs .entry)) n) phase ⌝ }
 {
     match phase {
@@ -78,7 +91,7 @@ fn goes_up(p: f64, place: Place) -> bool
 {
     match place {
         Place::Nowhere => false,
-        Place::At(d) => p < d,
+        Place::At(d) => p < d.along,
     }
 }
 
@@ -87,7 +100,7 @@ fn goes_down(p: f64, place: Place) -> bool
 {
     match place {
         Place::Nowhere => false,
-        Place::At(d) => d < p,
+        Place::At(d) => d.along < p,
     }
 }
 
@@ -148,7 +161,7 @@ impl Waiters {
         weight: f64,
         wait: u64,
     ) -> Self
-        requires { ⌜ (n ≤ length (now ids)) × (n ≤ length (now xs)) ⌝ }
+        requires { ⌜ (n ≤ length (now ids)) × (64 + n ≤ length (now xs)) ⌝ }
         ensures { λ r. ⌜ r ≡ meet (now (ids .entry)) (now (xs .entry)) n id p self stop dest weight wait ⌝ }
     {
         if stop == id {
@@ -173,7 +186,7 @@ pub fn waiters_at(
     wwait: &[u64],
     nw: usize,
 ) -> Waiters
-    requires { ⌜ (n ≤ length (now ids)) × (n ≤ length (now xs)) × (j < n) × (nw ≤ length (now wstop)) × (nw ≤ length (now wdest))
+    requires { ⌜ (n ≤ length (now ids)) × (64 + n ≤ length (now xs)) × (j < n) × (nw ≤ length (now wstop)) × (nw ≤ length (now wdest))
         × (nw ≤ length (now wweight)) × (nw ≤ length (now wwait)) ⌝ }
     ensures { λ r. ⌜ r ≡ waitersIn (now (ids .entry)) (now (xs .entry)) n j call (now (wstop .entry)) (now (wdest .entry)) (now (wweight .entry))
         (now (wwait .entry)) nw ⌝ }

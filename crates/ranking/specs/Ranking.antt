@@ -3,8 +3,7 @@ use Prim.Native.Nat.{ℕ}
 use mathlib.Core.Bool.{Bool, false, not, _&&_, cond}
 use mathlib.Core.List.{List}
 use lib.Dec.{eqb}
-use lib.ListN.{getD}
-use lib.Ieee.{Float, nan}
+use lib.Ieee.{Float}
 use Rattle.mask.specs.Mask.{has}
 use Rattle.scale.specs.Scale.{sentinel}
 use Rattle.components.specs.declared.Car.{Car}
@@ -12,6 +11,7 @@ use Rattle.components.specs.declared.Strategy.{Strategy}
 use Rattle.components.specs.declared.Rank.{Rank}
 use Rattle.components.specs.declared.Rank.the-variants.{Never}
 use Rattle.manifest.specs.declared.Waiters.{Waiters}
+use Rattle.manifest.specs.Stops.{pointIn}
 use Rattle.sweep.specs.declared.Sweep.{Sweep}
 use Rattle.sweep.specs.Sweeps.{sweepOf}
 use Rattle.scan.specs.Scan.{preparedBy, rankOf}
@@ -23,26 +23,26 @@ use Rattle.ranking.specs.declared.Row.{Row}
 
 unfoldable pub scanBy : Row → List Float → Waiters → List Float → ℕ → Rank
 scanBy row dests v xs j =
-    rankOf (row .sweep) (usefulBy (row .car) (row .goal) (row .riders) dests v (has (row .riders .exits) j) (getD xs j nan) false)
-    (row .car .position) (getD xs j nan)
+    rankOf (row .sweep) (usefulBy (row .car) (row .goal) (row .riders) dests v (has (row .riders .exits) j) (pointIn xs j .along) false)
+    (row .car .position) (pointIn xs j)
 
-unfoldable pub rankBy : Row → List Float → Waiters → List Float → ℕ → ℕ → Rank
-rankBy row dests v xs n j =
+unfoldable pub rankBy : Row → List Float → List Float → Waiters → List Float → ℕ → ℕ → Rank
+rankBy row dests sides v xs n j =
     byStrategy (row .policy .strategy)
-    (etdBy (row .policy) (row .car) (row .goal) (row .riders) dests v (row .demand) xs n j)
+    (etdBy (row .policy) (row .car) (row .goal) (row .riders) dests sides v (row .demand) xs n j)
     (rsrBy (row .policy) (row .car) (row .goal) (row .riders) dests v xs j)
     (scanBy row dests v xs j)
     Never
 
-unfoldable pub cellBy : Row → List Float → Waiters → List Float → ℕ → ℕ → ℕ
-cellBy row dests v xs n j = cond (has (row .kept) j) (rankCell (rankBy row dests v xs n j)) sentinel
+unfoldable pub cellBy : Row → List Float → List Float → Waiters → List Float → ℕ → ℕ → ℕ
+cellBy row dests sides v xs n j = cond (has (row .kept) j) (rankCell (rankBy row dests sides v xs n j)) sentinel
 
-unfoldable pub heldBy : Row → List Float → Waiters → List Float → ℕ → ℕ → Bool
-heldBy row dests v xs n j = has (row .kept) j && rankHeld (rankBy row dests v xs n j)
+unfoldable pub heldBy : Row → List Float → List Float → Waiters → List Float → ℕ → ℕ → Bool
+heldBy row dests sides v xs n j = has (row .kept) j && rankHeld (rankBy row dests sides v xs n j)
 
 -- a mask of pending stops that is not empty
 unfoldable pub sweepBy : Strategy → Car → ℕ → ℕ → List Float → ℕ → Sweep
 sweepBy strategy car pending demand xs n =
     byStrategy strategy (sweepOf car) (sweepOf car)
-    (cond (car .listed && not (eqb pending 0)) (preparedBy (sweepOf car) (car .position) demand xs n) (sweepOf car))
+    (cond (car .listed && not (eqb pending 0)) (preparedBy (sweepOf car) (car .position .along) demand xs n) (sweepOf car))
     (sweepOf car)

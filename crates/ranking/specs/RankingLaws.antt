@@ -13,7 +13,7 @@ use Rattle.components.specs.declared.Rank.the-variants.{Never}
 use Rattle.components.specs.Sheet.{Sheet}
 use Rattle.manifest.specs.declared.Waiters.{Waiters}
 use Rattle.manifest.specs.World.{goal}
-use Rattle.manifest.specs.Stops.{HoldsStops, HoldsDemand}
+use Rattle.manifest.specs.Stops.{HoldsStops, HoldsDemand, point-is}
 use Rattle.scan.specs.Scan.{preparedSweep, rankOf, scanRank}
 use Rattle.scan.specs.ScanLaws.{prepared-is}
 use Rattle.dispatch.specs.WaitersLaws.{HoldsWaiters, Weighed}
@@ -32,12 +32,12 @@ use Rattle.ranking.specs.Ranking.{scanBy, rankBy, cellBy, heldBy, sweepB
 use Rattle.sweep.specs.Sweeps.{sweepOf}
 
 -- a row holds car i's part of the sheet, under a limit
-pub record HoldsRow (s : Sheet) (i limit : ℕ) (row : Row) (dests : List Float) : Type 0 where
+pub record HoldsRow (s : Sheet) (i limit : ℕ) (row : Row) (dests sides : List Float) : Type 0 where
   pub policy : row .policy ≡ s .policy
   pub car : row .car ≡ s .car i
   pub sweep : row .sweep ≡ sweepAfter s i
   pub goal-is : row .goal ≡ goal s i
-  pub riders : HoldsRiders s i (row .riders) dests
+  pub riders : HoldsRiders s i (row .riders) dests sides
   pub demand : HoldsDemand s (row .demand) (s .stops)
   pub kept-is : (j : ℕ) → j < s .stops → has (row .kept) j ≡ kept s i limit j
 
@@ -59,32 +59,32 @@ by-parts Scan d x y z p q r = r
 by-parts Unknown d x y z p q r = refl
 
 module _ (s : Sheet) (ids : List ℕ) (xs : List Float) (hs : HoldsStops s ids xs (s .stops)) (i limit : ℕ) (weighed : Weighed s i)
-    (row : Row) (dests : List Float) (h : HoldsRow s i limit row dests) (j : ℕ) (v : Waiters) (hv : HoldsWaiters s j v) (l : j < s .stops) where
+    (row : Row) (dests sides : List Float) (h : HoldsRow s i limit row dests sides) (j : ℕ) (v : Waiters) (hv : HoldsWaiters s j v) (l : j < s .stops) where
   scan-is : scanBy row dests v xs j ≡ scanRank s (sweepAfter s i) i j
   unfolding scanBy rankOf scanRank
   scan-is =
-      rw (h .sweep, h .car, h .goal-is, hs .at j l, useful-is s i j weighed (row .riders) dests (h .riders) v hv false l)
+      rw (h .sweep, h .car, h .goal-is, point-is s ids xs (s .stops) hs j l, useful-is s i j weighed (row .riders) dests sides (h .riders) v hv false l)
 
-  pub rank-is : rankBy row dests v xs (s .stops) j ≡ rank s i j
+  pub rank-is : rankBy row dests sides v xs (s .stops) j ≡ rank s i j
   unfolding rankBy rank
   rank-is =
       ap
       (λ (t : Strategy). byStrategy t
-      (etdBy (row .policy) (row .car) (row .goal) (row .riders) dests v (row .demand) xs (s .stops) j)
+      (etdBy (row .policy) (row .car) (row .goal) (row .riders) dests sides v (row .demand) xs (s .stops) j)
       (rsrBy (row .policy) (row .car) (row .goal) (row .riders) dests v xs j)
       (scanBy row dests v xs j) Never)
       (ap (λ (p : Policy). p .strategy) (h .policy))
       ∙ by-parts (s .policy .strategy) Never (etdRank s i j) (rsrRank s i j) (scanRank s (sweepAfter s i) i j)
       (rw (h .policy, h .car, h .goal-is)
-      (etd-is s ids xs (s .stops) (row .demand) hs (h .demand) i j (row .riders) dests (h .riders) weighed v hv l))
-      (rw (h .policy, h .car, h .goal-is) (rsr-is s ids xs (s .stops) hs i j (row .riders) dests (h .riders) v hv weighed l))
+      (etd-is s ids xs (s .stops) (row .demand) hs (h .demand) i j (row .riders) dests sides (h .riders) weighed v hv l))
+      (rw (h .policy, h .car, h .goal-is) (rsr-is s ids xs (s .stops) hs i j (row .riders) dests sides (h .riders) v hv weighed l))
       scan-is
 
-  pub cell-is : cellBy row dests v xs (s .stops) j ≡ cell s limit i j
+  pub cell-is : cellBy row dests sides v xs (s .stops) j ≡ cell s limit i j
   unfolding cellBy cell
   cell-is = rw (h .kept-is j l, rank-is)
 
-  pub held-is : heldBy row dests v xs (s .stops) j ≡ heldCell s limit i j
+  pub held-is : heldBy row dests sides v xs (s .stops) j ≡ heldCell s limit i j
   unfolding heldBy heldCell
   held-is = rw (h .kept-is j l, rank-is)
 

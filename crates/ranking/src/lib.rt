@@ -1,6 +1,6 @@
 // The rank of a pair by the sheet's strategy, its cell, and a row of cells.
 ghost use mathlib.Core.Path.{_≡_};
-ghost use Prim.Native.Nat.{_<_, _≤_};
+ghost use Prim.Native.Nat.{_+_, _<_, _≤_};
 ghost use lib.ListN.{length};
 ghost use Rattle.assignment.specs.Cells.{rankCell, rankHeld};
 ghost use Rattle.ranking.specs.Ranking.{scanBy, rankBy, cellBy, heldBy, sweepBy};
@@ -27,16 +27,16 @@ pub struct Row {
 
 // scan.rs's rank of stop j.
 fn scan_rank<'a>(row: Row, dests: &'a [f64], waiters: Waiters, xs: &'a [f64], j: usize) -> Rank
-    requires { ⌜ (row .riders .count ≤ length (now dests)) × (j < 64) × (j < length (now xs)) ⌝ }
+    requires { ⌜ (row .riders .count ≤ length (now dests)) × (j < 64) × (64 + j < length (now xs)) ⌝ }
     ensures { λ r. ⌜ r ≡ scanBy row (now (dests .entry)) waiters (now (xs .entry)) j ⌝ }
 {
     let car = row.car;
     let goal = row.goal;
     let riders = row.riders;
     let sweep = row.sweep;
-    let p = xs[j];
+    let p = manifest::point(xs, j);
     let here = mask::has(riders.exits, j);
-    let useful = dispatch::pair_is_useful(car, goal, riders, dests, waiters, here, p, false);
+    let useful = dispatch::pair_is_useful(car, goal, riders, dests, waiters, here, p.along, false);
     scan::rank(sweep, useful, car.position, p)
 }
 
@@ -44,13 +44,15 @@ fn scan_rank<'a>(row: Row, dests: &'a [f64], waiters: Waiters, xs: &'a [f64], j:
 pub fn rank<'a>(
     row: Row,
     dests: &'a [f64],
+    sides: &'a [f64],
     waiters: Waiters,
     xs: &'a [f64],
     n: usize,
     j: usize,
 ) -> Rank
-    requires { ⌜ (row .riders .count ≤ length (now dests)) × (n ≤ 64) × (n ≤ length (now xs)) × (j < n) ⌝ }
-    ensures { λ r. ⌜ r ≡ rankBy row (now (dests .entry)) waiters (now (xs .entry)) n j ⌝ }
+    requires { ⌜ (row .riders .count ≤ length (now dests)) × (row .riders .count ≤ length (now sides)) × (n ≤ 64)
+        × (64 + n ≤ length (now xs)) × (j < n) ⌝ }
+    ensures { λ r. ⌜ r ≡ rankBy row (now (dests .entry)) (now (sides .entry)) waiters (now (xs .entry)) n j ⌝ }
 {
     let policy = row.policy;
     let car = row.car;
@@ -64,6 +66,7 @@ pub fn rank<'a>(
             goal,
             riders,
             dests,
+            sides,
             waiters,
             row.demand,
             xs,
@@ -90,17 +93,19 @@ fn rank_cell(rank: Rank) -> Scaled
 pub fn cell<'a>(
     row: Row,
     dests: &'a [f64],
+    sides: &'a [f64],
     waiters: Waiters,
     xs: &'a [f64],
     n: usize,
     j: usize,
 ) -> Scaled
-    requires { ⌜ (row .riders .count ≤ length (now dests)) × (n ≤ 64) × (n ≤ length (now xs)) × (j < n) ⌝ }
-    ensures { λ r. ⌜ (r .cell ≡ cellBy row (now (dests .entry)) waiters (now (xs .entry)) n j)
-        × (r .held ≡ heldBy row (now (dests .entry)) waiters (now (xs .entry)) n j) ⌝ }
+    requires { ⌜ (row .riders .count ≤ length (now dests)) × (row .riders .count ≤ length (now sides)) × (n ≤ 64)
+        × (64 + n ≤ length (now xs)) × (j < n) ⌝ }
+    ensures { λ r. ⌜ (r .cell ≡ cellBy row (now (dests .entry)) (now (sides .entry)) waiters (now (xs .entry)) n j)
+        × (r .held ≡ heldBy row (now (dests .entry)) (now (sides .entry)) waiters (now (xs .entry)) n j) ⌝ }
 {
     if mask::has(row.kept, j) {
-        rank_cell(rank(row, dests, waiters, xs, n, j))
+        rank_cell(rank(row, dests, sides, waiters, xs, n, j))
     } else {
         scale::no_rank()
     }
@@ -124,7 +129,7 @@ pub fn sweep_after(
         Strategy::Rsr => sweep,
         Strategy::Scan => {
             if car.listed & (pending != 0) {
-                scan::prepare(sweep, car.position, demand, xs, n)
+                scan::prepare(sweep, car.position.along, demand, xs, n)
             } else {
                 sweep
             }

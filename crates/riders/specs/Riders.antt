@@ -1,5 +1,5 @@
 -- The riders of a car, as one value that does not depend on a stop: the stops they are bound for as a mask, whether any has a destination, and the
--- known positions of their destinations, in record order, in a lent buffer. Assumes nothing.
+-- known points of their destinations, in record order, in two lent buffers, of first and of second coordinates. Assumes nothing.
 use Prim.Native.Nat.{ℕ, _+_, _<_, _≤_}
 use native.Mathlib.Omega.{arith}
 use mathlib.Core.Path.{_≡_, refl, sym, ap, _∙_}
@@ -13,7 +13,7 @@ use Rattle.laws.specs.Folds.{any, any-next, none-any, count, count-step, count-
 use Rattle.laws.specs.Collected.{collected, collected-take, collected-skip, collected-length}
 use Rattle.mask.specs.Mask.{has, built}
 use Rattle.mask.specs.MaskLaws.{built-cong, has-built, none-built}
-use Rattle.manifest.specs.Stops.{stopIndex}
+use Rattle.manifest.specs.Stops.{stopIndex, sidesOf}
 use Rattle.riders.specs.declared.Riders.{Riders}
 
 -- ---- one rider: in the car with this id, bound for a stop of the lists
@@ -44,7 +44,7 @@ module _ (ids : List ℕ) (n : ℕ) (acar adest : List ℕ) (id : ℕ) where
   unfoldable pub exitsIn : ℕ → ℕ
   exitsIn na = built (exitsAt na) 64
 
-  -- where its riders are bound for, those whose destination has a record, in record order
+  -- where its riders are bound for, those whose destination has a record, in record order: of coordinates xs of the stops
   unfoldable pub destsIn : List Float → ℕ → List Float
   destsIn xs na = collected knownAt (λ a. getD xs (stopIndex ids n (getD adest a 0)) nan) na
 
@@ -55,16 +55,17 @@ unfoldable pub ridersIn : List ℕ → ℕ → List ℕ → List ℕ → ℕ →
 ridersIn ids n acar adest id na =
     record { count = count (knownAt ids n acar adest id) na; exits = exitsIn ids n acar adest id na; routed = routedIn acar adest id na }
 
--- what a store of one rider's destination leaves: the number of those known, and the buffer
+-- what a store of one coordinate of a rider's destination leaves: the number of those known, and the buffer
 pub record Seated (ids : List ℕ) (xs : List Float) (n id car dest at : ℕ) (entry : List Float) (r : ℕ) (exit : List Float) : Type 0 where
   pub counted : r ≡ at + bit (known ids n id car dest)
   pub stored : exit ≡ cond (known ids n id car dest) (set entry at (getD xs (stopIndex ids n dest) nan)) entry
 
--- the riders of a car, and the buffer: the known positions, then what it held past them
-pub record Seats (ids : List ℕ) (xs : List Float) (n : ℕ) (acar adest : List ℕ) (na id : ℕ) (entry : List Float) (r : Riders)
-    (exit : List Float) : Type 0 where
+-- the riders of a car, and the buffers: the known first and second coordinates, then what each held past them
+pub record Seats (ids : List ℕ) (xs : List Float) (n : ℕ) (acar adest : List ℕ) (na id : ℕ) (dests sides : List Float) (r : Riders)
+    (dests′ sides′ : List Float) : Type 0 where
   pub answered : r ≡ ridersIn ids n acar adest id na
-  pub held : exit ≡ destsIn ids n acar adest id xs na ++ drop (r .count) entry
+  pub held : dests′ ≡ destsIn ids n acar adest id xs na ++ drop (r .count) dests
+  pub aside : sides′ ≡ destsIn ids n acar adest id (sidesOf xs) na ++ drop (r .count) sides
 
 -- ---- the turns of the loops
 
@@ -93,7 +94,7 @@ module _ (ids : List ℕ) (n : ℕ) (acar adest : List ℕ) (id : ℕ) where
       (λ j l. any-next (λ b. knownAt ids n acar adest id b && eqb j (stopIndex ids n (getD adest b 0))) a))
 
 module _ (ids : List ℕ) (xs : List Float) (n : ℕ) (acar adest : List ℕ) (id : ℕ) where
-  -- the buffer after a records
+  -- a buffer after a records
   pub record Seating (a at : ℕ) (entry now : List Float) : Type 0 where
     pub counted : at ≡ count (knownAt ids n acar adest id) a
     pub held : now ≡ destsIn ids n acar adest id xs a ++ drop at entry

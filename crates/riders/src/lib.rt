@@ -1,7 +1,8 @@
 // The riders of a car: world.rs's riders of an elevator, and the destinations of their routes.
 ghost use mathlib.Core.Path.{_≡_};
-ghost use Prim.Native.Nat.{_≤_, _<_};
+ghost use Prim.Native.Nat.{_+_, _≤_, _<_};
 ghost use lib.ListN.{length};
+ghost use Rattle.manifest.specs.Stops.{sidesOf};
 ghost use Rattle.riders.specs.Riders.{withExit, exitsIn, routed, routedIn, Seated, Seating, Seats};
 
 // The riders of a car: how many destinations have a position, the stops they are bound for, and whether any has a route. It depends on no stop.
@@ -63,7 +64,7 @@ fn any_routed(acar: &[u32], adest: &[u32], na: usize, id: u32) -> bool
     false
 }
 
-// The position that a rider of the car is bound for, stored where the destination has one; how many are stored.
+// The point that a rider of the car is bound for, stored where the destination has one; how many are stored.
 fn seat(
     ids: &[u32],
     xs: &[f64],
@@ -72,15 +73,18 @@ fn seat(
     car: u32,
     dest: u32,
     dests: &mut [f64],
+    sides: &mut [f64],
     at: usize,
 ) -> usize
-    requires { ⌜ (n ≤ length (now ids)) × (n ≤ length (now xs)) × (at < length (now dests)) ⌝ }
-    ensures { λ r. ⌜ Seated (now (ids .entry)) (now (xs .entry)) n id car dest at (now (dests .entry)) r (now (dests .exit)) ⌝ }
+    requires { ⌜ (n ≤ length (now ids)) × (64 + n ≤ length (now xs)) × (at < length (now dests)) × (at < length (now sides)) ⌝ }
+    ensures { λ r. ⌜ Seated (now (ids .entry)) (now (xs .entry)) n id car dest at (now (dests .entry)) r (now (dests .exit))
+        × Seated (now (ids .entry)) (sidesOf (now (xs .entry))) n id car dest at (now (sides .entry)) r (now (sides .exit)) ⌝ }
 {
     if car == id {
         let index = manifest::stop_index(ids, n, dest);
         if index < n {
             dests[at] = xs[index];
+            sides[at] = xs[64 + index];
             at + 1
         } else {
             at
@@ -90,7 +94,7 @@ fn seat(
     }
 }
 
-// The known positions that riders of the car are bound for, in record order; how many there are.
+// The known points that riders of the car are bound for, in record order; how many there are.
 fn destinations(
     ids: &[u32],
     xs: &[f64],
@@ -100,22 +104,24 @@ fn destinations(
     na: usize,
     id: u32,
     dests: &mut [f64],
+    sides: &mut [f64],
 ) -> usize
-    requires { ⌜ (n ≤ length (now ids)) × (n ≤ length (now xs)) × (na ≤ length (now acar)) × (na ≤ length (now adest))
-        × (na ≤ length (now dests)) ⌝ }
+    requires { ⌜ (n ≤ length (now ids)) × (64 + n ≤ length (now xs)) × (na ≤ length (now acar)) × (na ≤ length (now adest))
+        × (na ≤ length (now dests)) × (na ≤ length (now sides)) ⌝ }
     ensures { λ r. ⌜ Seating (now (ids .entry)) (now (xs .entry)) n (now (acar .entry)) (now (adest .entry)) id na r (now (dests .entry))
-        (now (dests .exit)) ⌝ }
+        (now (dests .exit)) × Seating (now (ids .entry)) (sidesOf (now (xs .entry))) n (now (acar .entry)) (now (adest .entry)) id na r
+        (now (sides .entry)) (now (sides .exit)) ⌝ }
 {
     let mut at = 0;
     let mut a = 0;
     while a < na {
-        at = seat(ids, xs, n, id, acar[a], adest[a], dests, at);
+        at = seat(ids, xs, n, id, acar[a], adest[a], dests, sides, at);
         a += 1;
     }
     at
 }
 
-// The riders of the car with this id; dests holds the known positions they are bound for.
+// The riders of the car with this id; dests and sides hold the known points they are bound for.
 pub fn riders_of(
     ids: &[u32],
     xs: &[f64],
@@ -125,13 +131,14 @@ pub fn riders_of(
     na: usize,
     id: u32,
     dests: &mut [f64],
+    sides: &mut [f64],
 ) -> Riders
-    requires { ⌜ (n ≤ length (now ids)) × (n ≤ length (now xs)) × (n ≤ 64) × (na ≤ length (now acar)) × (na ≤ length (now adest))
-        × (na ≤ length (now dests)) ⌝ }
-    ensures { λ r. ⌜ Seats (now (ids .entry)) (now (xs .entry)) n (now (acar .entry)) (now (adest .entry)) na id (now (dests .entry)) r
-        (now (dests .exit)) ⌝ }
+    requires { ⌜ (n ≤ length (now ids)) × (64 + n ≤ length (now xs)) × (n ≤ 64) × (na ≤ length (now acar)) × (na ≤ length (now adest))
+        × (na ≤ length (now dests)) × (na ≤ length (now sides)) ⌝ }
+    ensures { λ r. ⌜ Seats (now (ids .entry)) (now (xs .entry)) n (now (acar .entry)) (now (adest .entry)) na id (now (dests .entry))
+        (now (sides .entry)) r (now (dests .exit)) (now (sides .exit)) ⌝ }
 {
-    let count = destinations(ids, xs, n, acar, adest, na, id, dests);
+    let count = destinations(ids, xs, n, acar, adest, na, id, dests, sides);
     let exits = exits(ids, n, acar, adest, na, id);
     let routed = any_routed(acar, adest, na, id);
     Riders {

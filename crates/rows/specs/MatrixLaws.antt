@@ -28,7 +28,7 @@ use Rattle.layout.specs.Records.{sheetOf}
 use Rattle.cars.specs.Cars.{noCar, HoldsCars}
 use Rattle.manifest.specs.World.{goalOf}
 use Rattle.manifest.specs.declared.Waiters.{Waiters}
-use Rattle.manifest.specs.Stops.{HoldsStops, positionIn}
+use Rattle.manifest.specs.Stops.{HoldsStops, sidesOf, positionIn}
 use Rattle.riders.specs.declared.Riders.{Riders}
 use Rattle.riders.specs.Riders.{ridersIn, destsIn}
 use Rattle.dispatch.specs.WaitersLaws.{Weighed, HoldsWaiters}
@@ -97,41 +97,41 @@ module _ (s : Sheet) (few : s .stops ≤ 64) (mask : ℕ) (e : mask ≡ stopMask
   -- ---- the cells
 
   pub cells-are : (ids : List ℕ) (xs : List Float) → HoldsStops s ids xs (s .stops) → (r limit : ℕ) → Weighed s (rowCar s r)
-      → (row : Row) (dests : List Float) → HoldsRow s (rowCar s r) limit row dests → (waiters : List Waiters)
+      → (row : Row) (dests sides : List Float) → HoldsRow s (rowCar s r) limit row dests sides → (waiters : List Waiters)
       → ((j : ℕ) → j < s .stops → HoldsWaiters s j (getD waiters j noWaiters)) → (k : ℕ)
-      → padded (rowCell row dests waiters xs (s .stops) stops) (stops .count) k ≡ matrix s limit r k
+      → padded (rowCell row dests sides waiters xs (s .stops) stops) (stops .count) k ≡ matrix s limit r k
   unfolding padded rowCell matrix
-  cells-are ids xs hs r limit weighed row dests hr waiters hw k =
+  cells-are ids xs hs r limit weighed row dests sides hr waiters hw k =
       let same = listed-count in
       ⊎-elim
       (λ (l : k < stops .count).
       let b = column-below k l in
       rw (lt-ltb k (stops .count) l, lt-ltb k (pendingStops s) (omega arith), listed-stop k l)
-      (cell-is s ids xs hs (rowCar s r) limit weighed row dests hr (columnStop s k) (getD waiters (columnStop s k) noWaiters)
+      (cell-is s ids xs hs (rowCar s r) limit weighed row dests sides hr (columnStop s k) (getD waiters (columnStop s k) noWaiters)
       (hw (columnStop s k) b) b))
       (λ (l : stops .count ≤ k). rw (le-ltb k (stops .count) l, le-ltb k (pendingStops s) (omega arith)))
       (less? k (stops .count))
 
   pub row-is : (ids : List ℕ) (xs : List Float) → HoldsStops s ids xs (s .stops) → (r limit : ℕ) → Weighed s (rowCar s r)
-      → (row : Row) (dests : List Float) → HoldsRow s (rowCar s r) limit row dests → (waiters : List Waiters)
+      → (row : Row) (dests sides : List Float) → HoldsRow s (rowCar s r) limit row dests sides → (waiters : List Waiters)
       → ((j : ℕ) → j < s .stops → HoldsWaiters s j (getD waiters j noWaiters)) → (n : ℕ)
-      → tab (padded (rowCell row dests waiters xs (s .stops) stops) (stops .count)) n ≡ tab (matrix s limit r) n
-  row-is ids xs hs r limit weighed row dests hr waiters hw n =
-      tab-cong (padded (rowCell row dests waiters xs (s .stops) stops) (stops .count)) (matrix s limit r) n
-      (λ k l. cells-are ids xs hs r limit weighed row dests hr waiters hw k)
+      → tab (padded (rowCell row dests sides waiters xs (s .stops) stops) (stops .count)) n ≡ tab (matrix s limit r) n
+  row-is ids xs hs r limit weighed row dests sides hr waiters hw n =
+      tab-cong (padded (rowCell row dests sides waiters xs (s .stops) stops) (stops .count)) (matrix s limit r) n
+      (λ k l. cells-are ids xs hs r limit weighed row dests sides hr waiters hw k)
 
   -- so many are held
   pub held-are : (ids : List ℕ) (xs : List Float) → HoldsStops s ids xs (s .stops) → (r limit : ℕ) → Weighed s (rowCar s r)
-      → (row : Row) (dests : List Float) → HoldsRow s (rowCar s r) limit row dests → (waiters : List Waiters)
+      → (row : Row) (dests sides : List Float) → HoldsRow s (rowCar s r) limit row dests sides → (waiters : List Waiters)
       → ((j : ℕ) → j < s .stops → HoldsWaiters s j (getD waiters j noWaiters))
-      → count (rowHeld row dests waiters xs (s .stops) stops) (stops .count) ≡ heldInRow s limit r
+      → count (rowHeld row dests sides waiters xs (s .stops) stops) (stops .count) ≡ heldInRow s limit r
   unfolding rowHeld
-  held-are ids xs hs r limit weighed row dests hr waiters hw =
-      count-cong (rowHeld row dests waiters xs (s .stops) stops) (λ c. heldCell s limit (rowCar s r) (columnStop s c)) (stops .count)
+  held-are ids xs hs r limit weighed row dests sides hr waiters hw =
+      count-cong (rowHeld row dests sides waiters xs (s .stops) stops) (λ c. heldCell s limit (rowCar s r) (columnStop s c)) (stops .count)
       (λ k l.
       let b = column-below k l in
       rw (listed-stop k l)
-      (held-is s ids xs hs (rowCar s r) limit weighed row dests hr (columnStop s k) (getD waiters (columnStop s k) noWaiters)
+      (held-is s ids xs hs (rowCar s r) limit weighed row dests sides hr (columnStop s k) (getD waiters (columnStop s k) noWaiters)
       (hw (columnStop s k) b) b))
       ∙ ap (count (λ c. heldCell s limit (rowCar s r) (columnStop s c))) listed-count ∙ sym (held-in-row s limit r)
 
@@ -165,14 +165,16 @@ unfolding rowFor
 row-for-is s ids xs acar adest masks limit policy car sweep goal riders kept ep er eg es ek = rw (es, ep, er, eg, ek) refl
 
 -- it is the row of the record that the car is
-pub record RowOf (s : Sheet) (limit : ℕ) (car : Car) (row : Row) (dests : List Float) : Type 0 where
-  pub held : (i : ℕ) → car ≡ s .car i → HoldsRow s i limit row dests
+pub record RowOf (s : Sheet) (limit : ℕ) (car : Car) (row : Row) (dests sides : List Float) : Type 0 where
+  pub held : (i : ℕ) → car ≡ s .car i → HoldsRow s i limit row dests sides
 
 pub row-of : (s : Sheet) (ids : List ℕ) (xs : List Float) (acar adest : List ℕ) (masks : StopMasks) → Held s ids xs acar adest masks
-    → (limit : ℕ) (car : Car) (row : Row) (entry : List Float) {dests : List Float} → row ≡ rowFor s ids xs acar adest masks limit car
-    → dests ≡ destsIn ids (s .stops) acar adest (car .id) xs (s .aboards) ++ drop (row .riders .count) entry → RowOf s limit car row dests
+    → (limit : ℕ) (car : Car) (row : Row) (entry side-entry : List Float) {dests sides : List Float} → row ≡ rowFor s ids xs acar adest masks limit car
+    → dests ≡ destsIn ids (s .stops) acar adest (car .id) xs (s .aboards) ++ drop (row .riders .count) entry
+    → sides ≡ destsIn ids (s .stops) acar adest (car .id) (sidesOf xs) (s .aboards) ++ drop (row .riders .count) side-entry
+    → RowOf s limit car row dests sides
 unfolding rowFor
-row-of s ids xs acar adest masks h limit car row entry er ed =
+row-of s ids xs acar adest masks h limit car row entry side-entry er ed es =
     let riders : row .riders ≡ ridersIn ids (s .stops) acar adest (car .id) (s .aboards) = ap (λ (r : Row). r .riders) er in
     record {
       held = λ i e.
@@ -181,7 +183,7 @@ row-of s ids xs acar adest masks h limit car row entry er ed =
           (sweepBy (s .policy .strategy) car (masks .pending) (masks .demand) xs (s .stops))
           (goalOf (positionIn ids xs (s .stops)) (car .phase)) (ridersIn ids (s .stops) acar adest (car .id) (s .aboards))
           (stopMask s (keptOf s car limit))
-          refl e (record { answered = refl; held = rw riders at ed }) refl refl refl);
+          refl e (record { answered = refl; held = rw riders at ed; aside = rw riders at es }) refl refl refl);
     }
 
 -- a buffer of n cells that holds the row of car i, whichever row that is, with so many cells held
@@ -208,20 +210,20 @@ module _ (s : Sheet) (ids : List ℕ) (xs : List Float) (acar adest : List ℕ) 
       rw (listed-stop s (h .held .few) (masks .pending) (pending-are s (h .held .masks-are)) stops (h .listed) k l)
       (column-below s (h .held .few) (masks .pending) (pending-are s (h .held .masks-are)) stops (h .listed) k l)
 
-  pub ready-row : (i limit : ℕ) (row : Row) {dests : List Float} → i < s .cars → HoldsRow s i limit row dests → (r n : ℕ)
+  pub ready-row : (i limit : ℕ) (row : Row) {dests sides : List Float} → i < s .cars → HoldsRow s i limit row dests sides → (r n : ℕ)
       → rowCar s r ≡ i
-      → tab (padded (rowCell row dests waiters xs (s .stops) stops) (stops .count)) n ≡ tab (matrix s limit r) n
-  ready-row i limit row {dests} l hr r n e =
+      → tab (padded (rowCell row dests sides waiters xs (s .stops) stops) (stops .count)) n ≡ tab (matrix s limit r) n
+  ready-row i limit row {dests} {sides} l hr r n e =
       row-is s (h .held .few) (masks .pending) (pending-are s (h .held .masks-are)) stops (h .listed) ids xs (h .held .stops-held) r limit
-      (rw e (h .weighed i l)) row dests
+      (rw e (h .weighed i l)) row dests sides
       (rw e hr) waiters (h .waiting) n
 
-  pub ready-held : (i limit : ℕ) (row : Row) {dests : List Float} → i < s .cars → HoldsRow s i limit row dests → (r : ℕ)
+  pub ready-held : (i limit : ℕ) (row : Row) {dests sides : List Float} → i < s .cars → HoldsRow s i limit row dests sides → (r : ℕ)
       → rowCar s r ≡ i
-      → count (rowHeld row dests waiters xs (s .stops) stops) (stops .count) ≡ heldInRow s limit r
-  ready-held i limit row {dests} l hr r e =
+      → count (rowHeld row dests sides waiters xs (s .stops) stops) (stops .count) ≡ heldInRow s limit r
+  ready-held i limit row {dests} {sides} l hr r e =
       held-are s (h .held .few) (masks .pending) (pending-are s (h .held .masks-are)) stops (h .listed) ids xs (h .held .stops-held) r limit
-      (rw e (h .weighed i l)) row dests
+      (rw e (h .weighed i l)) row dests sides
       (rw e hr) waiters (h .waiting)
 
 -- what the row of a car needs, in a buffer of some cells
@@ -229,13 +231,13 @@ pub record CarNeeds (b : List ℕ) (c : Counts) (ids : List ℕ) (xs : List Floa
     (stops : Ones) (cells : ℕ) : Type 0 where
   pub small : Small c
   pub ids-size : length ids ≡ 64
-  pub xs-size : length xs ≡ 64
+  pub xs-size : length xs ≡ 128
   pub acar-size : length acar ≡ 512
   pub adest-size : length adest ≡ 512
   pub fits : stops .count ≤ cells
   pub ready : Ready (sheetOf b c) ids xs acar adest masks waiters stops
 
--- the known destinations of a car's riders, in a buffer of 512 that held zeros
+-- a coordinate of the known destinations of a car's riders, in a buffer of 512 that held zeros
 unfoldable pub destsFor : Sheet → List ℕ → List Float → List ℕ → List ℕ → Car → List Float
 destsFor s ids xs acar adest car =
     destsIn ids (s .stops) acar adest (car .id) xs (s .aboards) ++ drop (ridersIn ids (s .stops) acar adest (car .id) (s .aboards) .count)
@@ -244,11 +246,11 @@ destsFor s ids xs acar adest car =
 -- n cells hold the row of a car by value, so many of its pairs are ranked, and so many of its cells are held
 pub record FilledCar (s : Sheet) (ids : List ℕ) (xs : List Float) (acar adest : List ℕ) (masks : StopMasks) (waiters : List Waiters) (stops : Ones)
     (limit : ℕ) (car : Car) (n : ℕ) (counted : Counted) (exit : List ℕ) : Type 0 where
-  pub row : exit ≡ tab (padded (rowCell (rowFor s ids xs acar adest masks limit car) (destsFor s ids xs acar adest car) waiters xs (s .stops) stops)
-      (stops .count)) n
+  pub row : exit ≡ tab (padded (rowCell (rowFor s ids xs acar adest masks limit car) (destsFor s ids xs acar adest car)
+      (destsFor s ids (sidesOf xs) acar adest car) waiters xs (s .stops) stops) (stops .count)) n
   pub number : counted .ranked ≡ count (keptOf s car limit) (s .stops)
-  pub held-cells : counted .held ≡ count (rowHeld (rowFor s ids xs acar adest masks limit car) (destsFor s ids xs acar adest car) waiters xs
-      (s .stops) stops) (stops .count)
+  pub held-cells : counted .held ≡ count (rowHeld (rowFor s ids xs acar adest masks limit car) (destsFor s ids xs acar adest car)
+      (destsFor s ids (sidesOf xs) acar adest car) waiters xs (s .stops) stops) (stops .count)
 
 -- the row of car i of a list that holds the sheet's cars
 pub filled-at : (s : Sheet) (ids : List ℕ) (xs : List Float) (acar adest : List ℕ) (masks : StopMasks) (waiters : List Waiters) (stops : Ones)
@@ -259,7 +261,8 @@ unfolding destsFor keptNumber rowFor
 filled-at s ids xs acar adest masks waiters stops h limit i n counted cars exit hc l f =
     let e = hc .each i l in
     let car = getD cars i noCar in
-    let row = row-of s ids xs acar adest masks (h .held) limit car (rowFor s ids xs acar adest masks limit car) (replicate 512 zero) refl refl in (
+    let row = row-of s ids xs acar adest masks (h .held) limit car (rowFor s ids xs acar adest masks limit car) (replicate 512 zero)
+    (replicate 512 zero) refl refl refl in (
       record {
         row = λ r q. f .row ∙ ready-row s ids xs acar adest masks waiters stops h i limit (rowFor s ids xs acar adest masks limit car) l
             (row .held i e) r n q;

@@ -1,11 +1,12 @@
--- RSR: rsr.rs, with its order of operations. Assumes nothing.
+-- RSR: rsr.rs, with its order of operations. F-12: "Directions .. use the first coordinate." Assumes nothing.
 use Prim.Native.Nat.{ℕ}
 use mathlib.Core.Bool.{Bool, true, false, not, _&&_, _||_, cond}
 use lib.Ieee.{Float, lt, le}
-use Rattle.fp.specs.Num.{zero, one, plus, minus, times, over, maxZero, distance}
+use Rattle.fp.specs.Num.{zero, one, plus, minus, times, over, maxZero}
 use Rattle.multiply_add.specs.MulAdd.{mulAdd}
 use Rattle.mask.specs.Mask.{has}
 use Rattle.components.specs.declared.Car.{Car}
+use Rattle.components.specs.declared.Point.{Point}
 use Rattle.components.specs.declared.Policy.{Policy}
 use Rattle.components.specs.declared.Place.{Place}
 use Rattle.components.specs.declared.Place.the-variants as place
@@ -14,18 +15,19 @@ use Rattle.components.specs.declared.Traffic.the-variants as traffic
 use Rattle.components.specs.declared.Rank.{Rank}
 use Rattle.components.specs.declared.Rank.the-variants.{Never}
 use Rattle.components.specs.Cars.{isIdle}
+use Rattle.components.specs.Points.{distance}
 use Rattle.components.specs.Sheet.{Sheet}
 use Rattle.manifest.specs.World.{stopAt, goal}
 use Rattle.dispatch.specs.Useful.{pairIsUseful}
 use Rattle.dispatch.specs.Waits.{waitTicksSum, withBonus}
 use Rattle.dispatch.specs.FiniteRank.{finiteRank}
 
--- ---- on values: x the car's position, p the stop's
+-- ---- on values: x the car's first coordinate, p the stop's
 
 -- the car moves to g, away from the stop
 abbrev pub wrongDirection : Place → Float → Float → Bool
 wrongDirection place.Nowhere x p = false
-wrongDirection (place.At g) x p = (lt x g && lt p x) || (lt g x && lt x p)
+wrongDirection (place.At g) x p = (lt x (g .along) && lt p x) || (lt (g .along) x && lt x p)
 
 -- peak_scaling: the multiplier in an up or a down peak
 abbrev pub peakScaling : Traffic → Float → Float
@@ -54,10 +56,10 @@ withLoad cost weight idle load capacity =
 
 -- compute_cost: eta, wrong direction, coincident call, load, age; of a car that moves to goal, for a stop at p where so many ticks were waited, and for
 -- which the car has a call, or not
-unfoldable pub rsrCostOf : Policy → Car → Place → Float → Bool → Float → Float
+unfoldable pub rsrCostOf : Policy → Car → Place → Float → Bool → Point → Float
 rsrCostOf y c goal waited call p =
     let eta = times (y .w0) (over (distance (c .position) p) (c .speed)) in
-    let reversed = withPenalty eta (y .w1) (peakScaling (y .traffic) (y .w5)) (wrongDirection goal (c .position) p) in
+    let reversed = withPenalty eta (y .w1) (peakScaling (y .traffic) (y .w5)) (wrongDirection goal (c .position .along) (p .along)) in
     let called = withCoincidentCall reversed (y .w2) call in
     let loaded = withLoad called (y .w3) (isIdle (c .phase)) (c .load) (c .capacity) in
     let aged = withBonus loaded (y .w4) waited in

@@ -9,12 +9,12 @@ use lib.Ieee.{Float, nan, inf, fin, ofBits, up, down, lt, le, eq}
 use borrow.Author.Tests.{ltb-false}
 use Rattle.laws.specs.Bools.{never}
 use Rattle.fp.specs.Num as Num
-use Rattle.fp.specs.Num.{one, plus, minus, times, over, finite, distance}
+use Rattle.fp.specs.Num.{one, plus, minus, times, over, finite}
 use Rattle.fp.specs.Order.{le-tells}
 use Rattle.fp.specs.Ranges.{isMass}
 use Rattle.fp.specs.Nonneg.{maxZero-nonneg, over-nonneg, unsigned}
 use Rattle.fp.specs.Inside.{AtMost, size-finite, mass-finite, mass-nonneg}
-use Rattle.fp.specs.Sizes.{maxZero-size, plus-size, minus-size, distance-size, times-size, over-size, position-power, mass-power, speed-power}
+use Rattle.fp.specs.Sizes.{maxZero-size, plus-size, minus-size, times-size, over-size, mass-power, speed-power}
 use Rattle.multiply_add.specs.MulAdd.{mulAdd}
 use Rattle.multiply_add.specs.Sizes.{mulAdd-size}
 use Rattle.mask.specs.Mask.{has}
@@ -22,6 +22,7 @@ use Rattle.components.specs.declared.Traffic.{Traffic}
 use Rattle.components.specs.declared.Traffic.the-variants as traffic
 use Rattle.components.specs.declared.Rank.the-variants.{Cost}
 use Rattle.components.specs.Cars.{isIdle}
+use Rattle.components.specs.Points.{distance, distance-size, placed-size}
 use Rattle.components.specs.Sheet.{Sheet}
 use Rattle.manifest.specs.World.{stopAt, goal}
 use Rattle.dispatch.specs.Useful.{pairIsUseful}
@@ -50,24 +51,24 @@ scaling-size traffic.UpPeak m p = p
 scaling-size traffic.InterFloor m p = one-size
 scaling-size traffic.DownPeak m p = p
 
-penalty-size : (cost weight scaling : Float) (wrong : Bool) → AtMost (2 ^ 61) cost → AtMost (2 ^ 30) weight → AtMost (2 ^ 30) scaling
-    → AtMost (2 ^ 62) (withPenalty cost weight scaling wrong)
+penalty-size : (cost weight scaling : Float) (wrong : Bool) → AtMost (2 ^ 62) cost → AtMost (2 ^ 30) weight → AtMost (2 ^ 30) scaling
+    → AtMost (2 ^ 63) (withPenalty cost weight scaling wrong)
 unfolding withPenalty
 penalty-size cost weight scaling wrong p q r = by (lt Num.zero weight && wrong)
   where
-    by : (b : Bool) → AtMost (2 ^ 62) (cond b (plus cost (times weight scaling)) cost)
-    by true = plus-size 61 cost (times weight scaling) (lit≤ tt) p
-        (grow 60 61 (times weight scaling) (lit≤ tt) (times-size 30 30 weight scaling (lit≤ tt) q r))
-    by false = grow 61 62 cost (lit≤ tt) p
+    by : (b : Bool) → AtMost (2 ^ 63) (cond b (plus cost (times weight scaling)) cost)
+    by true = plus-size 62 cost (times weight scaling) (lit≤ tt) p
+        (grow 60 62 (times weight scaling) (lit≤ tt) (times-size 30 30 weight scaling (lit≤ tt) q r))
+    by false = grow 62 63 cost (lit≤ tt) p
 
-call-size : (cost weight : Float) (call : Bool) → AtMost (2 ^ 62) cost → AtMost (2 ^ 30) weight
-    → AtMost (2 ^ 63) (withCoincidentCall cost weight call)
+call-size : (cost weight : Float) (call : Bool) → AtMost (2 ^ 63) cost → AtMost (2 ^ 30) weight
+    → AtMost (2 ^ 64) (withCoincidentCall cost weight call)
 unfolding withCoincidentCall
 call-size cost weight call p q = by (lt Num.zero weight && call)
   where
-    by : (b : Bool) → AtMost (2 ^ 63) (cond b (minus cost weight) cost)
-    by true = minus-size 62 cost weight (lit≤ tt) p (grow 30 62 weight (lit≤ tt) q)
-    by false = grow 62 63 cost (lit≤ tt) p
+    by : (b : Bool) → AtMost (2 ^ 64) (cond b (minus cost weight) cost)
+    by true = minus-size 63 cost weight (lit≤ tt) p (grow 30 63 weight (lit≤ tt) q)
+    by false = grow 63 64 cost (lit≤ tt) p
 
 -- from 0 to 1
 inside : (x : Float) → le Num.zero x ≡ true → lt one x ≡ false → AtMost (2 ^ 0) x
@@ -88,28 +89,28 @@ held-size x h = by (lt x Num.zero) (lt one x) (inside x h)
     by false true f = lit≤ tt
     by false false f = f refl
 
-load-size : (cost weight : Float) (idle : Bool) (load capacity : Float) → AtMost (2 ^ 63) cost → AtMost (2 ^ 30) weight → isMass load ≡ true
-    → isMass capacity ≡ true → AtMost (2 ^ 64) (withLoad cost weight idle load capacity)
+load-size : (cost weight : Float) (idle : Bool) (load capacity : Float) → AtMost (2 ^ 64) cost → AtMost (2 ^ 30) weight → isMass load ≡ true
+    → isMass capacity ≡ true → AtMost (2 ^ 65) (withLoad cost weight idle load capacity)
 unfolding withLoad
 load-size cost weight idle load capacity p q f g = by (lt Num.zero weight) idle (lt Num.zero capacity) refl
   where
     by : (a i b : Bool) → lt Num.zero capacity ≡ b
-        → AtMost (2 ^ 64) (cond (a && (not i && b)) (mulAdd weight (heldRatio (over load capacity)) cost) cost)
+        → AtMost (2 ^ 65) (cond (a && (not i && b)) (mulAdd weight (heldRatio (over load capacity)) cost) cost)
     by true false true e =
-        mulAdd-size 30 0 63 weight (heldRatio (over load capacity)) cost (lit≤ tt) (lit≤ tt) q
+        mulAdd-size 30 0 64 weight (heldRatio (over load capacity)) cost (lit≤ tt) (lit≤ tt) q
         (held-size (over load capacity) (over-nonneg load capacity (mass-finite load f) (mass-finite capacity g) (mass-nonneg load f) e)) p
-    by true false false e = grow 63 64 cost (lit≤ tt) p
-    by true true b e = grow 63 64 cost (lit≤ tt) p
-    by false i b e = grow 63 64 cost (lit≤ tt) p
+    by true false false e = grow 64 65 cost (lit≤ tt) p
+    by true true b e = grow 64 65 cost (lit≤ tt) p
+    by false i b e = grow 64 65 cost (lit≤ tt) p
 
 module _ (s : Sheet) (a : Admitted s) (i j : ℕ) (li : i < s .cars) (lj : j < s .stops) (moves : lt Num.zero (s .car i .speed) ≡ true) where
-  eta-size : AtMost (2 ^ 61) (times (s .policy .w0) (over (distance (s .car i .position) (stopAt s j)) (s .car i .speed)))
+  eta-size : AtMost (2 ^ 62) (times (s .policy .w0) (over (distance (s .car i .position) (stopAt s j)) (s .car i .speed)))
   eta-size =
-      times-size 30 31 (s .policy .w0) (over (distance (s .car i .position) (stopAt s j)) (s .car i .speed)) (lit≤ tt)
+      times-size 30 32 (s .policy .w0) (over (distance (s .car i .position) (stopAt s j)) (s .car i .speed)) (lit≤ tt)
       (mass-power (s .policy .w0) (a .w0))
-      (over-size 21 10 (distance (s .car i .position) (stopAt s j)) (s .car i .speed) (lit≤ tt)
+      (over-size 22 10 (distance (s .car i .position) (stopAt s j)) (s .car i .speed) (lit≤ tt)
       (distance-size 20 (s .car i .position) (stopAt s j) (lit≤ tt)
-      (position-power (s .car i .position) (a .car-at i li)) (position-power (stopAt s j) (a .stop-at j lj)))
+      (placed-size (s .car i .position) (a .car-at i li)) (placed-size (stopAt s j) (a .stop-at j lj)))
       (speed-power (s .car i .speed) (a .speed i li) moves))
 
   cost-finite : finite (rsrCost s i j) ≡ true
@@ -117,14 +118,14 @@ module _ (s : Sheet) (a : Admitted s) (i j : ℕ) (li : i < s .cars) (lj : j < s
   cost-finite =
       let eta = times (s .policy .w0) (over (distance (s .car i .position) (stopAt s j)) (s .car i .speed)) in
       let scaling = peakScaling (s .policy .traffic) (s .policy .w5) in
-      let wrong = wrongDirection (goal s i) (s .car i .position) (stopAt s j) in
+      let wrong = wrongDirection (goal s i) (s .car i .position .along) (stopAt s j .along) in
       let reversed = withPenalty eta (s .policy .w1) scaling wrong in
       let called = withCoincidentCall reversed (s .policy .w2) (has (s .car i .calls) j) in
       let loaded = withLoad called (s .policy .w3) (isIdle (s .car i .phase)) (s .car i .load) (s .car i .capacity) in
       size-finite (2 ^ 596) (rsrCost s i j)
       (maxZero-size (2 ^ 596) (withBonus loaded (s .policy .w4) (waitTicksSum s j))
       (withBonus-size 565 595 loaded (s .policy .w4) (waitTicksSum s j) (lit≤ tt) (lit≤ tt)
-      (grow 64 595 loaded (lit≤ tt)
+      (grow 65 595 loaded (lit≤ tt)
       (load-size called (s .policy .w3) (isIdle (s .car i .phase)) (s .car i .load) (s .car i .capacity)
       (call-size reversed (s .policy .w2) (has (s .car i .calls) j)
       (penalty-size eta (s .policy .w1) scaling wrong eta-size (mass-power (s .policy .w1) (a .w1))

@@ -1,12 +1,13 @@
 // RSR: rsr.rs.
 ghost use mathlib.Core.Path.{_≡_};
-ghost use Prim.Native.Nat.{_≤_, _<_};
+ghost use Prim.Native.Nat.{_+_, _≤_, _<_};
 ghost use lib.ListN.{length};
 ghost use Rattle.components.specs.declared.Place.the-variants.{At};
 ghost use Rattle.rsr.specs.Rsr.{wrongDirection, peakScaling, withPenalty, withCoincidentCall, heldRatio, withLoad, rsrCostOf};
 ghost use Rattle.rsr.specs.Pairs.{rankBy};
 use components::Car;
 use components::Place;
+use components::Point;
 use components::Policy;
 use components::Rank;
 use components::Traffic;
@@ -14,10 +15,11 @@ use manifest::Waiters;
 use riders::Riders;
 
 // Whether a car that moves from x to g moves away from a stop at p.
-fn moves_away(g: f64, x: f64, p: f64) -> bool
+fn moves_away(g: Point, x: f64, p: f64) -> bool
     ensures { λ r. ⌜ r ≡ wrongDirection (At g) x p ⌝ }
 {
-    ((x < g) & (p < x)) | ((g < x) & (x < p))
+    let to = g.along;
+    ((x < to) & (p < x)) | ((to < x) & (x < p))
 }
 
 // Whether the trip to a stop at p reverses the car.
@@ -86,14 +88,21 @@ fn with_load(cost: f64, weight: f64, idle: bool, load: f64, capacity: f64) -> f6
 }
 
 // The cost of a stop at p for which the car has a call, or not.
-fn compute_cost(policy: Policy, car: Car, goal: Place, waiters: Waiters, call: bool, p: f64) -> f64
+fn compute_cost(
+    policy: Policy,
+    car: Car,
+    goal: Place,
+    waiters: Waiters,
+    call: bool,
+    p: Point,
+) -> f64
     ensures { λ r. ⌜ r ≡ rsrCostOf policy car goal (waiters .waitsum) call p ⌝ }
 {
     let x = car.position;
     let traffic = policy.traffic;
-    let eta = policy.w0 * (fp::distance(x, p) / car.speed);
+    let eta = policy.w0 * (x.distance(p) / car.speed);
     let scaling = peak_scaling(traffic, policy.w5);
-    let wrong = wrong_direction(goal, x, p);
+    let wrong = wrong_direction(goal, x.along, p.along);
     let reversed = with_penalty(eta, policy.w1, scaling, wrong);
     let called = with_coincident_call(reversed, policy.w2, call);
     let phase = car.phase;
@@ -113,13 +122,13 @@ pub fn rank(
     xs: &[f64],
     j: usize,
 ) -> Rank
-    requires { ⌜ (riders .count ≤ length (now dests)) × (j < 64) × (j < length (now xs)) ⌝ }
+    requires { ⌜ (riders .count ≤ length (now dests)) × (j < 64) × (64 + j < length (now xs)) ⌝ }
     ensures { λ r. ⌜ r ≡ rankBy policy car goal riders (now (dests .entry)) waiters (now (xs .entry)) j ⌝ }
 {
-    let p = xs[j];
+    let p = manifest::point(xs, j);
     let here = mask::has(riders.exits, j);
     let call = mask::has(car.calls, j);
-    if dispatch::pair_is_useful(car, goal, riders, dests, waiters, here, p, true) {
+    if dispatch::pair_is_useful(car, goal, riders, dests, waiters, here, p.along, true) {
         if car.speed <= 0.0 {
             Rank::Never
         } else {

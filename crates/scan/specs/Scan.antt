@@ -1,4 +1,4 @@
--- SCAN over a sheet: scan.rs. Assumes nothing.
+-- SCAN over a sheet: scan.rs. F-12: "Directions .. use the first coordinate." Its cost is a distance, of both. Assumes nothing.
 use Prim.Native.Nat.{ℕ}
 use mathlib.Core.Bool.{Bool, false, _&&_, cond}
 use mathlib.Core.List.{List}
@@ -7,6 +7,7 @@ use lib.Ieee.{Float, nan}
 use Rattle.laws.specs.Folds.{any}
 use Rattle.mask.specs.Mask.{has}
 use Rattle.components.specs.declared.Direction.{Direction}
+use Rattle.components.specs.declared.Point.{Point}
 use Rattle.components.specs.declared.Rank.{Rank}
 use Rattle.components.specs.declared.Rank.the-variants.{Never}
 use Rattle.components.specs.Sheet.{Sheet}
@@ -16,7 +17,7 @@ use Rattle.sweep.specs.Sweeps.{sweepOf, strictlyAhead, prepared, sweepRank}
 use Rattle.sweep.specs.declared.Sweep.{Sweep}
 use Rattle.dispatch.specs.Useful.{pairIsUseful}
 
--- ---- by lists: n stops at xs, the demand stops as a mask
+-- ---- by lists: n stops whose first coordinates begin xs, the demand stops as a mask
 
 -- strict_demand_ahead: some demand stop is strictly ahead of a car at x
 unfoldable pub demandAhead : Direction → Float → ℕ → List Float → ℕ → Bool
@@ -27,7 +28,7 @@ unfoldable pub preparedBy : Sweep → Float → ℕ → List Float → ℕ → S
 preparedBy w x demand xs n = prepared w (demandAhead (w .direction) x demand xs n)
 
 -- rank, of a pair that is useful or not
-unfoldable pub rankOf : Sweep → Bool → Float → Float → Rank
+unfoldable pub rankOf : Sweep → Bool → Point → Point → Rank
 rankOf w useful x p = cond useful (sweepRank w x p) Never
 
 -- ---- over a sheet
@@ -35,7 +36,8 @@ rankOf w useful x p = cond useful (sweepRank w x p) Never
 module _ (s : Sheet) where
   -- strict_demand_ahead: some demand stop of the group, a covered one too, is strictly ahead of the car
   unfoldable pub strictDemandAhead : ℕ → Bool
-  strictDemandAhead i = any (λ j. demandStop s j && strictlyAhead (s .car i .direction) (s .car i .position) (stopAt s j)) (s .stops)
+  strictDemandAhead i =
+      any (λ j. demandStop s j && strictlyAhead (s .car i .direction) (s .car i .position .along) (stopAt s j .along)) (s .stops)
 
   -- prepare_car
   unfoldable pub preparedSweep : ℕ → Sweep

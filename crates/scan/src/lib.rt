@@ -7,6 +7,7 @@ ghost use Rattle.mask.specs.Mask.{has};
 ghost use Rattle.sweep.specs.Sweeps.{strictlyAhead};
 ghost use Rattle.scan.specs.Scan.{demandAhead, preparedBy, rankOf};
 use components::Direction;
+use components::Point;
 use components::Rank;
 use sweep::Sweep;
 
@@ -48,7 +49,7 @@ pub fn prepare(sweep: Sweep, x: f64, demand: u64, xs: &[f64], n: usize) -> Sweep
 }
 
 // rank, of a pair that is useful or not.
-pub fn rank(sweep: Sweep, useful: bool, x: f64, p: f64) -> Rank
+pub fn rank(sweep: Sweep, useful: bool, x: Point, p: Point) -> Rank
     ensures { λ r. ⌜ r ≡ rankOf sweep useful x p ⌝ }
 {
     if useful {

@@ -2,15 +2,17 @@
 use Prim.Native.Nat.{ℕ, _+_, _*_}
 use mathlib.Core.Bool.{Bool, cond}
 use lib.Ieee.{Float, lt}
-use Rattle.fp.specs.Num.{plus, minus, epsilon, distance}
+use Rattle.fp.specs.Num.{plus, minus, epsilon}
 use Rattle.components.specs.declared.Direction.{Direction}
 use Rattle.components.specs.declared.Direction.the-variants.{Up, Down}
 use Rattle.components.specs.declared.Mode.{Mode}
 use Rattle.components.specs.declared.Mode.the-variants.{Strict, Lenient}
+use Rattle.components.specs.declared.Point.{Point}
 use Rattle.components.specs.declared.Car.{Car}
 use Rattle.components.specs.declared.Rank.{Rank}
 use Rattle.components.specs.declared.Rank.the-variants.{Cost, Never}
 use Rattle.components.specs.Codes.{directionCode, modeCode}
+use Rattle.components.specs.Points.{distance}
 use Rattle.sweep.specs.declared.Sweep.{Sweep}
 
 -- the sweep that the sheet gives a car
@@ -42,9 +44,9 @@ accepts Strict d x p = strictlyAhead d x p
 accepts Lenient Up x p = lt (minus x epsilon) p
 accepts Lenient Down x p = lt p (plus x epsilon)
 
--- rank
-unfoldable pub sweepRank : Sweep → Float → Float → Rank
-sweepRank w x p = cond (accepts (w .mode) (w .direction) x p) (Cost (distance x p)) Never
+-- rank. F-12: a distance is of both coordinates, and "Directions .. use the first coordinate."
+unfoldable pub sweepRank : Sweep → Point → Point → Rank
+sweepRank w x p = cond (accepts (w .mode) (w .direction) (x .along) (p .along)) (Cost (distance x p)) Never
 
 -- "for each car record 2 × sweep + mode"
 unfoldable pub sweepCode : Sweep → ℕ

@@ -5,6 +5,7 @@ ghost use Rattle.sweep.specs.Sweeps.{sweepOf, reversed, turnedRound, str
 use components::Car;
 use components::Direction;
 use components::Mode;
+use components::Point;
 use components::Rank;
 
 pub struct Sweep {
@@ -99,13 +100,13 @@ impl Sweep {
     }
 
     // The cost of a stop at p for a car at x: the distance, where the sweep takes it.
-    pub fn rank(self, x: f64, p: f64) -> Rank
+    pub fn rank(self, x: Point, p: Point) -> Rank
         ensures { λ r. ⌜ r ≡ sweepRank self x p ⌝ }
     {
         let mode = self.mode;
         let direction = self.direction;
-        if accepts(mode, direction, x, p) {
-            Rank::Cost(fp::distance(x, p))
+        if accepts(mode, direction, x.along, p.along) {
+            Rank::Cost(x.distance(p))
         } else {
             Rank::Never
         }

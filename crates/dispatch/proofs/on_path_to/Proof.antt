@@ -1,6 +1,5 @@
 -- dispatch::on_path_to meets its contract.
-use Rattle.components.specs.declared.Place.the-variants.{At}
-use Rattle.dispatch.specs.Useful.{onPathTo}
+use Rattle.dispatch.specs.Useful.{onPath}
 use Rattle.fp.specs.Num.{zero, minus, times, abs}
 use borrow.Author.Needs.{needs}
 use lib.Ieee.{Float, le}
@@ -13,10 +12,12 @@ same-way : (x p d : Float) {there whole : Float} →
     le zero (times (minus d x) (minus p x)) ≡ true →
     there ≡ abs (minus p x) →
     whole ≡ abs (minus d x) →
-    le there whole ≡ onPathTo x p (At d)
+    le there whole ≡ onPath x p d
+unfolding onPath
 same-way x p d same there-is whole-is = rw (same, there-is, whole-is)
 
-other-way : (x p d : Float) → le zero (times (minus d x) (minus p x)) ≡ false → false ≡ onPathTo x p (At d)
+other-way : (x p d : Float) → le zero (times (minus d x) (minus p x)) ≡ false → false ≡ onPath x p d
+unfolding onPath
 other-way x p d other = rw other
 
 returns : tie.Need-returns

@@ -4,7 +4,7 @@ use Rattle.manifest.proofs.goes_up.Statement.{statement}
 use Rattle.manifest.proofs.goes_up.Tie as tie
 
 returns-2 : tie.Need-returns-2
-returns-2 c = simp (c .before .place .given .1)
+returns-2 c = simp (c .before .before .place .given .1)
 
 pub goes-up-spec : {M : Type 1} → statement M
 goes-up-spec = tie.close (tie.spec (λ c. search needs) (λ c. search needs) (λ c. search needs) returns-2)

@@ -7,11 +7,11 @@ use Rattle.manifest.proofs.place.Tie as tie
 
 returns : tie.Need-returns
 unfolding placeAt
-returns c = simp (lt-ltb _ _ (c .before .if1 .taken))
+returns c = simp (lt-ltb _ _ (c .before .if1 .taken), c .point .ensures)
 
 returns-2 : tie.Need-returns-2
 unfolding placeAt
 returns-2 c = simp (le-ltb _ _ (c .if1 .left))
 
 pub place-spec : {M : Type 1} → statement M
-place-spec = tie.close (tie.spec (λ c. search needs) (λ c. search needs) returns returns-2)
+place-spec = tie.close (tie.spec (λ c κs. search needs) returns returns-2)

@@ -23,7 +23,7 @@ returns-3 c =
     let a = c .before .before .before .before .before .before .before .args in
     let prepares : (a .car .listed && not (eqb (a .pending) 0)) ≡ true = c .before .if1 .taken in
     rw (c .before .before .before .enum-told3 .given .1, prepares)
-    (c .prepare .ensures ∙ ap (λ (w : Sweep). preparedBy w (a .car .position) (a .demand) (a .xs .now) (a .n)) (c .before .before .before .before .before .of .ensures))
+    (c .prepare .ensures ∙ ap (λ (w : Sweep). preparedBy w (a .car .position .along) (a .demand) (a .xs .now) (a .n)) (c .before .before .before .before .before .of .ensures))
 
 returns-4 : tie.Need-returns-4
 unfolding sweepBy

@@ -193,7 +193,7 @@ module _ {M : Type 1} (𝓤 : URA M) (H : Heap 𝓤) (A : Atoms 𝓤) (W : Given
         keep ! (1 ∷ 2 ∷ 0 ∷ []) $ by ! (exits r u (zs .1 .1 .0) is l))))))))))))))))))))))))))))
 
 -- the records have room
-roomy : (n : ℕ) → n ≡ 32 → (n < 2 ^ 64) × (n * 120 < 2 ^ 63)
+roomy : (n : ℕ) → n ≡ 32 → (n < 2 ^ 64) × (n * 128 < 2 ^ 63)
 roomy n e = (omega arith, omega arith)
 
 within : (i n : ℕ) → i < 32 → n ≡ 32 → i < n

@@ -127,7 +127,7 @@ module _ {M : Type 1} (𝓤 : URA M) (H : Heap 𝓤) (A : Atoms 𝓤) (W : Given
         -- [the locals, the last first; the tokens; the parameters]
         assigns ! (bin ! (load ! (from ! (stop !)) (look ! 34 refl)) (lit ! tt) (record { fits = gmul })) (from ! (stop !)) (init ! 8 refl (tt, record { fits = gmul })) $
         assigns ! (bin ! (load ! (from ! (fld ! refl (stop !))) (look-in ! 36 (sub ! 0 refl (whole !)))) (load ! (from ! (stop !)) (look ! 8 refl)) tt) (from ! (stop !)) (init ! 6 refl (tt, tt)) $
-        rewrite ! 6 (λ (p′ : ℕ). ‵ (fat fullShare tyPtr l₁₆ 0 (vptr (cars .ptr .0) p′))) (sym (place-is 120 (cars .ptr .1) i)) refl $
+        rewrite ! 6 (λ (p′ : ℕ). ‵ (fat fullShare tyPtr l₁₆ 0 (vptr (cars .ptr .0) p′))) (sym (place-is 128 (cars .ptr .1) i)) refl $
         move ! (41 ∷ []) $ fsplit ! $ fsplit ! $ move ! (1 ∷ []) $ fsplit ! $ move ! (44 ∷ []) $ split ! $ move ! (3 ∷ 0 ∷ []) $
         looks-slice ! tt T.the-row (Is T.the-row) (shows 𝓤 H A T.the-row) vals (LL.tells T.the-type T′.the-laws) (LL.copy T.the-type T′.the-copy 𝓤 H A W) (now cars) (cars .ptr .0) (cars .ptr .1) (λ q′.
         elem-out ! T.the-row (Is T.the-row) (shows 𝓤 H A T.the-row) vals (LL.tells T.the-type T′.the-laws) q′ (now cars) i noCar (cars .ptr .0) (cars .ptr .1) (pre .0) (λ g.
@@ -154,7 +154,7 @@ module _ {M : Type 1} (𝓤 : URA M) (H : Heap 𝓤) (A : Atoms 𝓤) (W : Given
         keep ! (4 ∷ 1 ∷ 2 ∷ 0 ∷ []) $ by ! (exits r u (zs .0) is l)))))))))))))))))))))))))))))
 
 -- a place within the slice is a usize: the slice's bytes are fewer than 2 ^ 63
-within : (i n : ℕ) → i < n → n * 120 < 2 ^ 63 → i * 120 < 2 ^ 64
+within : (i n : ℕ) → i < n → n * 128 < 2 ^ 63 → i * 128 < 2 ^ 64
 within i n l h = omega arith
 
 module _ {M : Type 1} (𝓤 : URA M) (H : Heap 𝓤) (A : Atoms 𝓤) (W : Given 𝓤 H A) (mem : Memory → SProp 𝓤) (run : Routine → Fun 𝓤) where

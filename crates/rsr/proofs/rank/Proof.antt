@@ -8,14 +8,15 @@ use Rattle.components.specs.declared.Rank.the-variants.{Never}
 use Rattle.dispatch.specs.Pairs.{usefulBy}
 use Rattle.dispatch.specs.FiniteRank.{finiteRank}
 use Rattle.fp.specs.Num.{zero}
+use Rattle.components.specs.declared.Point.{Point}
+use Rattle.manifest.specs.Stops.{pointIn}
 use Rattle.manifest.specs.declared.Waiters.{Waiters}
 use Rattle.mask.specs.Mask.{has}
 use Rattle.riders.specs.declared.Riders.{Riders}
 use Rattle.rsr.specs.Pairs.{rankBy}
 use Rattle.rsr.specs.Rsr.{rsrCostOf}
 use borrow.Author.Needs.{needs}
-use lib.Ieee.{Float, nan, le}
-use lib.ListN.{getD}
+use lib.Ieee.{Float, le}
 use mathlib.Core.Bool.{Bool, true, false}
 use mathlib.Core.List.{List}
 use mathlib.Core.Path.{_≡_}
@@ -23,48 +24,51 @@ use Rattle.rsr.proofs.rank.Statement.{statement}
 use Rattle.rsr.proofs.rank.Tie as tie
 
 module _ (y : Policy) (car : Car) (goal : Place) (r : Riders) (dests : List Float) (w : Waiters) (xs : List Float) (j : ℕ) where
-  stands : {here useful : Bool} →
+  stands : {here useful : Bool} {p : Point} →
+      p ≡ pointIn xs j →
       here ≡ has (r .exits) j →
-      useful ≡ usefulBy car goal r dests w here (getD xs j nan) true →
+      useful ≡ usefulBy car goal r dests w here (p .along) true →
       useful ≡ true →
       le (car .speed) zero ≡ true →
       Never ≡ rankBy y car goal r dests w xs j
   unfolding rankBy
-  stands here-is useful-is useful slow = rw (← here-is, ← useful-is, useful, slow)
+  stands p-is here-is useful-is useful slow = rw (← p-is, ← here-is, ← useful-is, useful, slow)
 
-  moves : {here call useful : Bool} {cost : Float} {rank : Rank} →
+  moves : {here call useful : Bool} {p : Point} {cost : Float} {rank : Rank} →
+      p ≡ pointIn xs j →
       here ≡ has (r .exits) j →
       call ≡ has (car .calls) j →
-      useful ≡ usefulBy car goal r dests w here (getD xs j nan) true →
+      useful ≡ usefulBy car goal r dests w here (p .along) true →
       useful ≡ true →
       le (car .speed) zero ≡ false →
-      cost ≡ rsrCostOf y car goal (w .waitsum) call (getD xs j nan) →
+      cost ≡ rsrCostOf y car goal (w .waitsum) call p →
       rank ≡ finiteRank cost →
       rank ≡ rankBy y car goal r dests w xs j
   unfolding rankBy
-  moves here-is call-is useful-is useful quick cost-is rank-is =
-      rw (← here-is, ← call-is, ← useful-is, useful, quick, ← cost-is) rank-is
+  moves p-is here-is call-is useful-is useful quick cost-is rank-is =
+      rw (← p-is, ← here-is, ← call-is, ← useful-is, useful, quick, ← cost-is) rank-is
 
-  useless : {here useful : Bool} →
+  useless : {here useful : Bool} {p : Point} →
+      p ≡ pointIn xs j →
       here ≡ has (r .exits) j →
-      useful ≡ usefulBy car goal r dests w here (getD xs j nan) true →
+      useful ≡ usefulBy car goal r dests w here (p .along) true →
       useful ≡ false →
       Never ≡ rankBy y car goal r dests w xs j
   unfolding rankBy
-  useless here-is useful-is not-useful = rw (← here-is, ← useful-is, not-useful)
+  useless p-is here-is useful-is not-useful = rw (← p-is, ← here-is, ← useful-is, not-useful)
 
 returns : tie.Need-returns
 returns c =
     let asked = c .before .before .before in
     let a = asked .before .before .before .before .before .before .args in
-    stands (a .policy) (a .car) (a .goal) (a .riders) (a .dests .now) (a .waiters) (a .xs .now) (a .j) (asked .before .before .has .ensures)
+    stands (a .policy) (a .car) (a .goal) (a .riders) (a .dests .now) (a .waiters) (a .xs .now) (a .j) (asked .before .before .before .point .ensures) (asked .before .before .has .ensures)
     (asked .pair-is-useful .ensures) (c .before .before .if1 .taken) (c .if2 .taken)
 
 returns-2 : tie.Need-returns-2
 returns-2 c =
     let asked = c .before .before .before .before .before in
     let a = asked .before .before .before .before .before .before .args in
-    moves (a .policy) (a .car) (a .goal) (a .riders) (a .dests .now) (a .waiters) (a .xs .now) (a .j) (asked .before .before .has .ensures)
+    moves (a .policy) (a .car) (a .goal) (a .riders) (a .dests .now) (a .waiters) (a .xs .now) (a .j) (asked .before .before .before .point .ensures) (asked .before .before .has .ensures)
     (asked .before .has2 .ensures) (asked .pair-is-useful .ensures) (c .before .before .before .before .if1 .taken)
     (c .before .before .if2 .left) (c .before .compute-cost .ensures) (c .finite-rank .ensures)
 
@@ -72,11 +76,11 @@ returns-3 : tie.Need-returns-3
 returns-3 c =
     let asked = c .before in
     let a = asked .before .before .before .before .before .before .args in
-    useless (a .policy) (a .car) (a .goal) (a .riders) (a .dests .now) (a .waiters) (a .xs .now) (a .j) (asked .before .before .has .ensures)
+    useless (a .policy) (a .car) (a .goal) (a .riders) (a .dests .now) (a .waiters) (a .xs .now) (a .j) (asked .before .before .before .point .ensures) (asked .before .before .has .ensures)
     (asked .pair-is-useful .ensures) (c .if1 .left)
 
 pub rank-spec : {M : Type 1} → statement M
 rank-spec =
     tie.close
-    (tie.spec (λ c. search needs) (λ c. search needs) (λ c κs. search needs) (λ c κs. search needs) (λ c κs. search needs)
+    (tie.spec (λ c κs. search needs) (λ c κs. search needs) (λ c κs. search needs) (λ c κs. search needs)
     (λ c κs. search needs) (λ c κs. search needs) returns returns-2 returns-3)

@@ -1,6 +1,7 @@
 -- sweep::Sweep::rank meets its contract.
 use Rattle.components.specs.declared.Rank.the-variants.{Cost, Never}
-use Rattle.fp.specs.Num.{distance}
+use Rattle.components.specs.declared.Point.{Point}
+use Rattle.components.specs.Points.{distance}
 use Rattle.sweep.specs.Sweeps.{accepts, sweepRank}
 use Rattle.sweep.specs.declared.Sweep.{Sweep}
 use borrow.Author.Needs.{needs}
@@ -10,16 +11,16 @@ use mathlib.Core.Path.{_≡_}
 use Rattle.sweep.proofs.Sweep.rank.Statement.{statement}
 use Rattle.sweep.proofs.Sweep.rank.Tie as tie
 
-accepted : (w : Sweep) (x p : Float) {taken : Bool} {cost : Float} →
-    taken ≡ accepts (w .mode) (w .direction) x p →
+accepted : (w : Sweep) (x p : Point) {taken : Bool} {cost : Float} →
+    taken ≡ accepts (w .mode) (w .direction) (x .along) (p .along) →
     taken ≡ true →
     cost ≡ distance x p →
     Cost cost ≡ sweepRank w x p
 unfolding sweepRank
 accepted w x p taken-is is cost-is = rw (← taken-is, is, cost-is)
 
-passed-over : (w : Sweep) (x p : Float) {taken : Bool} →
-    taken ≡ accepts (w .mode) (w .direction) x p →
+passed-over : (w : Sweep) (x p : Point) {taken : Bool} →
+    taken ≡ accepts (w .mode) (w .direction) (x .along) (p .along) →
     taken ≡ false →
     Never ≡ sweepRank w x p
 unfolding sweepRank
