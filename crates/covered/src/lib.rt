@@ -22,7 +22,7 @@ use layout::waiting;
 
 // The target of a car that serves it, else 0; it stands before a second coordinate of any bits.
 fn target_at(s: &[u8], at: u32) -> u32
-    ensures { λ r. ⌜ (w : ℕ) → r ≡ servedTarget (carOf w (from (now (s .entry)) at)) ⌝ }
+    ensures { λ r. ⌜ ((w : ℕ) → r ≡ servedTarget (carOf w (from (now (s .entry)) at))) ⌝ }
 {
     let phase = Phase::of_code(
         bits::field(s, at, car::PHASE, 3),

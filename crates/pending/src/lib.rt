@@ -127,7 +127,7 @@ fn bound_at<'a>(s: &'a [u8], at: u32, idle: &'a [u32], n: usize) -> u32
 fn fill_bound<'a>(s: &'a [u8], base: u32, k: usize, idle: &'a [u32], n: usize, out: &mut [u32])
     requires { ⌜ (base < 2 ^ 31) × (k ≤ 512) × (length (now out) ≡ 512) × (n ≤ length (now idle)) ⌝ }
     ensures { λ _. ⌜ (length (now (out .exit)) ≡ length (now (out .entry)))
-        × (now (out .exit) ≡ tab (λ a. boundId (now (s .entry)) (now (idle .entry)) n (base + recordLength Aboard * a)) k ++ drop k
+        × (now (out .exit) ≡ tab (λ a. boundId (now (s .entry)) (now (idle .entry)) n (base + recordLength 0 Aboard * a)) k ++ drop k
         (now (out .entry))) ⌝ }
 {
     let mut a: usize = 0;

@@ -22,10 +22,10 @@ returns c =
     let at = c .before .before .before .before .before .before .before .before .aboards-from in
     let first = c .before .before .before .before .before .before .fill32 in
     let second = c .before .before .fill322 in
-    let cars : first .last .1 .1 .1 .1 .1 .0 ≡ tab (λ i. read (from b (at .result + recordLength Aboard * i)) aboard·car) n ++ drop n (a .acar .now) = first .ensures .1 in
-    let destinations : second .last .1 .1 .1 .1 .1 .0 ≡ tab (λ i. read (from b (at .result + recordLength Aboard * i)) aboard·destination) n ++ drop n (a .adest .now) = second .ensures .1 in (
-      (first .ensures .0, cars ∙ ap (λ (x : ℕ). tab (λ i. read (from b (x + recordLength Aboard * i)) aboard·car) n ++ drop n (a .acar .now)) (at .ensures)),
-      (second .ensures .0, destinations ∙ ap (λ (x : ℕ). tab (λ i. read (from b (x + recordLength Aboard * i)) aboard·destination) n ++ drop n (a .adest .now)) (at .ensures)),
+    let cars : first .last .1 .1 .1 .1 .1 .0 ≡ tab (λ i. read (from b (at .result + recordLength 0 Aboard * i)) aboard·car) n ++ drop n (a .acar .now) = first .ensures .1 in
+    let destinations : second .last .1 .1 .1 .1 .1 .0 ≡ tab (λ i. read (from b (at .result + recordLength 0 Aboard * i)) aboard·destination) n ++ drop n (a .adest .now) = second .ensures .1 in (
+      (first .ensures .0, cars ∙ ap (λ (x : ℕ). tab (λ i. read (from b (x + recordLength 0 Aboard * i)) aboard·car) n ++ drop n (a .acar .now)) (at .ensures)),
+      (second .ensures .0, destinations ∙ ap (λ (x : ℕ). tab (λ i. read (from b (x + recordLength 0 Aboard * i)) aboard·destination) n ++ drop n (a .adest .now)) (at .ensures)),
     )
 
 pub fill-aboard-spec : {M : Type 1} → statement M

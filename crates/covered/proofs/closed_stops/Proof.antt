@@ -26,8 +26,8 @@ returns c =
     ∙ built-cong (named _ (a .c .closures) (a .names .now) 64) (closedIn (sheetOf b (a .c)) (a .names .now)) 64
     (closed-named (sheetOf b (a .c)) _ (a .names .now)
     (λ x l.
-    held (λ k. read (from b (at .result + recordLength Closed * k)) closed·stop) (a .c .closures) _ _ (filled .ensures .1) 0 x l
-    ∙ ap (λ (z : ℕ). read (from b (z + recordLength Closed * x)) closed·stop) (at .ensures)))
+    held (λ k. read (from b (at .result + recordLength 0 Closed * k)) closed·stop) (a .c .closures) _ _ (filled .ensures .1) 0 x l
+    ∙ ap (λ (z : ℕ). read (from b (z + recordLength 0 Closed * x)) closed·stop) (at .ensures)))
 
 pub closed-stops-spec : {M : Type 1} → statement M
 closed-stops-spec =

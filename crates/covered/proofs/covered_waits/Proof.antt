@@ -31,15 +31,11 @@ returns c =
     ∙ mask-same (sheetOf b (a .c)) _ _ _ _ _ _ _ (a .asked) _
     (c .before .before .before .before .before .before .before .before .before .before .before .before .before .before .before .before .before .before .before .before .before .before .before .pre .1 .0)
     (record {
-      stop = λ w l. held (λ k. read (from b (c .before .before .before .before .before .before .before .before .before .before .before .before .before .before .before .waits-from .result + recordLength Waiting * k)) waiting·stop) (a .c .waits) _ _ (c .before .before .before .before .before .before .before .before .before .before .before .before .before .fill32 .ensures .1) 0 w l ∙ ap (λ (x : ℕ). read (from b (x + recordLength Waiting * w)) waiting·stop) at;
-      required-line = λ w l. held (λ k. read (from b (c .before .before .before .before .before .before .before .before .before .before .before .before .before .before .before .waits-from .result + recordLength Waiting * k)) waiting·line) (a .c .waits) _ _ (c .before .before .before .before .before .before .before .before .before .before .fill322 .ensures .1) 0 w l ∙ ap (λ (x : ℕ). read (from b (x + recordLength Waiting * w)) waiting·line) at;
-      weight = λ w l. held (λ k. double (from b (c .before .before .before .before .before .before .before .before .before .before .before .before .before .before .before .waits-from .result + recordLength Waiting * k)) waiting·weight) (a .c .waits) _ _ (c .before .before .before .before .before .before .before .fill-doubles .ensures .1) nan w l ∙ ap (λ (x : ℕ). double (from b (x + recordLength Waiting * w)) waiting·weight) at;
+      stop = λ w l. held (λ k. read (from b (c .before .before .before .before .before .before .before .before .before .before .before .before .before .before .before .waits-from .result + recordLength 0 Waiting * k)) waiting·stop) (a .c .waits) _ _ (c .before .before .before .before .before .before .before .before .before .before .before .before .before .fill32 .ensures .1) 0 w l ∙ ap (λ (x : ℕ). read (from b (x + recordLength 0 Waiting * w)) waiting·stop) at;
+      required-line = λ w l. held (λ k. read (from b (c .before .before .before .before .before .before .before .before .before .before .before .before .before .before .before .waits-from .result + recordLength 0 Waiting * k)) waiting·line) (a .c .waits) _ _ (c .before .before .before .before .before .before .before .before .before .before .fill322 .ensures .1) 0 w l ∙ ap (λ (x : ℕ). read (from b (x + recordLength 0 Waiting * w)) waiting·line) at;
+      weight = λ w l. held (λ k. double (from b (c .before .before .before .before .before .before .before .before .before .before .before .before .before .before .before .waits-from .result + recordLength 0 Waiting * k)) waiting·weight) (a .c .waits) _ _ (c .before .before .before .before .before .before .before .fill-doubles .ensures .1) nan w l ∙ ap (λ (x : ℕ). double (from b (x + recordLength 0 Waiting * w)) waiting·weight) at;
     })
     (c .before .before .before .before .before .before .before .before .before .before .before .before .before .before .before .before .before .before .before .before .before .before .before .pre .1 .1)
 
 pub covered-waits-spec : {M : Type 1} → statement M
-covered-waits-spec =
-    tie.close
-    (tie.spec (λ c. search needs) (λ c κs. search needs) (λ c. search needs) (λ c κs. search needs) (λ c. search needs)
-    (λ c κs. search needs) (λ c. search needs) (λ c κs. search needs) (λ c. search needs) (λ c. search needs) (λ c. search needs)
-    (λ c. search needs) (λ c. search needs) covered-mask-requires returns)
+covered-waits-spec = tie.close (tie.spec (λ c. search needs) (λ c κs. search needs) (λ c. search needs) (λ c κs. search needs) (λ c. search needs) (λ c κs. search needs) (λ c. search needs) (λ c κs. search needs) (λ c. search needs) (λ c. search needs) (λ c. search needs) (λ c. search needs) (λ c. search needs) covered-mask-requires returns)

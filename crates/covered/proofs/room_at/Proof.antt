@@ -10,4 +10,4 @@ unfolding carOf
 returns c = rw (c .before .double-at .ensures, c .double-at2 .ensures) refl
 
 pub room-at-spec : {M : Type 1} → statement M
-room-at-spec = tie.close (tie.spec (λ c κs. search needs) (λ c κs. search needs) returns)
+room-at-spec = tie.close (tie.spec (λ c. search needs) (λ c κs. search needs) (λ c. search needs) (λ c κs. search needs) returns)

@@ -58,8 +58,8 @@ returns c =
     c .named-stops .ensures
     ∙ named-mask s _ (a .c .aboards) (a .names .now) (λ j k. eqb (s .aboard k .destination) (stopId s j) && any (λ i. idle s i && eqb (s .car i .id) (s .aboard k .car)) (s .cars)) names
     (λ j i lj li.
-    ap (λ (x : ℕ). eqb x (stopId s j)) (held (λ k. boundId b (c .before .before .before .before .before .before .before .before .before .fill-guarded .last .1 .1 .1 .1 .1 .1 .1 .0) (a .c .cars) (at .result + recordLength Aboard * k)) (a .c .aboards) _ _ (c .before .before .before .before .fill-bound .ensures .1) 0 i li)
-    ∙ ap (λ (x : ℕ). eqb (boundId b (c .before .before .before .before .before .before .before .before .before .fill-guarded .last .1 .1 .1 .1 .1 .1 .1 .0) (a .c .cars) (x + recordLength Aboard * i)) (stopId s j)) (at .ensures)
+    ap (λ (x : ℕ). eqb x (stopId s j)) (held (λ k. boundId b (c .before .before .before .before .before .before .before .before .before .fill-guarded .last .1 .1 .1 .1 .1 .1 .1 .0) (a .c .cars) (at .result + recordLength 0 Aboard * k)) (a .c .aboards) _ _ (c .before .before .before .before .fill-bound .ensures .1) 0 i li)
+    ∙ ap (λ (x : ℕ). eqb (boundId b (c .before .before .before .before .before .before .before .before .before .fill-guarded .last .1 .1 .1 .1 .1 .1 .1 .0) (a .c .cars) (x + recordLength 0 Aboard * i)) (stopId s j)) (at .ensures)
     ∙ kept-id (contains (c .before .before .before .before .before .before .before .before .before .fill-guarded .last .1 .1 .1 .1 .1 .1 .1 .0) (a .c .cars) (s .aboard i .car)) (s .aboard i .destination) (stopId s j) (names .above-zero j lj)
     ∙ ap (λ (t : Bool). eqb (s .aboard i .destination) (stopId s j) && t) (in-idle c (s .aboard i .car) (boarded .above-zero i li)))
 

@@ -29,10 +29,10 @@ returns c =
     c .named-stops .ensures
     ∙ named-mask s _ (a .c .demands) (a .names .now) (λ j d. eqb (s .demand d .stop) (stopId s j) && s .demand d .call) names
     (λ j i lj li.
-    ap (λ (x : ℕ). eqb x (stopId s j)) (held (λ k. guarded b (at .result + recordLength Demand * k) (demand·stop .start) (demand·call .start) 1) (a .c .demands) _ _ (c .before .before .before .before .fill-guarded .ensures .1) 0 i li)
-    ∙ guarded-column b (at .result + recordLength Demand * i) (demand·stop .start) (demand·call .start) 1 (stopId s j) (names .above-zero j lj)
-    ∙ ap (λ (t : Bool). eqb (read (from b (at .result + recordLength Demand * i)) demand·stop) (stopId s j) && t) (flag-is b (at .result + recordLength Demand * i + demand·call .start))
-    ∙ ap (λ (x : ℕ). eqb (read (from b (x + recordLength Demand * i)) demand·stop) (stopId s j) && eqb (read (from b (x + recordLength Demand * i)) demand·call) 1) (at .ensures))
+    ap (λ (x : ℕ). eqb x (stopId s j)) (held (λ k. guarded b (at .result + recordLength 0 Demand * k) (demand·stop .start) (demand·call .start) 1) (a .c .demands) _ _ (c .before .before .before .before .fill-guarded .ensures .1) 0 i li)
+    ∙ guarded-column b (at .result + recordLength 0 Demand * i) (demand·stop .start) (demand·call .start) 1 (stopId s j) (names .above-zero j lj)
+    ∙ ap (λ (t : Bool). eqb (read (from b (at .result + recordLength 0 Demand * i)) demand·stop) (stopId s j) && t) (flag-is b (at .result + recordLength 0 Demand * i + demand·call .start))
+    ∙ ap (λ (x : ℕ). eqb (read (from b (x + recordLength 0 Demand * i)) demand·stop) (stopId s j) && eqb (read (from b (x + recordLength 0 Demand * i)) demand·call) 1) (at .ensures))
 
 pub call-stops-spec : {M : Type 1} → statement M
 call-stops-spec =

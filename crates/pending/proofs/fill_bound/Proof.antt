@@ -13,7 +13,7 @@ use Rattle.pending.proofs.fill_bound.Statement.{statement}
 use Rattle.pending.proofs.fill_bound.Tie as tie
 
 abbrev Inv-loop : tie.InvT-loop
-Inv-loop s base m idle n out₀ a₀ out a = (a ≤ m) × (length out ≡ length out₀) × (out ≡ tab (λ k. boundId (s) (idle) (n) (base + recordLength Aboard * k)) a ++ drop a out₀)
+Inv-loop s base m idle n out₀ a₀ out a = (a ≤ m) × (length out ≡ length out₀) × (out ≡ tab (λ k. boundId (s) (idle) (n) (base + recordLength 0 Aboard * k)) a ++ drop a out₀)
 
 abbrev μ-loop : tie.MeasureT-loop
 μ-loop s base m idle n out₀ a₀ out a = m - a
@@ -28,7 +28,7 @@ loop-again c =
     let a = c .before .before .before .before .before .before .args in (
       omega arith,
       simp length-set (l .inv .1),
-      tab-next (λ k. boundId (a .s .now) (a .idle .now) (a .n) (a .base + recordLength Aboard * k)) (a .out .now) (l .out) (l .a) (c .bound-at .result) (omega arith) (l .inv .2) (c .bound-at .ensures),
+      tab-next (λ k. boundId (a .s .now) (a .idle .now) (a .n) (a .base + recordLength 0 Aboard * k)) (a .out .now) (l .out) (l .a) (c .bound-at .result) (omega arith) (l .inv .2) (c .bound-at .ensures),
     )
 
 returns : tie.Need-returns Inv-loop μ-loop
@@ -36,7 +36,7 @@ returns c =
     let l = c .before .loop in
     let a = c .before .before .before .before .before .args in
     let e : l .a ≡ a .k = omega arith in
-    (l .inv .1, l .inv .2 ∙ ap (λ (m : ℕ). tab (λ k. boundId (a .s .now) (a .idle .now) (a .n) (a .base + recordLength Aboard * k)) m ++ drop m (a .out .now)) e)
+    (l .inv .1, l .inv .2 ∙ ap (λ (m : ℕ). tab (λ k. boundId (a .s .now) (a .idle .now) (a .n) (a .base + recordLength 0 Aboard * k)) m ++ drop m (a .out .now)) e)
 
 pub fill-bound-spec : {M : Type 1} → statement M
 fill-bound-spec =

@@ -30,10 +30,10 @@ returns c =
     c .named-stops .ensures
     ∙ named-mask s _ (a .c .demands) (a .names .now) (λ j d. eqb (s .demand d .stop) (stopId s j) && ltb 0 (s .demand d .riding)) names
     (λ j i lj li.
-    ap (λ (x : ℕ). eqb x (stopId s j)) (held (λ k. guarded b (at .result + recordLength Demand * k) (demand·stop .start) (demand·riding .start) 16) (a .c .demands) _ _ (c .before .before .before .before .fill-guarded .ensures .1) 0 i li)
-    ∙ guarded-column b (at .result + recordLength Demand * i) (demand·stop .start) (demand·riding .start) 16 (stopId s j) (names .above-zero j lj)
-    ∙ ap (λ (t : Bool). eqb (read (from b (at .result + recordLength Demand * i)) demand·stop) (stopId s j) && t) (positive-is (read (from b (at .result + recordLength Demand * i)) demand·riding))
-    ∙ ap (λ (x : ℕ). eqb (read (from b (x + recordLength Demand * i)) demand·stop) (stopId s j) && ltb 0 (read (from b (x + recordLength Demand * i)) demand·riding)) (at .ensures))
+    ap (λ (x : ℕ). eqb x (stopId s j)) (held (λ k. guarded b (at .result + recordLength 0 Demand * k) (demand·stop .start) (demand·riding .start) 16) (a .c .demands) _ _ (c .before .before .before .before .fill-guarded .ensures .1) 0 i li)
+    ∙ guarded-column b (at .result + recordLength 0 Demand * i) (demand·stop .start) (demand·riding .start) 16 (stopId s j) (names .above-zero j lj)
+    ∙ ap (λ (t : Bool). eqb (read (from b (at .result + recordLength 0 Demand * i)) demand·stop) (stopId s j) && t) (positive-is (read (from b (at .result + recordLength 0 Demand * i)) demand·riding))
+    ∙ ap (λ (x : ℕ). eqb (read (from b (x + recordLength 0 Demand * i)) demand·stop) (stopId s j) && ltb 0 (read (from b (x + recordLength 0 Demand * i)) demand·riding)) (at .ensures))
 
 pub ridden-stops-spec : {M : Type 1} → statement M
 ridden-stops-spec =

@@ -28,8 +28,8 @@ returns c =
     c .named-stops .ensures
     ∙ named-mask s _ (a .c .waits) (a .names .now) (λ j w. eqb (s .waiting w .stop) (stopId s j)) names
     (λ j i lj li.
-    ap (λ (x : ℕ). eqb x (stopId s j)) (held (λ k. read (from b (at .result + recordLength Waiting * k)) waiting·stop) (a .c .waits) _ _ (c .before .before .before .before .fill32 .ensures .1) 0 i li)
-    ∙ ap (λ (x : ℕ). eqb (read (from b (x + recordLength Waiting * i)) waiting·stop) (stopId s j)) (at .ensures))
+    ap (λ (x : ℕ). eqb x (stopId s j)) (held (λ k. read (from b (at .result + recordLength 0 Waiting * k)) waiting·stop) (a .c .waits) _ _ (c .before .before .before .before .fill32 .ensures .1) 0 i li)
+    ∙ ap (λ (x : ℕ). eqb (read (from b (x + recordLength 0 Waiting * i)) waiting·stop) (stopId s j)) (at .ensures))
 
 pub waited-stops-spec : {M : Type 1} → statement M
 waited-stops-spec =
