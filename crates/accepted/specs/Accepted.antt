@@ -4,12 +4,14 @@ use mathlib.Core.Path.{_≡_, refl, sym, ap, _∙_, subst}
 use mathlib.Core.Bool.{Bool, true, false, not, _&&_, cond}
 use mathlib.Core.List.{List}
 use mathlib.Core.Logic.{_⊎_, inl, inr, ⊎-elim, _≢_}
+use native.Mathlib.Nat.{mul-le-mul}
 use native.Mathlib.Omega.{arith}
 use lib.Dec.{eqb, ltb}
 use lib.Ieee.{Float}
 use lib.ListN.{length}
 use borrow.Author.Tests.{eq-eqb, ne-eqb, eqb-true, eqb-false, ltb-true, ltb-false, leb-false, not-true, not-false}
-use Rattle.fp.specs.Ranges.{isPosition, isSpeed, isMass, isThreshold, isTickRate}
+use Rattle.components.specs.Points.{isPlaced}
+use Rattle.fp.specs.Ranges.{isSpeed, isMass, isThreshold, isTickRate}
 use Rattle.mask.specs.Mask.{pastStops}
 use Rattle.laws.specs.Bools.{which, never, neither-left, neither-right, both-left, both-right, not-both, same?, less?}
 use Rattle.laws.specs.Folds.{any, any-some, any-none, count-above, nth, nth-is}
@@ -26,27 +28,27 @@ use Rattle.components.specs.declared.Kind.the-variants as kind
 use Rattle.layout.specs.declared.Counts.{Counts}
 use Rattle.layout.specs.declared.Reading.{Reading}
 use Rattle.layout.specs.declared.Reading.the-variants.{Refused, Accepted}
-use Rattle.layout.specs.Offsets.{headLength, stopStart, lineStart, carStart, aboardStart, waitingStart, demandStart, closedStart, recordLength, none, next, endOf}
+use Rattle.layout.specs.Offsets.{headLength, stopStart, lineStart, carStart, aboardStart, waitingStart, demandStart, closedStart, recordLength, acrossBits, next, endOf}
 use Rattle.layout.specs.Offsets.{lastKind, stopsFrom, linesFrom, carsFrom, Small}
-use Rattle.layout.specs.Table.{car·hasBypassUp, car·hasBypassDown, car·bypassDown, policy·limit, policy·rate, policy·w0, policy·w1, policy·w2}
+use Rattle.layout.specs.Table.{past, car·across, car·hasBypassUp, car·hasBypassDown, car·bypassDown, policy·limit, policy·rate, policy·w0, policy·w1, policy·w2}
 use Rattle.layout.specs.Table.{policy·w3, policy·w4, stop·id, line·id, line·serves, car·id, car·line, car·phase, car·stop, car·hasTarget, car·target}
 use Rattle.layout.specs.Table.{car·position, car·speed, car·capacity, car·load, car·bypassUp, car·bypassDown, car·transition, car·dwell}
 use Rattle.layout.specs.Table.{car·restricted, car·calls, aboard·car, waiting·stop, waiting·weight, waiting·wait, demand·stop, first, closed·stop}
-use Rattle.layout.specs.Records.{Fields, from, flag, double, policyOf, stopOf, lineOf, carOf, aboardOf, waitingOf, demandOf, sheetOf, limitOf, read}
-use Rattle.layout.specs.Refusals.{recordCount, kindAt, pastEnd, refusal2Head, refusal6Empty, refusal16, tailFits, refusal6, refusal4, refusal7, seen}
+use Rattle.layout.specs.Records.{Fields, from, flag, double, point, policyOf, stopOf, lineOf, carOf, aboardOf, waitingOf, demandOf, sheetOf, limitOf, read}
+use Rattle.layout.specs.Refusals.{edition, recordCount, kindAt, pastEnd, refusal2Head, refusal6Empty, refusal16, tailFits, refusal6, refusal4, refusal7, seen}
 use Rattle.layout.specs.Refusals.{hasStop, hasLine, hasCar, hasDemand, hasClosed, lastStop, presentZero, strategyAt, phaseAt, refusal8Policy}
 use Rattle.layout.specs.Refusals.{refusal11Policy, refusal12, refusal9Stop, refusal11Stop, refusal9Line, refusal10Line, refusal8Car}
 use Rattle.layout.specs.Refusals.{refusal9Car, refusal10Car, refusal11Car, refusal13, refusal8Aboard, refusal9Aboard, refusal10Aboard}
 use Rattle.layout.specs.Refusals.{refusal8Waiting, refusal9Waiting, refusal10Waiting, refusal11Waiting, refusal14, refusal9Demand, refusal10Demand, refusal9Closed, refusal10Closed}
-use Rattle.layout.specs.Verdict.{bodyRefusal, recordRefusal, headRules, tailRules, given, tailVerdict, recordsVerdict, verdict, firstOf}
+use Rattle.layout.specs.Verdict.{bodyRefusal, recordRefusal, headRules, tailRules, given, tailVerdict, recordsVerdict, atFirst, verdict, firstOf}
 use Rattle.layout.specs.Readings.{refused≢accepted, same-counts}
 use Rattle.layout.specs.VerdictLaws.{pick-none, Clean, clean}
 use Rattle.accepted.specs.Sound.{Found, Distinct, isThresholdOr, SoundPolicy, SoundStop, SoundLine, SoundCar, SoundWaiting, SoundSheet, Sound}
 
 -- ---- the records that were read
 
-abbrev pub counts : ℕ → ℕ → ℕ → ℕ → ℕ → ℕ → ℕ → ℕ → Counts
-counts p s l k a w d x = record { policies = p; stops = s; lines = l; cars = k; aboards = a; waits = w; demands = d; closures = x }
+abbrev pub counts : ℕ → ℕ → ℕ → ℕ → ℕ → ℕ → ℕ → ℕ → ℕ → Counts
+counts q p s l k a w d x = record { across = q; policies = p; stops = s; lines = l; cars = k; aboards = a; waits = w; demands = d; closures = x }
 
 -- of the record of kind k after those counted, no condition from 7 on holds
 pub record Read (s : List ℕ) (c : Counts) (k : Kind) : Type 0 where
@@ -55,15 +57,17 @@ pub record Read (s : List ℕ) (c : Counts) (k : Kind) : Type 0 where
 
 -- each record with the counts before it: those of its kind that stand before, and all of the lower kinds
 pub record Records (s : List ℕ) (c : Counts) : Type 0 where
-  pub policies : (i : ℕ) → i < c .policies → Read s (counts i 0 0 0 0 0 0 0) Policy
-  pub stops : (i : ℕ) → i < c .stops → Read s (counts (c .policies) i 0 0 0 0 0 0) Stop
-  pub lines : (i : ℕ) → i < c .lines → Read s (counts (c .policies) (c .stops) i 0 0 0 0 0) Line
-  pub cars : (i : ℕ) → i < c .cars → Read s (counts (c .policies) (c .stops) (c .lines) i 0 0 0 0) Car
-  pub aboards : (i : ℕ) → i < c .aboards → Read s (counts (c .policies) (c .stops) (c .lines) (c .cars) i 0 0 0) Aboard
-  pub waits : (i : ℕ) → i < c .waits → Read s (counts (c .policies) (c .stops) (c .lines) (c .cars) (c .aboards) i 0 0) Waiting
-  pub demands : (i : ℕ) → i < c .demands → Read s (counts (c .policies) (c .stops) (c .lines) (c .cars) (c .aboards) (c .waits) i 0) Demand
+  -- of an edition
+  pub across : (c .across ≡ 0) ⊎ (c .across ≡ 64)
+  pub policies : (i : ℕ) → i < c .policies → Read s (counts (c .across) i 0 0 0 0 0 0 0) Policy
+  pub stops : (i : ℕ) → i < c .stops → Read s (counts (c .across) (c .policies) i 0 0 0 0 0 0) Stop
+  pub lines : (i : ℕ) → i < c .lines → Read s (counts (c .across) (c .policies) (c .stops) i 0 0 0 0 0) Line
+  pub cars : (i : ℕ) → i < c .cars → Read s (counts (c .across) (c .policies) (c .stops) (c .lines) i 0 0 0 0) Car
+  pub aboards : (i : ℕ) → i < c .aboards → Read s (counts (c .across) (c .policies) (c .stops) (c .lines) (c .cars) i 0 0 0) Aboard
+  pub waits : (i : ℕ) → i < c .waits → Read s (counts (c .across) (c .policies) (c .stops) (c .lines) (c .cars) (c .aboards) i 0 0) Waiting
+  pub demands : (i : ℕ) → i < c .demands → Read s (counts (c .across) (c .policies) (c .stops) (c .lines) (c .cars) (c .aboards) (c .waits) i 0) Demand
   pub closures : (i : ℕ) → i < c .closures
-      → Read s (counts (c .policies) (c .stops) (c .lines) (c .cars) (c .aboards) (c .waits) (c .demands) i) Closed
+      → Read s (counts (c .across) (c .policies) (c .stops) (c .lines) (c .cars) (c .aboards) (c .waits) (c .demands) i) Closed
 
 -- ---- one record more
 
@@ -113,9 +117,9 @@ above-zero n e = let h = eqb-false n 0 e in ⊎-elim (λ (l : 0 < n). l) (λ (l 
 gone : {n i : ℕ} → n ≡ 0 → i < n → ⊥
 gone e l = absurd (omega arith)
 
-agree-counts : {p s l k a w d x p′ s′ l′ k′ a′ w′ d′ x′ : ℕ} → p ≡ p′ → s ≡ s′ → l ≡ l′ → k ≡ k′ → a ≡ a′
+agree-counts : {q p s l k a w d x p′ s′ l′ k′ a′ w′ d′ x′ : ℕ} → p ≡ p′ → s ≡ s′ → l ≡ l′ → k ≡ k′ → a ≡ a′
     → w ≡ w′ → d ≡ d′ → x ≡ x′
-    → counts p s l k a w d x ≡ counts p′ s′ l′ k′ a′ w′ d′ x′
+    → counts q p s l k a w d x ≡ counts q p′ s′ l′ k′ a′ w′ d′ x′
 agree-counts e1 e2 e3 e4 e5 e6 e7 e8 = cc
 
 module _ (s : List ℕ) (c : Counts) (m : ℕ) (h : Records s c) (e : Last c m) where
@@ -130,6 +134,7 @@ module _ (s : List ℕ) (c : Counts) (m : ℕ) (h : Records s c) (e : Last c m) 
       let d0 = e .demands (omega arith) in
       let x0 = e .closures (omega arith) in
       record {
+        across = h .across;
         policies = grown (h .policies) (subst (λ x. Read s x Policy) (agree-counts refl s0 l0 k0 a0 w0 d0 x0) r);
         stops = λ i l. absurd (gone s0 l);
         lines = λ i l. absurd (gone l0 l);
@@ -149,6 +154,7 @@ module _ (s : List ℕ) (c : Counts) (m : ℕ) (h : Records s c) (e : Last c m) 
       let d0 = e .demands (omega arith) in
       let x0 = e .closures (omega arith) in
       record {
+        across = h .across;
         policies = h .policies;
         stops = grown (h .stops) (subst (λ x. Read s x Stop) (agree-counts refl refl l0 k0 a0 w0 d0 x0) r);
         lines = λ i l. absurd (gone l0 l);
@@ -167,6 +173,7 @@ module _ (s : List ℕ) (c : Counts) (m : ℕ) (h : Records s c) (e : Last c m) 
       let d0 = e .demands (omega arith) in
       let x0 = e .closures (omega arith) in
       record {
+        across = h .across;
         policies = h .policies;
         stops = h .stops;
         lines = grown (h .lines) (subst (λ x. Read s x Line) (agree-counts refl refl refl k0 a0 w0 d0 x0) r);
@@ -184,6 +191,7 @@ module _ (s : List ℕ) (c : Counts) (m : ℕ) (h : Records s c) (e : Last c m) 
       let d0 = e .demands (omega arith) in
       let x0 = e .closures (omega arith) in
       record {
+        across = h .across;
         policies = h .policies;
         stops = h .stops;
         lines = h .lines;
@@ -200,6 +208,7 @@ module _ (s : List ℕ) (c : Counts) (m : ℕ) (h : Records s c) (e : Last c m) 
       let d0 = e .demands (omega arith) in
       let x0 = e .closures (omega arith) in
       record {
+        across = h .across;
         policies = h .policies;
         stops = h .stops;
         lines = h .lines;
@@ -215,6 +224,7 @@ module _ (s : List ℕ) (c : Counts) (m : ℕ) (h : Records s c) (e : Last c m) 
       let d0 = e .demands (omega arith) in
       let x0 = e .closures (omega arith) in
       record {
+        across = h .across;
         policies = h .policies;
         stops = h .stops;
         lines = h .lines;
@@ -229,6 +239,7 @@ module _ (s : List ℕ) (c : Counts) (m : ℕ) (h : Records s c) (e : Last c m) 
   with-demand q r =
       let x0 = e .closures (omega arith) in
       record {
+        across = h .across;
         policies = h .policies;
         stops = h .stops;
         lines = h .lines;
@@ -242,6 +253,7 @@ module _ (s : List ℕ) (c : Counts) (m : ℕ) (h : Records s c) (e : Last c m) 
   with-closed : Read s c Closed → Records s (next c Closed)
   with-closed r =
       record {
+        across = h .across;
         policies = h .policies;
         stops = h .stops;
         lines = h .lines;
@@ -336,25 +348,34 @@ from-here s (suc n) c d h f e =
 pub record Headed (s : List ℕ) (c : Counts) : Type 0 where
   pub three : 3 ≤ length s
   pub some : 0 < recordCount s
-  pub rest : recordsVerdict s (recordCount s) none ≡ Accepted c
+  pub rest : recordsVerdict s (recordCount s) (atFirst s) ≡ Accepted c
 
 pub headed : (s : List ℕ) (c : Counts) → verdict s ≡ Accepted c → Headed s c
 unfolding verdict firstOf recordsVerdict refusal2Head refusal6Empty
 headed s c e =
-    let a = not-given (firstOf (headRules s)) 0 (recordsVerdict s (recordCount s) none) c e in
+    let a = not-given (firstOf (headRules s)) 0 (recordsVerdict s (recordCount s) (atFirst s)) c e in
     let b = pick-none (refusal2Head s) 2 _ (omega arith) (a .0) in
     let long = ltb-false (8 * length s) headLength (b .0) in
     let some : recordCount s ≡ 0 → ⊥ = λ z.
-    not-both (eq-eqb (recordCount s) 0 z) (tail-end s none c (subst (λ n. recordsVerdict s n none ≡ Accepted c) z (a .1)) .0) in
+    not-both (eq-eqb (recordCount s) 0 z) (tail-end s (atFirst s) c (subst (λ n. recordsVerdict s n (atFirst s) ≡ Accepted c) z (a .1)) .0) in
     record {
       three = omega arith;
       some = ⊎-elim (λ (l : 0 < recordCount s). l) (λ (l : recordCount s ≤ 0). absurd (some (omega arith))) (less? 0 (recordCount s));
       rest = a .1;
     }
 
-pub no-records : (s : List ℕ) → Records s none
+-- a second coordinate has no bits, or 64
+pub across-two : (e : ℕ) → (acrossBits e ≡ 0) ⊎ (acrossBits e ≡ 64)
+across-two e = by (eqb e 2)
+  where
+    by : (b : Bool) → (_≡_ {A = ℕ} (cond b 64 0) 0) ⊎ (_≡_ {A = ℕ} (cond b 64 0) 64)
+    by true = inr refl
+    by false = inl refl
+
+pub no-records : (s : List ℕ) → Records s (atFirst s)
 no-records s =
     record {
+      across = across-two (edition s);
       policies = λ i l. absurd (omega arith);
       stops = λ i l. absurd (omega arith);
       lines = λ i l. absurd (omega arith);
@@ -366,7 +387,7 @@ no-records s =
     }
 
 pub whole : (s : List ℕ) (c : Counts) → verdict s ≡ Accepted c → Whole s c
-whole s c e = let h = headed s c e in from-here s (recordCount s) none c (no-records s) (inr (h .some)) (h .rest)
+whole s c e = let h = headed s c e in from-here s (recordCount s) (atFirst s) c (no-records s) (inr (h .some)) (h .rest)
 
 -- ---- what the conditions leave of each record
 
@@ -397,14 +418,14 @@ module _ (f : Fields) where
       )
 
   record StopFacts (s : List ℕ) (c : Counts) : Type 0 where
-    pub sound : SoundStop (stopOf f)
+    pub sound : SoundStop (stopOf (c .across) f)
     pub above : lastStop s c < read f stop·id
 
   stop-facts : (s : List ℕ) (c : Counts) → bodyRefusal s c kind.Stop f ≡ 0 → StopFacts s c
   unfolding firstOf refusal9Stop refusal11Stop stopOf
   stop-facts s c e =
       let a = pick-none (refusal9Stop s c f) 9 _ (omega arith) e in
-      let b = pick-none (refusal11Stop f) 11 0 (omega arith) (a .1) in
+      let b = pick-none (refusal11Stop c f) 11 0 (omega arith) (a .1) in
       record {
         sound = record {
           id = above-zero (read f stop·id) (neither-left (eqb (read f stop·id) 0) _ (a .0));
@@ -435,48 +456,48 @@ module _ (f : Fields) where
     pub line : hasLine s c (read f car·line) ≡ true
     pub phase : eqb (phaseCode (phaseAt f)) 7 ≡ false
     pub moving : (isMoving (phaseAt f) && eqb (read f car·stop) 0) ≡ false
-    pub position : isPosition (double f car·position) ≡ true
-    pub speed : isSpeed (double f car·speed) ≡ true
-    pub capacity : isMass (double f car·capacity) ≡ true
-    pub load : isMass (double f car·load) ≡ true
-    pub bypassup : isThreshold (double f car·bypassUp) ≡ true
-    pub bypassdown : isThreshold (double f car·bypassDown) ≡ true
-    pub ticks : 2 * read f car·transition + read f car·dwell ≤ 4294967295
-    pub restricted : pastStops (read f car·restricted) (c .stops) ≡ false
-    pub calls : pastStops (read f car·calls) (c .stops) ≡ false
+    pub position : isPlaced (point f car·position (car·across (c .across))) ≡ true
+    pub speed : isSpeed (double f (past (c .across) car·speed)) ≡ true
+    pub capacity : isMass (double f (past (c .across) car·capacity)) ≡ true
+    pub load : isMass (double f (past (c .across) car·load)) ≡ true
+    pub bypassup : isThreshold (double f (past (c .across) car·bypassUp)) ≡ true
+    pub bypassdown : isThreshold (double f (past (c .across) car·bypassDown)) ≡ true
+    pub ticks : 2 * read f (past (c .across) car·transition) + read f (past (c .across) car·dwell) ≤ 4294967295
+    pub restricted : pastStops (read f (past (c .across) car·restricted)) (c .stops) ≡ false
+    pub calls : pastStops (read f (past (c .across) car·calls)) (c .stops) ≡ false
 
   car-facts : (s : List ℕ) (c : Counts) → bodyRefusal s c kind.Car f ≡ 0 → CarFacts s c
   unfolding firstOf refusal8Car refusal9Car refusal10Car refusal11Car refusal13
   car-facts s c e =
-      let r8 = pick-none (refusal8Car f) 8 _ (omega arith) e in
+      let r8 = pick-none (refusal8Car c f) 8 _ (omega arith) e in
       let r9 = pick-none (refusal9Car s c f) 9 _ (omega arith) (r8 .1) in
       let r10 = pick-none (refusal10Car s c f) 10 _ (omega arith) (r9 .1) in
-      let r11 = pick-none (refusal11Car f) 11 _ (omega arith) (r10 .1) in
-      let r13 = pick-none (refusal13 f) 13 0 (omega arith) (r11 .1) in
+      let r11 = pick-none (refusal11Car c f) 11 _ (omega arith) (r10 .1) in
+      let r13 = pick-none (refusal13 c f) 13 0 (omega arith) (r11 .1) in
       let i1 = neither-right (eqb (read f car·id) 0) _ (r9 .0) in
       let i2 = neither-right (eqb (read f car·line) 0) _ i1 in
       let i3 = neither-right (isMoving (phaseAt f) && eqb (read f car·stop) 0) _ i2 in
       let m = neither-right (not (hasLine s c (read f car·line))) _ (r10 .0) in
       let d0 = not-false _ (r11 .0) in
-      let d1 = both-right (isPosition (double f car·position)) _ d0 in
-      let d2 = both-right (isSpeed (double f car·speed)) _ d1 in
-      let d3 = both-right (isMass (double f car·capacity)) _ d2 in
-      let d4 = both-right (isMass (double f car·load)) _ d3 in
+      let d1 = both-right (isPlaced (point f car·position (car·across (c .across)))) _ d0 in
+      let d2 = both-right (isSpeed (double f (past (c .across) car·speed))) _ d1 in
+      let d3 = both-right (isMass (double f (past (c .across) car·capacity))) _ d2 in
+      let d4 = both-right (isMass (double f (past (c .across) car·load))) _ d3 in
       record {
         id = above-zero (read f car·id) (neither-left (eqb (read f car·id) 0) _ (r9 .0));
         fresh = neither-right (presentZero f car·hasTarget car·target) _ i3;
         line = not-false _ (neither-left (not (hasLine s c (read f car·line))) _ (r10 .0));
         phase = neither-left (eqb (phaseCode (phaseAt f)) 7) _ (r8 .0);
         moving = neither-left (isMoving (phaseAt f) && eqb (read f car·stop) 0) _ i2;
-        position = both-left (isPosition (double f car·position)) _ d0;
-        speed = both-left (isSpeed (double f car·speed)) _ d1;
-        capacity = both-left (isMass (double f car·capacity)) _ d2;
-        load = both-left (isMass (double f car·load)) _ d3;
-        bypassup = both-left (isThreshold (double f car·bypassUp)) _ d4;
-        bypassdown = both-right (isThreshold (double f car·bypassUp)) _ d4;
-        ticks = ltb-false 4294967295 (2 * read f car·transition + read f car·dwell) (r13 .0);
-        restricted = neither-left (pastStops (read f car·restricted) (c .stops)) _ m;
-        calls = neither-right (pastStops (read f car·restricted) (c .stops)) _ m;
+        position = both-left (isPlaced (point f car·position (car·across (c .across)))) _ d0;
+        speed = both-left (isSpeed (double f (past (c .across) car·speed))) _ d1;
+        capacity = both-left (isMass (double f (past (c .across) car·capacity))) _ d2;
+        load = both-left (isMass (double f (past (c .across) car·load))) _ d3;
+        bypassup = both-left (isThreshold (double f (past (c .across) car·bypassUp))) _ d4;
+        bypassdown = both-right (isThreshold (double f (past (c .across) car·bypassUp))) _ d4;
+        ticks = ltb-false 4294967295 (2 * read f (past (c .across) car·transition) + read f (past (c .across) car·dwell)) (r13 .0);
+        restricted = neither-left (pastStops (read f (past (c .across) car·restricted)) (c .stops)) _ m;
+        calls = neither-right (pastStops (read f (past (c .across) car·restricted)) (c .stops)) _ m;
       }
 
   aboard-car : (s : List ℕ) (c : Counts) → bodyRefusal s c kind.Aboard f ≡ 0 → hasCar s c (read f aboard·car) ≡ true
@@ -593,43 +614,43 @@ pub body-at : {s : List ℕ} {c : Counts} {k : Kind} → Read s c k → (at : �
 body-at {s} {c} {k} r at e = subst (λ x. bodyRefusal s c k (from s x) ≡ 0) e (r .body)
 
 module _ (s : List ℕ) (c : Counts) (h : Records s c) where
-  the-stop : (j : ℕ) → j < c .stops → StopFacts (from s (stopStart c j)) s (counts (c .policies) j 0 0 0 0 0 0)
+  the-stop : (j : ℕ) → j < c .stops → StopFacts (from s (stopStart c j)) s (counts (c .across) (c .policies) j 0 0 0 0 0 0)
   the-stop j l =
-      let at = stopStart c j in stop-facts (from s at) s (counts (c .policies) j 0 0 0 0 0 0) (body-at (h .stops j l) at (omega arith))
+      let at = stopStart c j in stop-facts (from s at) s (counts (c .across) (c .policies) j 0 0 0 0 0 0) (body-at (h .stops j l) at (omega arith))
 
-  the-line : (i : ℕ) → i < c .lines → LineFacts (from s (lineStart c i)) s (counts (c .policies) (c .stops) i 0 0 0 0 0)
+  the-line : (i : ℕ) → i < c .lines → LineFacts (from s (lineStart c i)) s (counts (c .across) (c .policies) (c .stops) i 0 0 0 0 0)
   the-line i l =
       let at = lineStart c i in
-      line-facts (from s at) s (counts (c .policies) (c .stops) i 0 0 0 0 0) (body-at (h .lines i l) at (omega arith))
+      line-facts (from s at) s (counts (c .across) (c .policies) (c .stops) i 0 0 0 0 0) (body-at (h .lines i l) at (omega arith))
 
-  the-car : (i : ℕ) → i < c .cars → CarFacts (from s (carStart c i)) s (counts (c .policies) (c .stops) (c .lines) i 0 0 0 0)
+  the-car : (i : ℕ) → i < c .cars → CarFacts (from s (carStart c i)) s (counts (c .across) (c .policies) (c .stops) (c .lines) i 0 0 0 0)
   the-car i l =
       let at = carStart c i in
-      car-facts (from s at) s (counts (c .policies) (c .stops) (c .lines) i 0 0 0 0) (body-at (h .cars i l) at (omega arith))
+      car-facts (from s at) s (counts (c .across) (c .policies) (c .stops) (c .lines) i 0 0 0 0) (body-at (h .cars i l) at (omega arith))
 
   the-aboard : (i : ℕ) → i < c .aboards → hasCar s c (read (from s (aboardStart c i)) aboard·car) ≡ true
   the-aboard i l =
       let at = aboardStart c i in
-      aboard-car (from s at) s (counts (c .policies) (c .stops) (c .lines) (c .cars) i 0 0 0) (body-at (h .aboards i l) at (omega arith))
+      aboard-car (from s at) s (counts (c .across) (c .policies) (c .stops) (c .lines) (c .cars) i 0 0 0) (body-at (h .aboards i l) at (omega arith))
 
   the-waiting : (i : ℕ) → i < c .waits
-      → WaitingFacts (from s (waitingStart c i)) s (counts (c .policies) (c .stops) (c .lines) (c .cars) (c .aboards) i 0 0)
+      → WaitingFacts (from s (waitingStart c i)) s (counts (c .across) (c .policies) (c .stops) (c .lines) (c .cars) (c .aboards) i 0 0)
   the-waiting i l =
       let at = waitingStart c i in
-      waiting-facts (from s at) s (counts (c .policies) (c .stops) (c .lines) (c .cars) (c .aboards) i 0 0) (body-at (h .waits i l) at (omega arith))
+      waiting-facts (from s at) s (counts (c .across) (c .policies) (c .stops) (c .lines) (c .cars) (c .aboards) i 0 0) (body-at (h .waits i l) at (omega arith))
 
   the-demand : (i : ℕ) → i < c .demands
-      → DemandFacts (from s (demandStart c i)) s (counts (c .policies) (c .stops) (c .lines) (c .cars) (c .aboards) (c .waits) i 0)
+      → DemandFacts (from s (demandStart c i)) s (counts (c .across) (c .policies) (c .stops) (c .lines) (c .cars) (c .aboards) (c .waits) i 0)
   the-demand i l =
       let at = demandStart c i in
-      demand-facts (from s at) s (counts (c .policies) (c .stops) (c .lines) (c .cars) (c .aboards) (c .waits) i 0)
+      demand-facts (from s at) s (counts (c .across) (c .policies) (c .stops) (c .lines) (c .cars) (c .aboards) (c .waits) i 0)
       (body-at (h .demands i l) at (omega arith))
 
   the-closed : (i : ℕ) → i < c .closures
-      → ClosedFacts (from s (closedStart c i)) s (counts (c .policies) (c .stops) (c .lines) (c .cars) (c .aboards) (c .waits) (c .demands) i)
+      → ClosedFacts (from s (closedStart c i)) s (counts (c .across) (c .policies) (c .stops) (c .lines) (c .cars) (c .aboards) (c .waits) (c .demands) i)
   the-closed i l =
       let at = closedStart c i in
-      closed-facts (from s at) s (counts (c .policies) (c .stops) (c .lines) (c .cars) (c .aboards) (c .waits) (c .demands) i)
+      closed-facts (from s at) s (counts (c .across) (c .policies) (c .stops) (c .lines) (c .cars) (c .aboards) (c .waits) (c .demands) i)
       (body-at (h .closures i l) at (omega arith))
 
   abbrev stop-ids : ℕ → ℕ
@@ -653,7 +674,7 @@ module _ (s : List ℕ) (c : Counts) (h : Records s c) where
       let f = the-stop (suc i) l .above in
       let e : suc i - 1 ≡ i = omega arith in
       let g : eqb (suc i) 0 ≡ false = ne-eqb (suc i) 0 (λ q. absurd (omega arith)) in
-      let z : lastStop s (counts (c .policies) (suc i) 0 0 0 0 0 0) ≡ stop-ids i = rw (g, e) in
+      let z : lastStop s (counts (c .across) (c .policies) (suc i) 0 0 0 0 0 0) ≡ stop-ids i = rw (g, e) in
       omega arith
 
   distinct-lines : Distinct line-ids (c .lines)
@@ -669,7 +690,7 @@ module _ (s : List ℕ) (c : Counts) (h : Records s c) where
   distinct-demands = distinct demand-ids (c .demands) (λ i l. the-demand i l .fresh)
 
   demand-found : (i : ℕ) → i < c .demands → Found stop-ids (c .stops) (demand-ids i)
-  demand-found i l = found s (stopsFrom c) (recordLength kind.Stop) (c .stops) (demand-ids i) (the-demand i l .stop)
+  demand-found i l = found s (stopsFrom c) (recordLength (c .across) kind.Stop) (c .stops) (demand-ids i) (the-demand i l .stop)
 
   pub few-demands : c .demands ≤ c .stops
   few-demands = no-more demand-ids stop-ids (c .demands) (c .stops) distinct-demands demand-found
@@ -679,22 +700,28 @@ module _ (s : List ℕ) (c : Counts) (h : Records s c) where
   distinct-closures = distinct closed-ids (c .closures) (λ i l. the-closed i l .fresh)
 
   closed-found : (i : ℕ) → i < c .closures → Found stop-ids (c .stops) (closed-ids i)
-  closed-found i l = found s (stopsFrom c) (recordLength kind.Stop) (c .stops) (closed-ids i) (the-closed i l .stop)
+  closed-found i l = found s (stopsFrom c) (recordLength (c .across) kind.Stop) (c .stops) (closed-ids i) (the-closed i l .stop)
 
   pub few-closures : c .closures ≤ c .stops
   few-closures = no-more closed-ids stop-ids (c .closures) (c .stops) distinct-closures closed-found
 
   pub small : Small c
   small =
+      let w : c .across ≤ 64 = ⊎-elim (λ (e : c .across ≡ 0). omega arith) (λ (e : c .across ≡ 64). omega arith) (h .across) in
+      let most-stops = up-to (c .stops) 64 (λ i l. leb-false 64 i (h .stops i l .has-room)) in
+      let most-cars = up-to (c .cars) 32 (λ i l. leb-false 32 i (h .cars i l .has-room)) in
       record {
+        across = w;
         policies = up-to (c .policies) 1 (λ i l. leb-false 1 i (h .policies i l .has-room));
-        stops = up-to (c .stops) 64 (λ i l. leb-false 64 i (h .stops i l .has-room));
+        stops = most-stops;
         lines = up-to (c .lines) 8 (λ i l. leb-false 8 i (h .lines i l .has-room));
-        cars = up-to (c .cars) 32 (λ i l. leb-false 32 i (h .cars i l .has-room));
+        cars = most-cars;
         aboards = up-to (c .aboards) 512 (λ i l. leb-false 512 i (h .aboards i l .has-room));
         waits = up-to (c .waits) 512 (λ i l. leb-false 512 i (h .waits i l .has-room));
-        demands = let few = few-demands in let most = up-to (c .stops) 64 (λ i l. leb-false 64 i (h .stops i l .has-room)) in omega arith;
-        closures = let few = few-closures in let most = up-to (c .stops) 64 (λ i l. leb-false 64 i (h .stops i l .has-room)) in omega arith;
+        demands = let few = few-demands in omega arith;
+        closures = let few = few-closures in omega arith;
+        stop-bits = mul-le-mul {n₂ = 182} {m₂ = 64} (omega arith) most-stops;
+        car-bits = mul-le-mul {n₂ = 801} {m₂ = 32} (omega arith) most-cars;
       }
 
   sound-line : (i : ℕ) → i < c .lines → SoundLine (sheetOf s c) (sheetOf s c .line i)
@@ -708,7 +735,7 @@ module _ (s : List ℕ) (c : Counts) (h : Records s c) where
       let f = the-car i l in
       record {
         id = f .id;
-        line = found s (linesFrom c) (recordLength kind.Line) (c .lines) (read g car·line) (f .line);
+        line = found s (linesFrom c) (recordLength (c .across) kind.Line) (c .lines) (read g car·line) (f .line);
         phase = λ q. not-both (ap (λ k. eqb (phaseCode k) 7) q) (f .phase);
         moving = λ q.
             above-zero (movingTarget (phaseAt g))
@@ -717,8 +744,8 @@ module _ (s : List ℕ) (c : Counts) (h : Records s c) where
         speed = f .speed;
         capacity = f .capacity;
         load = f .load;
-        bypassup = threshold-or (flag g car·hasBypassUp) (double g car·bypassUp) (f .bypassup);
-        bypassdown = threshold-or (flag g car·hasBypassDown) (double g car·bypassDown) (f .bypassdown);
+        bypassup = threshold-or (flag g (past (c .across) car·hasBypassUp)) (double g (past (c .across) car·bypassUp)) (f .bypassup);
+        bypassdown = threshold-or (flag g (past (c .across) car·hasBypassDown)) (double g (past (c .across) car·bypassDown)) (f .bypassdown);
         ticks = let t = f .ticks in omega arith;
         restricted = f .restricted;
         calls = f .calls;
@@ -729,7 +756,7 @@ module _ (s : List ℕ) (c : Counts) (h : Records s c) where
   sound-waiting r l =
       let f = the-waiting r l in
       record {
-        stop = found s (stopsFrom c) (recordLength kind.Stop) (c .stops) (read (from s (waitingStart c r)) waiting·stop) (f .stop);
+        stop = found s (stopsFrom c) (recordLength (c .across) kind.Stop) (c .stops) (read (from s (waitingStart c r)) waiting·stop) (f .stop);
         weight = f .weight;
         wait = f .wait;
       }
@@ -753,7 +780,7 @@ module _ (s : List ℕ) (c : Counts) (h : Records s c) where
         line-ids = distinct-lines;
         car = sound-car;
         car-ids = distinct-cars;
-        aboard = λ r l. found s (carsFrom c) (recordLength kind.Car) (c .cars) (read (from s (aboardStart c r)) aboard·car) (the-aboard r l);
+        aboard = λ r l. found s (carsFrom c) (recordLength (c .across) kind.Car) (c .cars) (read (from s (aboardStart c r)) aboard·car) (the-aboard r l);
         waiting = sound-waiting;
         demand = demand-found;
         demand-stops = distinct-demands;
@@ -773,7 +800,8 @@ pub accepted : (s : List ℕ) (c : Counts) → verdict s ≡ Accepted c → Soun
 unfolding limitOf
 accepted s c e =
     let w = whole s c e in
-    let p = sound-policy (from s headLength) s (counts 0 0 0 0 0 0 0 0) (w .records .policies 0 (w .first) .body) in
+    let p = sound-policy (from s headLength) s (counts (c .across) 0 0 0 0 0 0 0 0)
+    (body-at (w .records .policies 0 (w .first)) headLength (omega arith)) in
     let m = small s c (w .records) in
     record {
       small = m;

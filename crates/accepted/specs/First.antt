@@ -1,10 +1,11 @@
 -- A byte list has the verdict of its first 65,536 bytes, so a program with a buffer of that size answers for every input: what was read without a
--- refusal ends by bit 208,658, and a record has at most 65,557 bits. Assumes nothing.
+-- refusal ends by bit 218,258, and a record has at most 65,557 bits. Assumes nothing.
 use Prim.Native.Nat.{ℕ, zero, suc, _+_, _-_, _*_, _≤_, _<_}
-use mathlib.Core.Path.{_≡_, refl, sym, ap, _∙_, fun-ext}
+use mathlib.Core.Path.{_≡_, refl, sym, ap, _∙_, subst, fun-ext}
 use mathlib.Core.Bool.{Bool, true, false, _||_, cond}
 use mathlib.Core.List.{List}
-use mathlib.Core.Logic.{⊎-elim}
+use mathlib.Core.Logic.{_⊎_, ⊎-elim}
+use native.Mathlib.Nat.{mul-le-mul-left}
 use native.Mathlib.Omega.{arith}
 use lib.Dec.{eqb, leb}
 use lib.ListN.{length, take}
@@ -21,32 +22,32 @@ use Rattle.components.specs.declared.Strategy.the-variants as strategy
 use Rattle.components.specs.Codes.{kindOf, strategyCode}
 use Rattle.components.specs.declared.Kind.the-variants as kind
 use Rattle.layout.specs.declared.Counts.{Counts}
-use Rattle.layout.specs.Offsets.{headLength, stopStart, recordLength, none, next, endOf, stopsFrom, linesFrom, carsFrom, demandsFrom, closuresFrom, bodyFrom}
+use Rattle.layout.specs.Offsets.{headLength, stopStart, recordLength, acrossBits, none, next, endOf, stopsFrom, linesFrom, carsFrom, demandsFrom, closuresFrom, bodyFrom}
 use Rattle.layout.specs.Table.{line·id, car·id, car·line, aboard·car, waiting·stop, demand·stop, closed·stop, first, stop·id}
 use Rattle.layout.specs.Records.{Fields, from, read}
-use Rattle.layout.specs.Refusals.{recordCount, kindAt, lengthAt, refusal2Head, refusal3, refusal6Empty, refusal16, tailFits, strategyAt, seen}
+use Rattle.layout.specs.Refusals.{edition, recordCount, kindAt, lengthAt, refusal2Head, refusal3, refusal6Empty, refusal16, tailFits, strategyAt, seen}
 use Rattle.layout.specs.Refusals.{hasStop, hasLine, hasCar, hasDemand, hasClosed, lastStop, unusedWeights, refusal2, refusal8Policy}
 use Rattle.layout.specs.Refusals.{refusal11Policy, refusal12, refusal9Stop, refusal11Stop, refusal9Line, refusal10Line, refusal8Car}
 use Rattle.layout.specs.Refusals.{refusal9Car, refusal10Car, refusal11Car, refusal13, refusal8Aboard, refusal9Aboard, refusal10Aboard}
 use Rattle.layout.specs.Refusals.{refusal8Waiting, refusal9Waiting, refusal10Waiting, refusal11Waiting, refusal14, refusal9Demand, refusal10Demand, refusal9Closed, refusal10Closed}
 use Rattle.layout.specs.Verdict.{pick, bodyRefusal, recordRefusal, tailVerdict, recordsVerdict, verdict, firstOf}
-use Rattle.layout.specs.VerdictLaws.{clean}
+use Rattle.layout.specs.VerdictLaws.{clean, before-all}
 use Rattle.accepted.specs.Accepted.{Records, one-more, small, few-demands, few-closures, no-records}
 
--- ---- a record is read within the bits of the longest, a car
+-- ---- a record is read within the bits of the longest, a car of edition 2
 
 abbrev clip : Fields → Fields
-clip f o w = cond (leb (o + w) (recordLength kind.Car)) (f o w) 0
+clip f o w = cond (leb (o + w) (recordLength 64 kind.Car)) (f o w) 0
 
-clip-same : (f g : Fields) → ((o w : ℕ) → o + w ≤ recordLength kind.Car → f o w ≡ g o w) → clip f ≡ clip g
-clip-same f g h = fun-ext λ o. fun-ext λ w. by-test (leb (o + w) (recordLength kind.Car)) (f o w) (g o w)
-    (λ e. h o w (leb-true (o + w) (recordLength kind.Car) e))
+clip-same : (f g : Fields) → ((o w : ℕ) → o + w ≤ recordLength 64 kind.Car → f o w ≡ g o w) → clip f ≡ clip g
+clip-same f g h = fun-ext λ o. fun-ext λ w. by-test (leb (o + w) (recordLength 64 kind.Car)) (f o w) (g o w)
+    (λ e. h o w (leb-true (o + w) (recordLength 64 kind.Car) e))
   where
     by-test : (b : Bool) (x y : ℕ) → (b ≡ true → x ≡ y) → cond b x 0 ≡ cond b y 0
     by-test true x y h = h refl
     by-test false x y h = refl
 
-module _ (s : List ℕ) (c : Counts) (f : Fields) where
+module _ (s : List ℕ) (c : Counts) (two : (c .across ≡ 0) ⊎ (c .across ≡ 64)) (f : Fields) where
   unused-clip : (k : Strategy) → unusedWeights k f ≡ unusedWeights k (clip f)
   unused-clip Etd = refl
   unused-clip Rsr = refl
@@ -61,7 +62,7 @@ module _ (s : List ℕ) (c : Counts) (f : Fields) where
 
   stop-clip : bodyRefusal s c kind.Stop f ≡ bodyRefusal s c kind.Stop (clip f)
   unfolding firstOf refusal9Stop refusal11Stop
-  stop-clip = refl
+  stop-clip = ⊎-elim (λ (e : c .across ≡ 0). rw e refl) (λ (e : c .across ≡ 64). rw e refl) two
 
   line-clip : bodyRefusal s c kind.Line f ≡ bodyRefusal s c kind.Line (clip f)
   unfolding firstOf refusal9Line refusal10Line
@@ -69,7 +70,7 @@ module _ (s : List ℕ) (c : Counts) (f : Fields) where
 
   car-clip : bodyRefusal s c kind.Car f ≡ bodyRefusal s c kind.Car (clip f)
   unfolding firstOf refusal8Car refusal9Car refusal10Car refusal11Car refusal13
-  car-clip = refl
+  car-clip = ⊎-elim (λ (e : c .across ≡ 0). rw e refl) (λ (e : c .across ≡ 64). rw e refl) two
 
   aboard-clip : bodyRefusal s c kind.Aboard f ≡ bodyRefusal s c kind.Aboard (clip f)
   unfolding firstOf refusal8Aboard refusal9Aboard refusal10Aboard
@@ -110,6 +111,9 @@ module _ (s : List ℕ) (long : 65536 < length s) where
   field-same : (at w : ℕ) → at + w ≤ 524288 → fieldAt s at w ≡ fieldAt start at w
   field-same at w h = sym (field-take s 65536 at w (omega arith))
 
+  edition-same : edition s ≡ edition start
+  edition-same = field-same (0 + 0) 8 (omega arith)
+
   count-same : recordCount s ≡ recordCount start
   count-same = field-same (0 + 8) 16 (omega arith)
 
@@ -120,26 +124,29 @@ module _ (s : List ℕ) (long : 65536 < length s) where
       any-cong (λ i. eqb (read (from s (base + len * i)) (first 32)) id) (λ i. eqb (read (from start (base + len * i)) (first 32)) id) n
       (λ i l. ap (λ x. eqb x id) (field-same (base + len * i + bodyFrom) 32 (h i l)))
 
-  -- what was read so far ends by bit 208,658
-  module _ (c : Counts) (near : endOf c ≤ 212114) where
+  -- what was read so far ends by bit 218,258
+  module _ (c : Counts) (two : (c .across ≡ 0) ⊎ (c .across ≡ 64)) (near : endOf c ≤ 218258) where
     stops-same : (id : ℕ) → hasStop s c id ≡ hasStop start c id
-    stops-same id = seen-same (stopsFrom c) (recordLength kind.Stop) (c .stops) id (λ i l. omega arith)
+    stops-same id = seen-same (stopsFrom c) (recordLength (c .across) kind.Stop) (c .stops) id
+        (λ i l. omega (arith, before-all (recordLength (c .across) kind.Stop) i (c .stops) l))
 
     lines-same : (id : ℕ) → hasLine s c id ≡ hasLine start c id
-    lines-same id = seen-same (linesFrom c) (recordLength kind.Line) (c .lines) id (λ i l. omega arith)
+    lines-same id = seen-same (linesFrom c) (recordLength (c .across) kind.Line) (c .lines) id (λ i l. omega arith)
 
     cars-same : (id : ℕ) → hasCar s c id ≡ hasCar start c id
-    cars-same id = seen-same (carsFrom c) (recordLength kind.Car) (c .cars) id (λ i l. omega arith)
+    cars-same id = seen-same (carsFrom c) (recordLength (c .across) kind.Car) (c .cars) id
+        (λ i l. omega (arith, before-all (recordLength (c .across) kind.Car) i (c .cars) l))
 
     demands-same : (id : ℕ) → hasDemand s c id ≡ hasDemand start c id
-    demands-same id = seen-same (demandsFrom c) (recordLength kind.Demand) (c .demands) id (λ i l. omega arith)
+    demands-same id = seen-same (demandsFrom c) (recordLength (c .across) kind.Demand) (c .demands) id (λ i l. omega arith)
 
     closures-same : (id : ℕ) → hasClosed s c id ≡ hasClosed start c id
-    closures-same id = seen-same (closuresFrom c) (recordLength kind.Closed) (c .closures) id (λ i l. omega arith)
+    closures-same id = seen-same (closuresFrom c) (recordLength (c .across) kind.Closed) (c .closures) id (λ i l. omega arith)
 
     last-same : lastStop s c ≡ lastStop start c
     unfolding lastStop
-    last-same = ap (λ x. cond (eqb (c .stops) 0) 0 x) (field-same (stopStart c (c .stops - 1) + stop·id .start) 32 (omega arith))
+    last-same = ap (λ x. cond (eqb (c .stops) 0) 0 x) (field-same (stopStart c (c .stops - 1) + stop·id .start) 32
+        (omega (arith, mul-le-mul-left {m = c .stops - 1} {n = c .stops} (recordLength (c .across) kind.Stop) (omega arith))))
 
     module _ (f : Fields) where
       policy-look : bodyRefusal s c kind.Policy f ≡ bodyRefusal start c kind.Policy f
@@ -187,9 +194,9 @@ module _ (s : List ℕ) (long : 65536 < length s) where
 
     body-same : (k : Kind) → bodyRefusal s c k (from s (endOf c)) ≡ bodyRefusal start c k (from start (endOf c))
     body-same k =
-        body-clip s c (from s (endOf c)) k
+        body-clip s c two (from s (endOf c)) k
         ∙ ap (bodyRefusal s c k) (clip-same (from s (endOf c)) (from start (endOf c)) (λ o w h. field-same (endOf c + o) w (omega arith)))
-        ∙ sym (body-clip s c (from start (endOf c)) k) ∙ body-look (from start (endOf c)) k
+        ∙ sym (body-clip s c two (from start (endOf c)) k) ∙ body-look (from start (endOf c)) k
 
     kind-same : kindAt s c ≡ kindAt start c
     kind-same = field-same (endOf c + 0) 6 (omega arith)
@@ -223,19 +230,19 @@ module _ (s : List ℕ) (long : 65536 < length s) where
           le-ltb (8 * length start - endOf c) 8 (omega arith),
         )
 
-  ends-near : (c : Counts) → Records s c → endOf c ≤ 212114
+  ends-near : (c : Counts) → Records s c → endOf c ≤ 218258
   ends-near c h = let m = small s c h in let d = few-demands s c h in let x = few-closures s c h in omega arith
 
   records-same : (n : ℕ) (c : Counts) → Records s c → recordsVerdict s n c ≡ recordsVerdict start n c
   unfolding recordsVerdict
-  records-same zero c h = tail-same c (ends-near c h)
+  records-same zero c h = tail-same c (h .across) (ends-near c h)
   records-same (suc n) c h =
       let near = ends-near c h in
       ⊎-elim
       (λ (e : eqb (recordRefusal s c) 0 ≡ true).
       let q = eqb-true (recordRefusal s c) 0 e in
-      rw (e, ← record-same c near, e, ← kind-same c near) (records-same n (next c (kindOf (kindAt s c))) (one-more s c h (clean s c q))))
-      (λ (e : eqb (recordRefusal s c) 0 ≡ false). rw (← record-same c near, e))
+      rw (e, ← record-same c (h .across) near, e, ← kind-same c (h .across) near) (records-same n (next c (kindOf (kindAt s c))) (one-more s c h (clean s c q))))
+      (λ (e : eqb (recordRefusal s c) 0 ≡ false). rw (← record-same c (h .across) near, e))
       (which (eqb (recordRefusal s c) 0))
 
   long-same : verdict s ≡ verdict start
@@ -247,7 +254,7 @@ module _ (s : List ℕ) (long : 65536 < length s) where
         le-ltb (8 * length start) headLength (omega arith),
         field-same (0 + 0) 8 (omega arith),
         count-same,
-        records-same (recordCount start) none (no-records s),
+        records-same (recordCount start) (none (acrossBits (edition start))) (subst (λ (w : ℕ). Records s (none w)) (ap acrossBits edition-same) (no-records s)),
       )
 
 pub first-bytes : (s : List ℕ) → verdict s ≡ verdict (take 65536 s)

@@ -33,7 +33,7 @@ module _ (s : List ℕ) (c : Counts) (f : Fields) where
   target-exact : bodyRefusal s c kind.Car f ≡ 0 → flag f car·hasTarget ≡ not (eqb (read f car·target) 0)
   unfolding firstOf refusal8Car refusal9Car
   target-exact e =
-      let a = pick-none (refusal8Car f) 8 _ (omega arith) e in
+      let a = pick-none (refusal8Car c f) 8 _ (omega arith) e in
       let b = pick-none (refusal9Car s c f) 9 _ (omega arith) (a .1) in
       let p = neither-right (eqb (phaseCode (phaseAt f)) 7) _ (a .0) in
       let g = neither-right (unusedStop (phaseAt f) (not (eqb (read f car·stop) 0))) _ p in

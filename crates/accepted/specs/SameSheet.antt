@@ -1,26 +1,36 @@
 -- The limit is bytes 6 and 7, whole. Two accepted byte lists that agree everywhere else have the same counts and the same sheet. Assumes nothing.
-use Prim.Native.Nat.{ℕ, zero, suc, _+_, _≤_, _<_}
+use Prim.Native.Nat.{ℕ, zero, suc, _+_, _*_, _≤_, _<_}
 use mathlib.Core.Path.{_≡_, sym, ap, _∙_, subst, fun-ext}
 use mathlib.Core.List.{List}
-use mathlib.Core.Logic.{⊎-elim, _≢_}
+use mathlib.Core.Logic.{_⊎_, inl, inr, ⊎-elim, _≢_}
+use native.Mathlib.Nat.{mul-zero, mul-one, mul-le-mul-left}
 use native.Mathlib.Omega.{arith}
 use lib.ListN.{getD}
 use Rattle.laws.specs.Bools.{less?}
 use Rattle.bits.specs.Field.{fieldAt, field-ext}
 use Rattle.components.specs.Codes.{kindOf}
+use Rattle.components.specs.declared.Kind.the-variants as kind
 use Rattle.layout.specs.declared.Counts.{Counts}
 use Rattle.layout.specs.declared.Reading.the-variants.{Accepted}
-use Rattle.layout.specs.Table.{head·count, policy·strategy, policy·rate, policy·traffic, policy·w0, policy·w1, policy·w2, policy·w3, policy·w4}
+use Rattle.layout.specs.Table.{head·edition, head·count, policy·strategy, policy·rate, policy·traffic, policy·w0, policy·w1, policy·w2, policy·w3, policy·w4}
 use Rattle.layout.specs.Table.{policy·w5, closed·stop}
-use Rattle.layout.specs.Offsets.{headLength, stopStart, lineStart, carStart, aboardStart, waitingStart, demandStart, closedStart, none, next, endOf}
+use Rattle.layout.specs.Offsets.{headLength, stopStart, lineStart, carStart, aboardStart, waitingStart, demandStart, closedStart, recordLength, acrossBits, none, next, endOf}
 use Rattle.layout.specs.Records.{from, read, policyOf, stopOf, lineOf, carOf, aboardOf, waitingOf, demandOf, sheetOf}
 use Rattle.layout.specs.Refusals.{recordCount, kindAt}
-use Rattle.layout.specs.Verdict.{recordsVerdict, verdict}
+use Rattle.layout.specs.Verdict.{recordsVerdict, atFirst, verdict}
 use Rattle.accepted.specs.Accepted.{on, headed, at-end, accepted}
 
 -- "agree in every bit but the policy's limit"
 abbrev pub AgreeButLimit : List ℕ → List ℕ → Type 0
 AgreeButLimit s t = (k : ℕ) → k ≢ 6 → k ≢ 7 → getD s k 0 ≡ getD t k 0
+
+-- n records of some bits have none, or those of one and more
+none-or-more : (a n : ℕ) → (a * n ≡ 0) ⊎ (a ≤ a * n)
+none-or-more a n =
+    ⊎-elim
+    (λ (l : 0 < n). inr (omega (arith, mul-one a, mul-le-mul-left {m = 1} {n = n} a l)))
+    (λ (l : n ≤ 0). let e : n ≡ 0 = omega arith in inl (ap (λ (k : ℕ). a * k) e ∙ mul-zero a))
+    (less? 0 n)
 
 module _ (s t : List ℕ) (agree : AgreeButLimit s t) where
   early : (at w : ℕ) → at + w ≤ 48 → fieldAt s at w ≡ fieldAt t at w
@@ -37,9 +47,21 @@ module _ (s t : List ℕ) (agree : AgreeButLimit s t) where
   kind-same c =
       ⊎-elim
       (λ (l : endOf c < 64).
+      let a = recordLength (c .across) kind.Stop in
+      let b = recordLength (c .across) kind.Car in
+      let la : 118 ≤ recordLength (c .across) kind.Stop = omega arith in
+      let lb : 737 ≤ recordLength (c .across) kind.Car = omega arith in
+      ⊎-elim
+      (λ (s0 : recordLength (c .across) kind.Stop * c .stops ≡ 0).
+      ⊎-elim
+      (λ (k0 : recordLength (c .across) kind.Car * c .cars ≡ 0).
       let p : c .policies ≡ 0 = omega arith in
-      let r : c .stops + c .lines + c .cars + c .aboards + c .waits + c .demands + c .closures ≡ 0 = omega arith in
+      let r : c .lines + c .aboards + c .waits + c .demands + c .closures ≡ 0 = omega arith in
       early (endOf c + 0) 6 (omega arith))
+      (λ (k1 : recordLength (c .across) kind.Car ≤ recordLength (c .across) kind.Car * c .cars). absurd (omega arith))
+      (none-or-more b (c .cars)))
+      (λ (s1 : recordLength (c .across) kind.Stop ≤ recordLength (c .across) kind.Stop * c .stops). absurd (omega arith))
+      (none-or-more a (c .stops)))
       (λ (l : 64 ≤ endOf c). late (endOf c + 0) 6 (omega arith))
       (less? (endOf c) 64)
 
@@ -51,8 +73,10 @@ module _ (s t : List ℕ) (agree : AgreeButLimit s t) where
 
   pub counts-same : (c d : Counts) → verdict s ≡ Accepted c → verdict t ≡ Accepted d → c ≡ d
   counts-same c d p q =
-      counts-from (recordCount s) none c d (headed s c p .rest)
-      (subst (λ n. recordsVerdict t n none ≡ Accepted d) (sym (early (head·count .start) (head·count .width) (omega arith))) (headed t d q .rest))
+      counts-from (recordCount s) (atFirst s) c d (headed s c p .rest)
+      (subst (λ w. recordsVerdict t (recordCount s) (none (acrossBits w)) ≡ Accepted d) (sym (early (head·edition .start) (head·edition .width) (omega arith)))
+      (subst (λ n. recordsVerdict t n (atFirst t) ≡ Accepted d) (sym (early (head·count .start) (head·count .width) (omega arith)))
+      (headed t d q .rest)))
 
   policy-same : policyOf (from s headLength) ≡ policyOf (from t headLength)
   unfolding policyOf
@@ -75,11 +99,11 @@ module _ (s t : List ℕ) (agree : AgreeButLimit s t) where
       λ i. record {
         policy = policy-same i;
         stops = c .stops;
-        stop = λ j. stopOf (past (stopStart c j) (omega arith) i);
+        stop = λ j. stopOf (c .across) (past (stopStart c j) (omega arith) i);
         lines = c .lines;
         line = λ j. lineOf (past (lineStart c j) (omega arith) i);
         cars = c .cars;
-        car = λ j. carOf (past (carStart c j) (omega arith) i);
+        car = λ j. carOf (c .across) (past (carStart c j) (omega arith) i);
         aboards = c .aboards;
         aboard = λ j. aboardOf (past (aboardStart c j) (omega arith) i);
         waits = c .waits;

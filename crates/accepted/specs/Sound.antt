@@ -6,7 +6,8 @@ use mathlib.Core.Bool.{Bool, true, false}
 use mathlib.Core.List.{List}
 use mathlib.Core.Logic.{_≢_}
 use lib.ListN.{length}
-use Rattle.fp.specs.Ranges.{isPosition, isSpeed, isMass, isThreshold, isTickRate}
+use Rattle.components.specs.Points.{isPlaced}
+use Rattle.fp.specs.Ranges.{isSpeed, isMass, isThreshold, isTickRate}
 use Rattle.mask.specs.Mask.{pastStops}
 use Rattle.components.specs.declared.Policy.{Policy}
 use Rattle.components.specs.declared.Stop.{Stop}
@@ -45,11 +46,10 @@ pub record SoundPolicy (p : Policy) : Type 0 where
   pub w3 : isMass (p .w3) ≡ true
   pub w4 : isMass (p .w4) ≡ true
   pub w5 : isMass (p .w5) ≡ true
-  -- RSR's load weight is not above 0
 
 pub record SoundStop (p : Stop) : Type 0 where
   pub id : 0 < p .id
-  pub position : isPosition (p .position) ≡ true
+  pub position : isPlaced (p .position) ≡ true
 
 pub record SoundLine (s : Sheet) (l : Line) : Type 0 where
   pub id : 0 < l .id
@@ -61,7 +61,7 @@ pub record SoundCar (s : Sheet) (c : Car) : Type 0 where
   pub phase : c .phase ≢ phases.Unknown
   -- the stop of phases 1 and 2 has an id
   pub moving : isMoving (c .phase) ≡ true → 0 < movingTarget (c .phase)
-  pub position : isPosition (c .position) ≡ true
+  pub position : isPlaced (c .position) ≡ true
   pub speed : isSpeed (c .speed) ≡ true
   pub capacity : isMass (c .capacity) ≡ true
   pub load : isMass (c .load) ≡ true
