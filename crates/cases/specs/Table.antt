@@ -1,6 +1,6 @@
 -- Document 01's cases P1 to P10, in its order and numbering, as one table that holds by computation: P1 to P3 of the choice, P4 to P6 of scale_cost,
--- P7 to P10 of the ranks that the pass uses, over sheets of one car; request F-9's of the choice, and request F-5's, on both sides of the ceiling.
--- Assumes nothing.
+-- P7 to P10 of the ranks that the pass uses, over sheets of one car; request F-9's of the choice, request F-5's, on both sides of the ceiling, and
+-- request F-12's, of a stop to the side. Assumes nothing.
 use mathlib.Core.Path.{_≡_, refl}
 use mathlib.Core.Bool.{Bool, true, false, _&&_}
 use mathlib.Core.List.{List, [], _∷_}
@@ -14,6 +14,7 @@ use Rattle.scale.specs.Scale.{whole, aboveCeiling, scaleCost, heldDown, sentine
 use Rattle.mask.specs.Mask.{has}
 use Rattle.components.specs.declared.Policy.{Policy}
 use Rattle.components.specs.declared.Car.{Car}
+use Rattle.components.specs.declared.Point.{Point}
 use Rattle.components.specs.declared.Strategy.{Strategy}
 use Rattle.components.specs.declared.Strategy.the-variants as strategy
 use Rattle.components.specs.declared.Traffic.{Traffic}
@@ -84,13 +85,13 @@ car ph calls =
       calls = calls;
     }
 
--- stop 1 at 10, where a hall call has no rider, and stop 2 at q; a line that serves both, and the car
-unfoldable pub sheet : Policy → Float → Car → Sheet
-sheet p q c =
+-- stop 1 at 10 and as far to the side as is said, where a hall call has no rider, and stop 2 at q; a line that serves both, and the car
+unfoldable pub sheetAside : Float → Policy → Float → Car → Sheet
+sheetAside side p q c =
     record {
       policy = p;
       stops = 2;
-      stop = λ j. record { id = j + 1; position = pointOf (getD (natural 10 ∷ q ∷ []) j zero) zero };
+      stop = λ j. record { id = j + 1; position = getD (pointOf (natural 10) side ∷ pointOf q zero ∷ []) j (pointOf zero zero) };
       lines = 1;
       line = λ l. record { id = 1; serves = 0xc000_0000_0000_0000 };
       cars = 1;
@@ -105,6 +106,10 @@ sheet p q c =
       closed = λ x. 0;
     }
 
+-- the same, with no stop to the side
+unfoldable pub sheet : Policy → Float → Car → Sheet
+sheet p q c = sheetAside zero p q c
+
 -- one name that opens every definition on the way
 unfoldable pub everything : ℕ
 unfolding ofBits add sub mul div neg lt le eq round ofInt fold any every count nth lookup apart distance whole aboveCeiling scaleCost heldDown has
@@ -112,7 +117,7 @@ unfolding ofBits add sub mul div neg lt le eq round ofInt fold any every count n
     someoneWaits riderlessCall riddenTo hasDemand demandStop sweepRank riderCanBoard canExitHere servable onAboardPath pairIsUseful fairnessBonus
     withBonus sumAt waitTicksSum waitTicksSquaredSum intervenes doorCost extraDelay isAhead directionBonus weighted finiteRank travelTime
     interveningStops riderDelay computeCost etdRank withPenalty withCoincidentCall withLoad rsrCostOf rsrRank scan best chosen leastTotal lowest
-    policy car sheet
+    policy car sheetAside sheet
 everything = 0
 
 -- the cell of a cost, and whether it was held down
@@ -122,6 +127,10 @@ scaled x = (scaleCost x, heldDown x)
 -- a car at 0 that sweeps up, and a stop at 1e-9
 abbrev pub upAtZero : Mode → Rank
 upAtZero m = sweepRank (record { direction = direction.Up; mode = m }) (pointOf zero zero) (pointOf epsilon zero)
+
+-- a strict sweep up from 0
+abbrev pub upFromZero : Point → Rank
+upFromZero p = sweepRank (record { direction = direction.Up; mode = mode.Strict }) (pointOf zero zero) p
 
 -- the cells of two cars over two columns
 abbrev pub cells : ℕ → ℕ → ℕ → ℕ → ℕ → ℕ → ℕ
@@ -176,6 +185,13 @@ pub record Table : Type 0 where
   -- "P10 RSR, eta 1, travel 5, moving away from the stop, wrong direction 15, up peak, multiplier 2, other weights 0: 35,000,000."
   pub P10 : rankCell (rsrRank (sheet (policy strategy.Rsr traffic.UpPeak 1 15 0 2) (neg (natural 10)) (car (phase.MovingToStop 2) 0)) 0 0) ≡
       35_000_000
+  -- request F-12, "the sum of the two absolute differences": P8's costs of a stop 10 along and 4 to the side, idle and moving past it; RSR's eta
+  pub F12 : (rankCell (etdRank (sheetAside (natural 4) (policy strategy.Etd traffic.Idle 1 0 0 0) (natural 20) (car phase.Idle 0)) 0 0) ≡ 4_900_000)
+      × (rankCell (etdRank (sheetAside (natural 4) (policy strategy.Etd traffic.Idle 1 0 0 0) (natural 20) (car (phase.MovingToStop 2) 0)) 0 0)
+      ≡ 3_500_000)
+      × (rankCell (rsrRank (sheetAside (natural 4) (policy strategy.Rsr traffic.Idle 1 0 0 0) (natural 20) (car phase.Idle 0)) 0 0) ≡ 7_000_000)
+  -- and SCAN's cost; "Directions .. use the first coordinate": a stop to the side alone is not ahead
+  pub F12-scan : (rankCell (upFromZero (pointOf (natural 10) (natural 4))) ≡ 14_000_000) × (upFromZero (pointOf zero (natural 4)) ≡ Never)
 
 pub table : Table
 unfolding everything
@@ -193,4 +209,6 @@ table =
       P8 = (refl, refl);
       P9 = refl;
       P10 = refl;
+      F12 = (refl, refl, refl);
+      F12-scan = (refl, refl);
     }

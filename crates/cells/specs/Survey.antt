@@ -2,19 +2,21 @@
 use Prim.Native.Nat.{ℕ, _+_, _≤_, _<_}
 use mathlib.Core.Path.{_≡_, refl, sym, ap, _∙_}
 use mathlib.Core.Bool.{_&&_}
-use mathlib.Core.List.{List, _++_}
+use mathlib.Core.List.{List, [], _++_, append-assoc, append-nil}
 use mathlib.Core.Logic.{⊎-elim}
 use native.Mathlib.Omega.{arith}
 use lib.Dec.{ltb}
-use lib.ListN.{length, getD}
+use lib.ListN.{length, getD, take, drop, length-append, length-take, length-drop, drop-of-length-le}
+use lib.Seq.{take-all, take-at, drop-at, getD-append-add}
 use lib.Ieee.{Float, nan}
 use borrow.Author.Tests.{le-ltb}
 use Rattle.laws.specs.Bools.{less?}
 use Rattle.laws.specs.Folds.{count-le}
-use Rattle.laws.specs.Tables.{tab, filtered, length-filtered, front-length}
+use Rattle.laws.specs.Tables.{tab, length-tab, filtered, length-filtered, front-length}
 use Rattle.mask.specs.Mask.{has, built}
 use Rattle.mask.specs.MaskLaws.{built-cong}
 use Rattle.fields.specs.Held.{held}
+use Rattle.components.specs.declared.Point.{Point}
 use Rattle.components.specs.declared.Car.{Car}
 use Rattle.components.specs.Sheet.{Sheet}
 use Rattle.layout.specs.declared.Counts.{Counts}
@@ -41,7 +43,7 @@ use Rattle.rows.specs.Gathered.{gatheredOf, gathered-held}
 use Rattle.rows.specs.MatrixLaws.{Ready, Rows, listed-number, listed-at, listed-below}
 use Rattle.accepted.specs.Ids.{rising-of}
 
--- the stops with their ids and positions, and their masks
+-- the stops with their ids and points, and their masks
 pub record SeenStops (s : Sheet) (ids : List ℕ) (xs : List Float) (masks : StopMasks) : Type 0 where
   pub stops-held : HoldsStops s ids xs (s .stops)
   pub masks-are : masks ≡ masksOf s
@@ -55,13 +57,47 @@ pub record Survey (s : Sheet) (ids : List ℕ) (xs : List Float) (masks : StopMa
 
 -- ---- columns that were filled hold the sheet's records
 
+-- the coordinates of n points in a buffer of 128: first ones, second ones from 64 on, and past either what it held
+unfoldable pub coordinates : (ℕ → Point) → ℕ → List Float → List Float
+coordinates f n xs = (tab (λ j. f j .along) n ++ drop n (take 64 xs)) ++ (tab (λ j. f j .across) n ++ drop n (drop 64 xs))
+
+-- a half of the buffer keeps its length
+half-length : (f : ℕ → Float) (n : ℕ) (xs : List Float) → n ≤ 64 → length xs ≡ 64 → length (tab f n ++ drop n xs) ≡ 64
+half-length f n xs l e = simp (length-append, length-tab, length-drop) (omega arith)
+
+pub halves : (f : ℕ → Point) (n : ℕ) (xs : List Float) {first second : List Float} → n ≤ 64 → length xs ≡ 128
+    → first ≡ tab (λ j. f j .along) n ++ drop n (take 64 xs)
+    → second ≡ tab (λ j. f j .across) n ++ drop n (take 64 (drop 64 (first ++ drop 64 xs)))
+    → take 64 (first ++ drop 64 xs) ++ (second ++ drop 64 (drop 64 (first ++ drop 64 xs))) ≡ coordinates f n xs
+unfolding coordinates
+halves f n xs {first} {second} l e d g =
+    let low : length (take 64 xs) ≡ 64 = simp length-take (omega arith) in
+    let high : length (drop 64 xs) ≡ 64 = simp length-drop (omega arith) in
+    let size : length first ≡ 64 = rw d (half-length (λ j. f j .along) n (take 64 xs) l low) in
+    let front : take 64 (first ++ drop 64 xs) ≡ first = take-at first (drop 64 xs) 64 size in
+    let back : drop 64 (first ++ drop 64 xs) ≡ drop 64 xs = drop-at first (drop 64 xs) 64 size in
+    let whole : take 64 (drop 64 xs) ≡ drop 64 xs = take-all 64 (drop 64 xs) (omega arith) in
+    let none : drop 64 (drop 64 xs) ≡ [] = drop-of-length-le (drop 64 xs) (omega arith) in
+    let after : second ≡ tab (λ j. f j .across) n ++ drop n (drop 64 xs) = rw (back, whole) at g in
+    rw (front, back, none, d, after) (ap (λ (z : List Float). (tab (λ j. f j .along) n ++ drop n (take 64 xs)) ++ z) (append-nil _))
+
 pub holds-stops : (s : Sheet) (ids : List ℕ) (xs : List Float) (r : List ℕ) (q : List Float) → ids ≡ tab (stopId s) (s .stops) ++ r
-    → xs ≡ tab (stopAt s) (s .stops) ++ q → HoldsStops s ids xs (s .stops)
-holds-stops s ids xs r q e f =
+    → xs ≡ coordinates (stopAt s) (s .stops) q → s .stops ≤ 64 → length q ≡ 128 → HoldsStops s ids xs (s .stops)
+unfolding coordinates
+holds-stops s ids xs r q e f few size =
+    let a = tab (λ j. stopAt s j .along) (s .stops) in
+    let b = tab (λ j. stopAt s j .across) (s .stops) ++ drop (s .stops) (drop 64 q) in
+    let low : length (take 64 q) ≡ 64 = simp length-take (omega arith) in
+    let whole : length (a ++ drop (s .stops) (take 64 q)) ≡ 64 = half-length (λ j. stopAt s j .along) (s .stops) (take 64 q) few low in
     record {
       counted = refl;
       id-of = λ j l. held (stopId s) (s .stops) r ids e 0 j l;
-      at = λ j l. held (stopAt s) (s .stops) q xs f nan j l;
+      at = λ j l. held (λ k. stopAt s k .along) (s .stops) (drop (s .stops) (take 64 q) ++ b) xs
+          (f ∙ append-assoc a (drop (s .stops) (take 64 q)) b) nan j l;
+      side = λ j l. ap (λ (z : List Float). getD z (64 + j) nan) f
+          ∙ ap (λ (n : ℕ). getD ((a ++ drop (s .stops) (take 64 q)) ++ b) (n + j) nan) (sym whole)
+          ∙ getD-append-add (a ++ drop (s .stops) (take 64 q)) b j nan
+          ∙ held (λ k. stopAt s k .across) (s .stops) (drop (s .stops) (drop 64 q)) b refl nan j l;
     }
 
 pub holds-aboard : (s : Sheet) (acar adest r q : List ℕ) → acar ≡ tab (λ a. s .aboard a .car) (s .aboards) ++ r

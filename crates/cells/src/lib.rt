@@ -16,7 +16,7 @@ ghost use Rattle.pending.specs.Masks.{stopMask, masksOf};
 ghost use Rattle.cars.specs.Cars.{carsIn};
 ghost use Rattle.rows.specs.MatrixLaws.{FilledRows};
 ghost use Rattle.rows.specs.Gathered.{gatheredOf};
-ghost use Rattle.cells.specs.Survey.{Survey, idleMask};
+ghost use Rattle.cells.specs.Survey.{Survey, coordinates, idleMask};
 use components::Car;
 use layout::Counts;
 use layout::aboard;
@@ -27,27 +27,30 @@ use mask::Ones;
 use pending::StopMasks;
 use rows::Counted;
 
-// The ids and the positions of the stops.
+// The ids and the points of the stops.
 fn fill_stops(s: &[u8], c: Counts, ids: &mut [u32], xs: &mut [f64])
-    requires { ⌜ Small c × (length (now ids) ≡ 64) × (length (now xs) ≡ 64) ⌝ }
+    requires { ⌜ Small c × (length (now ids) ≡ 64) × (length (now xs) ≡ 128) ⌝ }
     ensures ids { λ _. ⌜ (length (now (ids .exit)) ≡ length (now (ids .entry)))
         × (now (ids .exit) ≡ tab (stopId (sheetOf (now (s .entry)) c)) (c .stops) ++ drop (c .stops) (now (ids .entry))) ⌝ }
-    ensures positions { λ _. ⌜ (length (now (xs .exit)) ≡ length (now (xs .entry)))
-        × (now (xs .exit) ≡ tab (stopAt (sheetOf (now (s .entry)) c)) (c .stops) ++ drop (c .stops) (now (xs .entry))) ⌝ }
+    ensures points { λ _. ⌜ (length (now (xs .exit)) ≡ length (now (xs .entry)))
+        × (now (xs .exit) ≡ coordinates (stopAt (sheetOf (now (s .entry)) c)) (c .stops) (now (xs .entry))) ⌝ }
 {
     let n = c.stops as usize;
     let at = c.stops_from();
-    fields::fill32(s, at, stop::BITS, stop::ID, n, ids);
-    fields::fill_doubles(s, at, stop::BITS, stop::POSITION, n, xs);
+    let len = c.stop_bits();
+    let w = c.across as usize;
+    fields::fill32(s, at, len, stop::ID, n, ids);
+    fields::fill_doubles(s, at, len, stop::POSITION, 64, n, &mut xs[0..64]);
+    fields::fill_doubles(s, at, len, stop::ACROSS, w, n, &mut xs[64..128]);
 }
 
-// The ids and the positions of the stops of an accepted sheet, and their masks.
+// The ids and the points of the stops of an accepted sheet, and their masks.
 pub fn see_stops(s: &[u8], c: Counts, ids: &mut [u32], xs: &mut [f64]) -> StopMasks
-    requires { ⌜ (verdict (now s) ≡ Accepted c) × (length (now ids) ≡ 64) × (length (now xs) ≡ 64) ⌝ }
+    requires { ⌜ (verdict (now s) ≡ Accepted c) × (length (now ids) ≡ 64) × (length (now xs) ≡ 128) ⌝ }
     ensures ids { λ _. ⌜ (length (now (ids .exit)) ≡ length (now (ids .entry)))
         × (now (ids .exit) ≡ tab (stopId (sheetOf (now (s .entry)) c)) (c .stops) ++ drop (c .stops) (now (ids .entry))) ⌝ }
-    ensures positions { λ _. ⌜ (length (now (xs .exit)) ≡ length (now (xs .entry)))
-        × (now (xs .exit) ≡ tab (stopAt (sheetOf (now (s .entry)) c)) (c .stops) ++ drop (c .stops) (now (xs .entry))) ⌝ }
+    ensures points { λ _. ⌜ (length (now (xs .exit)) ≡ length (now (xs .entry)))
+        × (now (xs .exit) ≡ coordinates (stopAt (sheetOf (now (s .entry)) c)) (c .stops) (now (xs .entry))) ⌝ }
     ensures masks { λ r. ⌜ r ≡ masksOf (sheetOf (now (s .entry)) c) ⌝ }
 {
     fill_stops(s, c, ids, xs);
@@ -96,7 +99,7 @@ fn fill_waits(
     let at = c.waits_from();
     fields::fill32(s, at, waiting::BITS, waiting::STOP, n, wstop);
     fields::fill32(s, at, waiting::BITS, waiting::DESTINATION, n, wdest);
-    fields::fill_doubles(s, at, waiting::BITS, waiting::WEIGHT, n, wweight);
+    fields::fill_doubles(s, at, waiting::BITS, waiting::WEIGHT, 64, n, wweight);
     fields::fill64(s, at, waiting::BITS, waiting::WAIT, n, wwait);
 }
 
@@ -108,7 +111,7 @@ pub fn waiting<'a>(
     xs: &'a [f64],
     calls: u64,
 ) -> [Waiters; 64]
-    requires { ⌜ Small c × (length (now ids) ≡ 64) × (length (now xs) ≡ 64) × HoldsStops (sheetOf (now s) c) (now ids) (now xs) (c .stops)
+    requires { ⌜ Small c × (length (now ids) ≡ 64) × (length (now xs) ≡ 128) × HoldsStops (sheetOf (now s) c) (now ids) (now xs) (c .stops)
         × (calls ≡ stopMask (sheetOf (now s) c) (riderlessCall (sheetOf (now s) c))) ⌝ }
     ensures { λ r. ⌜ r ≡ gatheredOf (sheetOf (now (s .entry)) c) ⌝ }
 {
@@ -179,7 +182,7 @@ pub fn fill_matrix<'a>(
     columns: usize,
     matrix: &mut [u64],
 ) -> Counted
-    requires { ⌜ (verdict (now s) ≡ Accepted c) × (length (now ids) ≡ 64) × (length (now xs) ≡ 64) × (stops .count ≤ columns)
+    requires { ⌜ (verdict (now s) ≡ Accepted c) × (length (now ids) ≡ 64) × (length (now xs) ≡ 128) × (stops .count ≤ columns)
         × (columns ≤ 64) × (2048 ≤ length (now matrix)) ⌝ }
     requires { ⌜ Survey (sheetOf (now s) c) (now ids) (now xs) masks stops cars idle ⌝ }
     ensures { λ r. ⌜ FilledRows (sheetOf (now (s .entry)) c) limit (idle .count) columns (now (matrix .entry)) r (now (matrix .exit)) ⌝ }

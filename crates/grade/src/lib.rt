@@ -50,7 +50,7 @@ fn judge<'a>(
     ensures length { λ _. ⌜ length (now (matrix .exit)) ≡ length (now (matrix .entry)) ⌝ }
 {
     let mut ids = [0u32; 64];
-    let mut xs = [0.0f64; 64];
+    let mut xs = [0.0f64; 128];
     let masks = cells::see_stops(s, c, &mut ids, &mut xs);
     let cars = cars::cars_of(s, c);
     let stops = mask::list_ones(masks.pending);

@@ -14,15 +14,14 @@ use Rattle.laws.specs.Bools.{which, same?, less?, both, both-left, both-right, 
 use Rattle.laws.specs.Folds.{count, count-cong, count-le, nth-is}
 use Rattle.laws.specs.Counts.{count-mono, Order, first-few}
 use Rattle.laws.specs.Sums.{sum, sum-cong, sum-le}
-use Rattle.fp.specs.Num.{finite}
-use Rattle.fp.specs.Order.{real, lt-self, lt-trans, lt-le-trans, le-lt-trans, le-through}
-use Rattle.fp.specs.Distances.{distance-real}
-use Rattle.fp.specs.Inside.{position-finite}
+use Rattle.fp.specs.Num as Num
+use Rattle.fp.specs.Order.{real, le-tells, lt-self, lt-trans, lt-le-trans, le-lt-trans, le-through}
 use Rattle.layout.specs.declared.Counts.{Counts}
 use Rattle.layout.specs.declared.Reading.the-variants.{Accepted}
 use Rattle.layout.specs.Records.{sheetOf}
 use Rattle.layout.specs.Verdict.{verdict}
 use Rattle.accepted.specs.Accepted.{accepted}
+use Rattle.components.specs.Points.{distance, isPlaced, distance-nonneg}
 use Rattle.components.specs.Sheet.{Sheet}
 use Rattle.manifest.specs.World.{stopId, stopAt}
 use Rattle.assignment.specs.Pending.{pending, idle, idleCars, rowCar, pendingStops}
@@ -85,14 +84,16 @@ precedes-either x a y b ne =
 
 -- ---- what a limit keeps of a car's viable stops
 
-module _ (s : Sheet) (i : ℕ) (here : finite (s .car i .position) ≡ true) (there : (j : ℕ) → j < s .stops → finite (stopAt s j) ≡ true)
+module _ (s : Sheet) (i : ℕ) (here : isPlaced (s .car i .position) ≡ true) (there : (j : ℕ) → j < s .stops → isPlaced (stopAt s j) ≡ true)
     (rising : (a b : ℕ) → a < b → b < s .stops → stopId s a < stopId s b) where
   -- the viable stop k comes before stop j
   before : ℕ → ℕ → Bool
   before j k = viable s i k && precedes (away s i k) (stopId s k) (away s i j) (stopId s j)
 
   away-real : (j : ℕ) → j < s .stops → real (away s i j) ≡ true
-  away-real j l = distance-real (s .car i .position) (stopAt s j) here (there j l)
+  away-real j l =
+      let (a, b, c) = le-tells Num.zero (distance (s .car i .position) (stopAt s j)) (distance-nonneg (s .car i .position) (stopAt s j) here (there j l))
+      in b
 
   apart : (j k : ℕ) → j < s .stops → k < s .stops → (j ≡ k → ⊥) → stopId s j ≢ stopId s k
   apart j k lj lk ne e =
@@ -156,8 +157,7 @@ module _ (bytes : List ℕ) (c : Counts) (e : verdict bytes ≡ Accepted c) (lim
       ap (λ (k : ℕ). count (kept s i k) (s .stops)) q ∙ kept-all s i
       ∙ unlimited limit (viableStops s i) q (omega (arith, count-le (viable s i) (s .stops), sound .most-stops)))
       (λ (q : limit ≢ noLimit).
-      kept-few s i (position-finite (s .car i .position) (sound .car i (row-below s r l) .position))
-      (λ j lj. position-finite (stopAt s j) (sound .stop j lj .position)) (sound .rising) limit q)
+      kept-few s i (sound .car i (row-below s r l) .position) (λ j lj. sound .stop j lj .position) (sound .rising) limit q)
       (same? limit noLimit)
 
   -- the ranked pairs are the kept ones

@@ -82,10 +82,10 @@ module _ (bytes : List ℕ) (c : Counts) (e : verdict bytes ≡ Accepted c) (ids
         masks-are = em;
       }
 
-  pub ranked : (i j limit : ℕ) → i < sheetOf bytes c .cars → j < sheetOf bytes c .stops → (row : Row) {dests : List Float}
-      → HoldsRow (sheetOf bytes c) i limit row dests
+  pub ranked : (i j limit : ℕ) → i < sheetOf bytes c .cars → j < sheetOf bytes c .stops → (row : Row) {dests sides : List Float}
+      → HoldsRow (sheetOf bytes c) i limit row dests sides
       → (waiters : List Waiters) → waiters ≡ gatheredOf (sheetOf bytes c)
-      → rankBy row dests (getD waiters j noWaiters) xs (sheetOf bytes c .stops) j ≡ rank (sheetOf bytes c) i j
-  ranked i j limit li lj row {dests} hr waiters hw =
-      rank-is (sheetOf bytes c) ids xs hs i limit (weighed-of (sheetOf bytes c) (accepted bytes c e .sheet) i li) row dests hr j
+      → rankBy row dests sides (getD waiters j noWaiters) xs (sheetOf bytes c .stops) j ≡ rank (sheetOf bytes c) i j
+  ranked i j limit li lj row {dests} {sides} hr waiters hw =
+      rank-is (sheetOf bytes c) ids xs hs i limit (weighed-of (sheetOf bytes c) (accepted bytes c e .sheet) i li) row dests sides hr j
       (getD waiters j noWaiters) (gathered-held (sheetOf bytes c) waiters hw j lj) lj

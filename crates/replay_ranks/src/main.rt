@@ -107,19 +107,32 @@ fn rank_by<'a>(
     xs: &'a [f64],
     masks: StopMasks,
 ) -> Rank
-    requires { ⌜ (verdict (now s) ≡ Accepted c) × (i < c .cars) × (j < c .stops) × (length (now ids) ≡ 64) × (length (now xs) ≡ 64) ⌝ }
+    requires { ⌜ (verdict (now s) ≡ Accepted c) × (i < c .cars) × (j < c .stops) × (length (now ids) ≡ 64) × (length (now xs) ≡ 128) ⌝ }
     requires { ⌜ SeenStops (sheetOf (now s) c) (now ids) (now xs) masks ⌝ }
     ensures { λ r. ⌜ r ≡ rank (sheetOf (now (s .entry)) c) i j ⌝ }
 {
     let mut acar = [0u32; 512];
     let mut adest = [0u32; 512];
     let mut dests = [0.0f64; 512];
+    let mut sides = [0.0f64; 512];
     cells::fill_aboard(s, c, &mut acar, &mut adest);
     let waiters = cells::waiting(s, c, ids, xs, masks.calls);
     let car = sheet::car_at(s, c, i);
-    let row = rows::row_for(s, c, car, 65535, ids, xs, &acar, &adest, masks, &mut dests);
+    let row = rows::row_for(
+        s,
+        c,
+        car,
+        65535,
+        ids,
+        xs,
+        &acar,
+        &adest,
+        masks,
+        &mut dests,
+        &mut sides,
+    );
     let v = waiters[j];
-    ranking::rank(row, &dests, v, xs, c.stops as usize, j)
+    ranking::rank(row, &dests, &sides, v, xs, c.stops as usize, j)
 }
 
 // The rank of car i for stop j of an accepted sheet.
@@ -128,7 +141,7 @@ fn rank_of(s: &[u8], c: Counts, i: u32, j: usize) -> Rank
     ensures { λ r. ⌜ r ≡ rank (sheetOf (now (s .entry)) c) i j ⌝ }
 {
     let mut ids = [0u32; 64];
-    let mut xs = [0.0f64; 64];
+    let mut xs = [0.0f64; 128];
     let masks = cells::see_stops(s, c, &mut ids, &mut xs);
     rank_by(s, c, i, j, &ids, &xs, masks)
 }

@@ -1,5 +1,5 @@
 -- The code of a car's sweep after the pass, from what the pass holds. Assumes nothing.
-use Prim.Native.Nat.{ℕ, _≤_, _<_}
+use Prim.Native.Nat.{ℕ, _+_, _≤_, _<_}
 use mathlib.Core.Path.{_≡_, refl, ap, _∙_}
 use mathlib.Core.List.{List}
 use lib.ListN.{getD}
@@ -23,10 +23,11 @@ use Rattle.rows.specs.HeldLaws.{holds-demand, some-pending}
 abbrev pub codeAfter : Sheet → ℕ → ℕ
 codeAfter s i = sweepCode (sweepAfter s i)
 
--- the stops' positions and their masks
+-- the stops' points and their masks
 pub record Positioned (s : Sheet) (xs : List Float) (masks : StopMasks) : Type 0 where
   pub few : s .stops ≤ 64
-  pub at : (j : ℕ) → j < s .stops → getD xs j nan ≡ stopAt s j
+  pub at : (j : ℕ) → j < s .stops → getD xs j nan ≡ stopAt s j .along
+  pub side : (j : ℕ) → j < s .stops → getD xs (64 + j) nan ≡ stopAt s j .across
   pub masks-are : masks ≡ masksOf s
 
 module _ (s : Sheet) (xs : List Float) (masks : StopMasks) (h : Positioned s xs masks) where
@@ -35,7 +36,7 @@ module _ (s : Sheet) (xs : List Float) (masks : StopMasks) (h : Positioned s xs 
   ids = tab (stopId s) (s .stops)
 
   held : HoldsStops s ids xs (s .stops)
-  held = record { counted = refl; id-of = λ j l. getD-tab₀ (stopId s) (s .stops) j 0 l; at = h .at }
+  held = record { counted = refl; id-of = λ j l. getD-tab₀ (stopId s) (s .stops) j 0 l; at = h .at; side = h .side }
 
   -- what the stages before the code give is the code of car i's sweep
   pub code-is : (i : ℕ) {strategy : Strategy} {car : Car} {sweep : Sweep} {code : ℕ} → strategy ≡ s .policy .strategy → car ≡ s .car i

@@ -21,7 +21,7 @@ pub fn fill_sweeps<'a>(
     xs: &'a [f64],
     out: &mut [u8],
 )
-    requires { ⌜ Small c × (length (now xs) ≡ 64) × (32 ≤ length (now out)) × HoldsCars (sheetOf (now s) c) cars ⌝ }
+    requires { ⌜ Small c × (length (now xs) ≡ 128) × (32 ≤ length (now out)) × HoldsCars (sheetOf (now s) c) cars ⌝ }
     requires { ⌜ Positioned (sheetOf (now s) c) (now xs) masks ⌝ }
     ensures { λ _. let of = sheetOf (now (s .entry)) c in
         ⌜ (length (now (out .exit)) ≡ length (now (out .entry)))

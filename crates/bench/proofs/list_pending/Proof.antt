@@ -20,7 +20,7 @@ name-stops-requires c κs =
     let s = sheetOf (a .s .now) (a .c) in
     let few = small-of (a .s .now) (a .c) (p .0) .stops in
     let seen = c .before .before .before .before .before .see-stops .ensures in
-    let known = stops-seen s _ _ (seen .0 .1) (seen .1 .0 .1) (seen .1 .1) in
+    let known = stops-seen s _ _ (seen .0 .1) (seen .1 .0 .1) (seen .1 .1) few refl in
     let ones = c .before .before .list-ones .ensures in (
       seen .0 .0,
       most s few _ _ _ known _ ones,
@@ -38,7 +38,7 @@ returns c =
     let s = sheetOf (a .s .now) (a .c) in
     let few = small-of (a .s .now) (a .c) (c .before .before .before .before .before .before .before .before .before .before .before .before .before .pre .0) .stops in
     let seen = c .before .before .before .before .before .before .before .before .see-stops .ensures in
-    let known = stops-seen s _ _ (seen .0 .1) (seen .1 .0 .1) (seen .1 .1) in
+    let known = stops-seen s _ _ (seen .0 .1) (seen .1 .0 .1) (seen .1 .1) few refl in
     let ones = c .before .before .before .before .before .list-ones .ensures in
     let named = c .before .before .name-stops .ensures in
     (same-pending (ap Found (found s few _ _ _ known _ ones)) (ids-are s few _ _ _ known _ ones (a .stops .now) (named .1)), named .0)

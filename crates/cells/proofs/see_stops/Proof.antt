@@ -17,7 +17,7 @@ stop-masks-requires c κs =
     let a = c .before .before .before .before .before .before .before .before .before .before .before .args in
     let p = c .before .before .before .before .before .before .before .before .before .before .before .pre in
     let filled = c .before .before .before .before .before .fill-stops .ensures in
-    let known = begun (a .s .now) (a .c) (p .0) _ _ _ _ (filled .0 .1) (filled .1 .1) in
+    let known = begun (a .s .now) (a .c) (p .0) _ _ _ _ (filled .0 .1) (filled .1 .1) (p .2) in
     (accepted (a .s .now) (a .c) (p .0) .small, known .few-demands, known .few-closures, filled .0 .0 ∙ p .1, known .names, known .boarded)
 
 pub see-stops-spec : {M : Type 1} → statement M
