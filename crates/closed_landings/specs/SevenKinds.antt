@@ -14,10 +14,10 @@ use Rattle.components.specs.Codes.{kindOf, by-kind}
 use Rattle.layout.specs.declared.Counts.{Counts}
 use Rattle.layout.specs.declared.Reading.{Reading}
 use Rattle.layout.specs.declared.Reading.the-variants.{Refused, Accepted}
-use Rattle.layout.specs.Offsets.{none, next, endOf}
+use Rattle.layout.specs.Offsets.{next, endOf}
 use Rattle.layout.specs.Refusals.{recordCount, kindAt, refusal2}
 use Rattle.layout.specs.Readings.{refused≢accepted, same-counts}
-use Rattle.layout.specs.Verdict.{headRules, tailRules, rulesOf, pick, firstOf, given, recordRefusal, tailVerdict, recordsVerdict, verdict}
+use Rattle.layout.specs.Verdict.{headRules, tailRules, rulesOf, pick, firstOf, given, recordRefusal, tailVerdict, recordsVerdict, atFirst, verdict}
 
 -- document 01: "4, kind not 1 to 7"
 unfoldable pub kindOfSeven : ℕ → Kind
@@ -166,4 +166,4 @@ pub seven-accepted : (s : List ℕ) (c : Counts) → verdict s ≡ Accepted c �
 unfolding verdict verdictOfSeven
 seven-accepted s c h e =
     let rest = given-accepted (firstOf (headRules s)) 0 _ c h in
-    sym (ap (given (firstOf (headRules s)) 0) (rest ∙ sym (records-accepted s (recordCount s) none c rest e))) ∙ h
+    sym (ap (given (firstOf (headRules s)) 0) (rest ∙ sym (records-accepted s (recordCount s) (atFirst s) c rest e))) ∙ h
