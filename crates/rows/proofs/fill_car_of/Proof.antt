@@ -117,7 +117,7 @@ module _ {M : Type 1} (𝓤 : URA M) (H : Heap 𝓤) (A : Atoms 𝓤) (W : Given
       join ! $ frame ! $ nothing ! $ nothing ! $ fjoin ! $ nothing ! $ fjoin ! $ nothing ! $ fjoin ! $ nothing ! $ fjoin ! $ nothing ! $ fjoin ! $ nothing ! $ fjoin ! $ nothing ! $ fjoin ! $ nothing ! $ fjoin ! $ nothing ! $ fjoin ! $ nothing ! $ fjoin ! $ move ! (1 ∷ 0 ∷ []) $ fjoin ! $ nothing ! $ fjoin ! $ nothing ! $ fjoin ! $ frame ! $ done !
 
   module _ (C : Calls 𝓤 H) (Λ : Loops 𝓤 H) (fm : FmC 𝓤 H (W .laws) C) (known : Triple 𝓤 (C #rows·fill-car) (Callee 𝓤 H A mem run)) where
-    walk : Room T.the-row (length (now cars)) → i < 2 ^ 64 → Room u64 (length (now row)) → Is (ShrSlice (named 2) κ1 u8) s (slice-vals s) → Is (M-Counts.the-row) c (LL.vals M-Counts.the-type M-Counts-laws.the-laws c) → Is (u32) limit (vint w32 limit ∷ []) → Is (ShrSlice (named 2) κ1 u32) ids (slice-vals ids) → Is (ShrSlice (named 2) κ1 f64) xs (slice-vals xs) → Is (ShrSlice (named 2) κ1 u32) acar (slice-vals acar) → Is (ShrSlice (named 2) κ1 u32) adest (slice-vals adest) → Is (M-StopMasks.the-row) masks (LL.vals M-StopMasks.the-type M-StopMasks-laws.the-laws masks) → Is ((Array M-Waiters.the-row 64)) waiters (arrayVal (map (λ x. LL.val M-Waiters.the-type M-Waiters-laws.the-laws x) waiters) ∷ []) → Is (M-Ones.the-row) stops (LL.vals M-Ones.the-type M-Ones-laws.the-laws stops) → i * 120 < 2 ^ 64 → (i < length (now cars)) × CarNeeds (now s) c (now ids) (now xs) (now acar) (now adest) masks waiters stops (length (now row))
+    walk : Room T.the-row (length (now cars)) → i < 2 ^ 64 → Room u64 (length (now row)) → Is (ShrSlice (named 2) κ1 u8) s (slice-vals s) → Is (M-Counts.the-row) c (LL.vals M-Counts.the-type M-Counts-laws.the-laws c) → Is (u32) limit (vint w32 limit ∷ []) → Is (ShrSlice (named 2) κ1 u32) ids (slice-vals ids) → Is (ShrSlice (named 2) κ1 f64) xs (slice-vals xs) → Is (ShrSlice (named 2) κ1 u32) acar (slice-vals acar) → Is (ShrSlice (named 2) κ1 u32) adest (slice-vals adest) → Is (M-StopMasks.the-row) masks (LL.vals M-StopMasks.the-type M-StopMasks-laws.the-laws masks) → Is ((Array M-Waiters.the-row 64)) waiters (arrayVal (map (λ x. LL.val M-Waiters.the-type M-Waiters-laws.the-laws x) waiters) ∷ []) → Is (M-Ones.the-row) stops (LL.vals M-Ones.the-type M-Ones-laws.the-laws stops) → i * 128 < 2 ^ 64 → (i < length (now cars)) × CarNeeds (now s) c (now ids) (now xs) (now acar) (now adest) masks waiters stops (length (now row))
         → ent 𝓤 (onEntry 𝓤 H A fill-car-of.signature (bound .0 .0) (bound .0 .1) (bound .0 .3) (bound .0 .4)) (WpFn 𝓤 H C Λ code.function (sliceVal (cars .ptr) (length (now cars)) ∷ vint w64 i ∷ sliceVal (row .ptr) (length (now row)) ∷ sliceVal (s .ptr) (length (now s)) ∷ LL.val M-Counts.the-type M-Counts-laws.the-laws c ∷ vint w32 limit ∷ sliceVal (ids .ptr) (length (now ids)) ∷ sliceVal (xs .ptr) (length (now xs)) ∷ sliceVal (acar .ptr) (length (now acar)) ∷ sliceVal (adest .ptr) (length (now adest)) ∷ LL.val M-StopMasks.the-type M-StopMasks-laws.the-laws masks ∷ arrayVal (map (λ x. LL.val M-Waiters.the-type M-Waiters-laws.the-laws x) waiters) ∷ LL.val M-Ones.the-type M-Ones-laws.the-laws stops ∷ []) Post)
     walk gc gi gr g-s g-c g-limit g-ids g-xs g-acar g-adest g-masks g-waiters g-stops gmul pre =
         qed W ((‵ (flft κ q) ⊛ ‵ (flft κr qr) ⊛ ‵ (flft κ1 q1) ⊛ ‵ ftrue) ∷ ‵ (owns (ShrSlice (named 0) κ T.the-row ∷ usize ∷ MutSlice (named 1) κr u64 ∷ ShrSlice (named 2) κ1 u8 ∷ M-Counts.the-row ∷ u32 ∷ ShrSlice (named 2) κ1 u32 ∷ ShrSlice (named 2) κ1 f64 ∷ ShrSlice (named 2) κ1 u32 ∷ ShrSlice (named 2) κ1 u32 ∷ M-StopMasks.the-row ∷ (Array M-Waiters.the-row 64) ∷ M-Ones.the-row ∷ []) (bound .0 .3) (bound .0 .4)) ∷ []) ∵

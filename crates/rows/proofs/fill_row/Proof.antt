@@ -25,19 +25,19 @@ unfolding tab count
 loop-holds c = (omega arith, refl, refl, refl)
 
 mul-v : tie.Need-mul-v Inv-loop μ-loop
-mul-v c = let p = c .before .before .before .before .before .before .pre in omega (arith, p .6 (c .before .before .loop .k) (c .before .loop-test .taken))
+mul-v c = let p = c .before .before .before .before .before .before .before .pre in omega (arith, p .6 (c .before .before .loop .k) (c .before .loop-test .taken))
 
 array-copy-out-v : tie.Need-array-copy-out-v Inv-loop μ-loop
-array-copy-out-v c = let p = c .before .before .before .before .before .before .pre in omega (arith, p .6 (c .before .before .loop .k) (c .before .loop-test .taken))
+array-copy-out-v c = let p = c .before .before .before .before .before .before .before .pre in omega (arith, p .6 (c .before .before .loop .k) (c .before .loop-test .taken))
 
 cell-requires : tie.Need-cell-requires Inv-loop μ-loop
-cell-requires c κs = let p = c .before .before .before .before .before .before .before .pre in (p .0, p .1, p .2, p .3, p .6 (c .before .before .before .loop .k) (c .before .before .loop-test .taken))
+cell-requires c κs = let p = c .before .before .before .before .before .before .before .before .pre in (p .0, p .1, p .2, p .3, p .6 (c .before .before .before .loop .k) (c .before .before .loop-test .taken))
 
 add-held : tie.Need-add-held Inv-loop μ-loop
 add-held c =
     let l = c .before .before .before .before .before .loop in
-    let a = c .before .before .before .before .before .before .before .before .before .args in
-    let p = c .before .before .before .before .before .before .before .before .before .pre in
+    let a = c .before .before .before .before .before .before .before .before .before .before .args in
+    let p = c .before .before .before .before .before .before .before .before .before .before .pre in
     let few = count-le (rowHeld (a .row) (a .dests .now) (a .sides .now) (a .t4) (a .xs .now) (a .n) (a .t7)) (l .k) in
     omega (arith, l .inv .3, few, c .held-count .ensures, bit-lt (c .before .cell .result .held), c .before .before .before .before .loop-test .taken, p .5)
 
@@ -45,7 +45,7 @@ loop-again : tie.Need-loop-again Inv-loop μ-loop
 unfolding rowCell rowHeld
 loop-again c =
     let l = c .before .before .before .before .before .loop in
-    let a = c .before .before .before .before .before .before .before .before .before .args in
+    let a = c .before .before .before .before .before .before .before .before .before .before .args in
     let cell = c .before .cell in (
       omega arith,
       simp length-set (l .inv .1),
@@ -58,7 +58,7 @@ loop-again c =
 returns : tie.Need-returns Inv-loop μ-loop
 returns c =
     let l = c .before .loop in
-    let a = c .before .before .before .before .before .args in
+    let a = c .before .before .before .before .before .before .args in
     let e : l .k ≡ a .t7 .count = omega arith in (
       (
         l .inv .1,
