@@ -2,3 +2,5 @@ pub mod Alike
 pub mod Stops
 pub mod Costs
 pub mod Rows
+pub mod Bars
+pub mod Zeros
