@@ -9,10 +9,10 @@ use sheetgen::sheet::{ETD, NO_LIMIT, RSR, SCAN};
 use sheetgen::shrink::shrink;
 use sheetgen::{Aboard, Car, Demand, Line, Sheet, Stop, Waiting, read};
 
-use crate::answer::{Answer, Pass, Source, answer};
+use crate::answer::{Answer, Pass, Source, answer, for_rust};
 use crate::compare::Comparison;
-use crate::paper::{FAULTS, Fault, Paper};
-use crate::rust_pass::{Rust, RustPass};
+use crate::paper::{self, FAULTS, Fault, Paper};
+use crate::rust_pass::Rust;
 
 fn put(list: &mut Vec<u8>, sheet: &[u8]) {
     list.extend(
@@ -39,10 +39,7 @@ impl Cases {
 fn tables(cases: &mut Cases) {
     let base = || {
         let mut s = Sheet::new(sheetgen::sheet::SCAN);
-        s.stops.push(Stop {
-            id: 1,
-            position: 0.0,
-        });
+        s.stops.push(Stop::at(1, 0.0));
         s.lines.push(Line { id: 1, mask: 0 });
         s.cars.push(Car::parked(1));
         s
@@ -50,11 +47,10 @@ fn tables(cases: &mut Cases) {
     for more in [0, 1] {
         let mut s = Sheet::new(sheetgen::sheet::SCAN);
         s.stops = (1..=64 + more)
-            .map(|id| Stop {
-                id,
-                position: f64::from(id),
-            })
+            .map(|id| Stop::at(id, f64::from(id)))
             .collect();
+        cases.add(s.write());
+        s.edition = 2;
         cases.add(s.write());
         let mut s = Sheet::new(sheetgen::sheet::SCAN);
         s.lines = (1..=8 + more).map(|id| Line { id, mask: 0 }).collect();
@@ -101,10 +97,7 @@ fn edges(cases: &mut Cases) {
         flipped[bit / 8] ^= 0x80 >> (bit % 8);
         cases.add(flipped);
     }
-    small.stops.push(Stop {
-        id: 1,
-        position: 0.0,
-    });
+    small.stops.push(Stop::at(1, 0.0));
     small.demands.push(Demand {
         stop: 1,
         riding: 1,
@@ -126,10 +119,11 @@ fn edges(cases: &mut Cases) {
     }
     closures(cases);
     load_weights(cases);
+    editions(cases);
     // The last demand record of 1 to 8 ends at every bit of a byte but for its tail.
     for stops in 1..=8 {
         let mut s = Sheet::new(sheetgen::sheet::SCAN);
-        s.stops = (1..=stops).map(|id| Stop { id, position: 0.0 }).collect();
+        s.stops = (1..=stops).map(|id| Stop::at(id, 0.0)).collect();
         s.demands = vec![Demand {
             stop: stops,
             riding: 0,
@@ -143,6 +137,69 @@ fn edges(cases: &mut Cases) {
             set[bit / 8] |= 0x80 >> (bit % 8);
             cases.add(set);
         }
+    }
+}
+
+/// Edition 2: a small sheet under other editions, with the lengths of edition 1, cut from its first stop on, and with second coordinates at the
+/// ends of their range, beyond them, and no numbers.
+fn editions(cases: &mut Cases) {
+    let mut small = Sheet::new(sheetgen::sheet::SCAN);
+    small.edition = 2;
+    small.stops.push(Stop {
+        across: 12.0,
+        ..Stop::at(1, 3.0)
+    });
+    small.lines.push(Line {
+        id: 1,
+        mask: 1 << 63,
+    });
+    small.cars.push(Car {
+        across: -7.5,
+        ..Car::parked(1)
+    });
+    small.demands.push(Demand {
+        stop: 1,
+        riding: 0,
+        call: true,
+    });
+    let whole = small.write();
+    for edition in 0..=4 {
+        let mut other = whole.clone();
+        other[0] = edition;
+        cases.add(other);
+        let mut first = small.clone();
+        first.edition = 1;
+        let mut other = first.write();
+        other[0] = edition;
+        cases.add(other);
+    }
+    let (stop, car) = (514, 514 + 182 + 118);
+    for length in (stop / 8..stop / 8 + 24).chain(car / 8 + 24..car / 8 + 38) {
+        cases.add(whole[..length].to_vec());
+    }
+    for (at, lengths) in [
+        (stop, [95, 96, 97, 159, 161, 779]),
+        (car, [714, 715, 716, 778, 780, 160]),
+    ] {
+        for length in lengths {
+            let mut other = whole.clone();
+            bits::set(&mut other, at + 6, 16, length);
+            cases.add(other);
+        }
+    }
+    let inside = [0.0, -0.0, 5e-324, 1e6, -1e6];
+    let outside = [1_000_000.000_000_000_1, -1_000_000.000_000_000_1, f64::NAN];
+    for across in inside
+        .into_iter()
+        .chain(outside)
+        .chain([f64::INFINITY, f64::NEG_INFINITY])
+    {
+        let mut other = small.clone();
+        other.stops[0].across = across;
+        cases.add(other.write());
+        other = small.clone();
+        other.cars[0].across = across;
+        cases.add(other.write());
     }
 }
 
@@ -162,7 +219,7 @@ fn load_weights(cases: &mut Cases) {
 /// Closed landings: ids that are listed, unlisted, repeated and 0; cuts of a small sheet from its first closure on; kinds and lengths at both.
 fn closures(cases: &mut Cases) {
     let mut small = Sheet::new(sheetgen::sheet::SCAN);
-    small.stops = [3, 7].map(|id| Stop { id, position: 0.0 }).to_vec();
+    small.stops = [3, 7].map(|id| Stop::at(id, 0.0)).to_vec();
     for closed in [
         [3, 7],
         [7, 3],
@@ -201,7 +258,7 @@ fn closures(cases: &mut Cases) {
 fn closed_ends(cases: &mut Cases) {
     for closed in 1..=4 {
         let mut s = Sheet::new(sheetgen::sheet::SCAN);
-        s.stops = (1..=4).map(|id| Stop { id, position: 0.0 }).collect();
+        s.stops = (1..=4).map(|id| Stop::at(id, 0.0)).collect();
         s.closed = (1..=closed).collect();
         let bytes = s.write();
         cases.add(bytes.clone());
@@ -212,17 +269,19 @@ fn closed_ends(cases: &mut Cases) {
         }
     }
     let mut s = Sheet::new(sheetgen::sheet::SCAN);
-    s.stops = (1..=64).map(|id| Stop { id, position: 0.0 }).collect();
+    s.stops = (1..=64).map(|id| Stop::at(id, 0.0)).collect();
     s.closed = (1..=64).rev().collect();
     cases.add(s.write());
 }
 
-/// The refusal's number and the kind of the record at its offset.
-fn key(sheet: &[u8]) -> (u32, usize) {
-    read(sheet).map_or((0, 0), |r| {
+/// Whether the sheet states edition 2, the refusal's number and the kind of the record at its offset.
+fn key(sheet: &[u8]) -> (bool, u32, usize) {
+    let is_second = sheet.first() == Some(&2);
+    read(sheet).map_or((is_second, 0, 0), |r| {
         let at = r.offset as usize;
         let stated = at >= 24 && at + 6 <= sheet.len() * 8;
         (
+            is_second,
             r.number,
             if stated {
                 bits::get(sheet, at, 6).min(9) as usize
@@ -256,17 +315,15 @@ pub fn refusals(seed: u64) -> (Vec<u8>, usize) {
     cases.add(Sheet::example().write());
     tables(&mut cases);
     edges(&mut cases);
-    // The smallest of many, two for each way of spoiling and each kind that it spoils.
+    // The smallest of many, one for each way of spoiling, each edition and each kind that it spoils.
     let ways = provoke::ways() as u64;
     for way in 0..ways {
         let make = |k| provoke::provoke(&mut Rng::new(seed, 200, k * ways + way), way).bytes;
-        smallest(&mut cases, (0..400).map(make), 2);
+        smallest(&mut cases, (0..400).map(make), 1);
     }
-    smallest(
-        &mut cases,
-        (0..4000).map(|k| generate(Profile::Damaged, seed, k)),
-        1,
-    );
+    for profile in [Profile::Damaged, Profile::DamagedSideways] {
+        smallest(&mut cases, (0..4000).map(|k| generate(profile, seed, k)), 1);
+    }
     smallest(
         &mut cases,
         (0..4000).map(|k| generate(Profile::Garbage, seed, k)),
@@ -301,7 +358,8 @@ fn telling(seed: u64, count: u64, each: usize, left_out: &[Fault]) -> Cases {
     cases.add(Sheet::example().write());
     for &fault in FAULTS
         .iter()
-        .filter(|f| **f != Fault::None && !f.is_of_ranked() && !left_out.contains(f)) {
+        .filter(|f| **f != Fault::None && !f.is_of_ranked() && !left_out.contains(f))
+    {
         let mut bench = Paper { fault, whole: true };
         let mut c = Comparison::new(&mut bench);
         c.has.read = false;
@@ -309,11 +367,20 @@ fn telling(seed: u64, count: u64, each: usize, left_out: &[Fault]) -> Cases {
         for (_, profile) in PROFILES {
             if matches!(
                 profile,
-                Profile::Full | Profile::Damaged | Profile::Provoked | Profile::Garbage
+                Profile::Full
+                    | Profile::Damaged
+                    | Profile::DamagedSideways
+                    | Profile::Provoked
+                    | Profile::Garbage
             ) {
                 continue;
             }
             let is_shown = match profile {
+                Profile::Sideways => fault.is_of_editions(),
+                Profile::Level => fault == Fault::AcrossMinusZero,
+                _ if fault.is_of_editions() => {
+                    fault == Fault::LengthsOfEditionTwo && profile == Profile::Valid
+                }
                 Profile::Closed => fault.is_of_closures(),
                 Profile::Load => fault.is_of_loads(),
                 Profile::Ceiling => fault.is_of_held() || fault == Fault::LeftStanding,
@@ -324,9 +391,9 @@ fn telling(seed: u64, count: u64, each: usize, left_out: &[Fault]) -> Cases {
             if !is_shown {
                 continue;
             }
-            // Of closed landings, a sheet of each strategy that shows the fault.
+            // Of closed landings and of second coordinates, a sheet of each strategy that shows the fault.
             let strategies: &[Option<u8>] = match profile {
-                Profile::Closed => &[Some(ETD), Some(RSR), Some(SCAN)],
+                Profile::Closed | Profile::Sideways => &[Some(ETD), Some(RSR), Some(SCAN)],
                 _ => &[None],
             };
             // Equal totals that send unlike numbers of cars are rare.
@@ -481,7 +548,8 @@ fn values(sheet: &Sheet) -> std::collections::BTreeSet<String> {
             }
         )
     });
-    let stops = sheet.stops.iter().map(|s| format!("stop {:?}", s.position));
+    let stops = sheet.stops.iter();
+    let stops = stops.map(|s| format!("stop {:?} {:?}", s.position, s.across));
     let waiting = sheet.waiting.iter().map(|w| {
         let bound = (w.line.is_some(), w.destination.is_some());
         format!("waiting {bound:?} {:?} {}", w.weight, w.wait)
@@ -522,24 +590,29 @@ fn limited(rust: &mut Rust, wanted: &Wanted, seed: u64, next: &mut u64) -> Limit
         let (all, first) = (values(&sheet), 1 + (index % 3) as u16);
         let mut pair = |bytes: &[u8]| {
             let part = Sheet::of_accepted(bytes);
-            if part.policy != sheet.policy || !values(&part).is_subset(&all) {
+            let like = part.edition == sheet.edition && part.policy == sheet.policy;
+            if !like || !values(&part).is_subset(&all) {
                 return None;
             }
             let pair = Limited::new(rust, &part, first, wanted.raise);
             let pass = &pair.cases[0].1;
-            let open = Sheet {
-                closed: Vec::new(),
-                ..part
-            };
             let mut matters = |pass: &Pass| {
-                let Answer::Passed(other) = answer(rust, &open.write()) else {
+                let mut other = part.clone();
+                other.closed.clear();
+                other.edition = 1;
+                other.policy.limit = first;
+                let Answer::Passed(other) = answer(rust, &other.write()) else {
                     unreachable!()
                 };
-                other.pending != pass.pending
+                match wanted.profile {
+                    Profile::Closed => other.pending != pass.pending,
+                    _ => other.cells != pass.cells,
+                }
             };
+            let asked = matches!(wanted.profile, Profile::Closed | Profile::Sideways);
             let good = pass.source != Source::Document
                 && pass.cars >= wanted.cars
-                && (wanted.profile != Profile::Closed || matters(pass));
+                && (!asked || matters(pass));
             (good && pair.uncut() && pair.falls() == wanted.falls).then_some(pair)
         };
         if pair(&bytes).is_some() {
@@ -564,6 +637,7 @@ pub fn pairs(seed: u64) -> (Vec<u8>, usize) {
     ];
     let mut rust = Rust::new();
     let mut next = [0; PROFILES.len()];
+    let mut next_sideways = 0;
     let mut pairs = vec![Limited::new(&mut rust, &Sheet::example(), 1, 2)];
     for strategy in [ETD, RSR, SCAN] {
         // No sheet of the last profile is SCAN's.
@@ -575,7 +649,7 @@ pub fn pairs(seed: u64) -> (Vec<u8>, usize) {
                     Profile::Cover if strategy == RSR => Profile::Load,
                     profile => profile,
                 };
-                let mut add = |falls, cars, length| {
+                let mut add = |profile, falls, cars, length| {
                     let wanted = Wanted {
                         strategy,
                         profile,
@@ -584,18 +658,23 @@ pub fn pairs(seed: u64) -> (Vec<u8>, usize) {
                         cars,
                         length,
                     };
-                    pairs.push(limited(&mut rust, &wanted, seed, &mut next[k]));
+                    let next = match profile {
+                        Profile::Sideways => &mut next_sideways,
+                        _ => &mut next[k],
+                    };
+                    pairs.push(limited(&mut rust, &wanted, seed, next));
                 };
-                add(true, 1, 600);
-                add(false, 1, 600);
+                add(profile, true, 1, 600);
+                add(profile, false, 1, 600);
                 if k % 3 != raise {
-                    add(true, 2, 850);
+                    add(profile, true, 2, 850);
                 }
-                if (k + 1) % 3 != raise {
-                    add(true, 1, 600);
+                // In the stead of further ones, second coordinates without which cells were others.
+                if (k + 1) % 3 != raise && k % 2 == 0 {
+                    add(Profile::Sideways, k != 2, 1, 600);
                 }
                 if k == 0 && raise == usize::from(strategy) {
-                    add(true, 4, 1900);
+                    add(profile, true, 4, 1900);
                 }
             }
         }
@@ -736,7 +815,7 @@ type Shows = fn(&Pair) -> bool;
 
 /// What pairs are counted by; the load term is at this place.
 const LOAD_TERM: usize = 0;
-const FEATURES: [(&str, Shows); 20] = [
+const FEATURES: [(&str, Shows); 21] = [
     ("a load term above zero", |p| {
         p.load_ratio().is_some_and(|ratio| ratio > 0.0)
     }),
@@ -753,6 +832,9 @@ const FEATURES: [(&str, Shows); 20] = [
     ("a load that counts for nothing in phase idle", |p| {
         let weighed = p.sheet.policy.strategy == RSR && p.sheet.policy.weights[3] > 0.0;
         weighed && p.car.phase == 0 && p.car.load > 0.0 && p.car.capacity > 0.0
+    }),
+    ("second coordinates that differ", |p| {
+        p.car.across != p.stop.across
     }),
     ("car and stop within 1e-9 of each other, not equal", |p| {
         near(p.car.position, p.stop.position)
@@ -828,24 +910,39 @@ impl Tally {
     }
 }
 
-/// A sheet with its pass.
+/// A sheet with its idle cars, its pending stops and their ranks, which the Rust gives, or where it runs sideways the definitions.
 struct Ranked {
     bytes: Vec<u8>,
     sheet: Sheet,
-    pass: RustPass,
+    idle: Vec<u32>,
+    pending: Vec<u32>,
+    ranks: Vec<Rank>,
 }
 
 impl Ranked {
     fn new(rust: &mut Rust, bytes: Vec<u8>) -> Self {
         let sheet = Sheet::of_accepted(&bytes);
-        let pass = rust.pass(&sheet, true);
-        Self { bytes, sheet, pass }
+        let (pending, ranks) = match for_rust(&bytes) {
+            Some(given) => {
+                let pass = rust.pass(&given, true);
+                (pass.pending, pass.ranks)
+            }
+            None => (paper::answered(&sheet).pending, paper::named_ranks(&sheet)),
+        };
+        let idle = sheet.cars.iter().filter(|c| c.idle).map(|c| c.id).collect();
+        Self {
+            bytes,
+            sheet,
+            idle,
+            pending,
+            ranks,
+        }
     }
 
     fn count(&self, tally: &mut Tally) {
         let known = |id: &u32| self.sheet.stops.iter().find(|s| s.id == *id).unwrap();
-        let pending: Vec<&Stop> = self.pass.pending.iter().map(known).collect();
-        Pair::of(&self.sheet, &pending, &self.pass.ranks).for_each(|pair| tally.add(&pair));
+        let pending: Vec<&Stop> = self.pending.iter().map(known).collect();
+        Pair::of(&self.sheet, &pending, &self.ranks).for_each(|pair| tally.add(&pair));
     }
 
     fn tally(&self) -> Tally {
@@ -857,22 +954,22 @@ impl Ranked {
     /// How many ranks there are that are no zero, each once.
     fn different(&self) -> usize {
         let above = |rank: &Rank| rank.2.filter(|cost| *cost != 0.0).map(f64::to_bits);
-        let bits = self.pass.ranks.iter().filter_map(above);
+        let bits = self.ranks.iter().filter_map(above);
         bits.collect::<std::collections::BTreeSet<_>>().len()
     }
 
     fn put(&self, list: &mut Vec<u8>) {
         put(list, &self.bytes);
-        list.push(self.pass.idle.len() as u8);
-        list.push(self.pass.pending.len() as u8);
+        list.push(self.idle.len() as u8);
+        list.push(self.pending.len() as u8);
         let place = |k: Option<usize>| k.unwrap() as u8;
-        for id in &self.pass.idle {
+        for id in &self.idle {
             list.push(place(self.sheet.cars.iter().position(|c| c.id == *id)));
         }
-        for id in &self.pass.pending {
+        for id in &self.pending {
             list.push(place(self.sheet.stops.iter().position(|s| s.id == *id)));
         }
-        for (_, _, rank) in &self.pass.ranks {
+        for (_, _, rank) in &self.ranks {
             list.push(u8::from(rank.is_some()));
             // The Rust leaves the sign of a zero rank open (`max` of zeros of unlike sign).
             let bits = rank.filter(|cost| *cost != 0.0).map_or(0, f64::to_bits);
@@ -886,12 +983,13 @@ impl Ranked {
 /// with the most different ranks among those left, until there are 2,000 pairs. The profile load is RSR's; of it those follow
 /// in which most ranks above zero have a load term above zero, until 1,000 have.
 fn crowds(rust: &mut Rust, strategy: u8, seed: u64) -> Vec<Ranked> {
-    const PROFILES: [Profile; 6] = [
+    const PROFILES: [Profile; 7] = [
         Profile::Valid,
         Profile::Ties,
         Profile::Near,
         Profile::Extreme,
         Profile::Fine,
+        Profile::Sideways,
         Profile::Load,
     ];
     const LARGEST: usize = 2000;
@@ -903,7 +1001,7 @@ fn crowds(rust: &mut Rust, strategy: u8, seed: u64) -> Vec<Ranked> {
                 .map(|index| crowded(*profile, strategy, seed, index).write())
                 .filter(|bytes| bytes.len() <= LARGEST)
                 .map(|bytes| Ranked::new(rust, bytes))
-                .filter(|ranked| ranked.pass.ranks.len() >= 100)
+                .filter(|ranked| ranked.ranks.len() >= 100)
                 .collect()
         })
         .collect();
@@ -955,7 +1053,7 @@ pub fn ranks(seed: u64) -> (Vec<u8>, usize) {
     let mut cases: Vec<Ranked> = small
         .into_iter()
         .map(|bytes| Ranked::new(&mut rust, bytes))
-        .filter(|ranked| !ranked.pass.ranks.is_empty() && ranked.sheet.closed.is_empty())
+        .filter(|ranked| !ranked.ranks.is_empty() && ranked.sheet.closed.is_empty())
         .collect();
     for strategy in [ETD, RSR, SCAN] {
         cases.extend(crowds(&mut rust, strategy, seed));
