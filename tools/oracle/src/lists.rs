@@ -23,6 +23,15 @@ fn put(list: &mut Vec<u8>, sheet: &[u8]) {
     list.extend(sheet);
 }
 
+/// The buffer of the program that replays a list has room for it.
+fn fits(list: &[u8], most: usize, program: &str) {
+    let length = list.len();
+    assert!(
+        length <= most,
+        "{length} bytes are longer than {program}'s buffer of {most}"
+    );
+}
+
 /// Cases, each once.
 #[derive(Default)]
 struct Cases(Vec<Vec<u8>>);
@@ -143,61 +152,59 @@ fn edges(cases: &mut Cases) {
 /// Edition 2: a small sheet under other editions, with the lengths of edition 1, cut from its first stop on, and with second coordinates at the
 /// ends of their range, beyond them, and no numbers.
 fn editions(cases: &mut Cases) {
-    let mut small = Sheet::new(sheetgen::sheet::SCAN);
-    small.edition = 2;
-    small.stops.push(Stop {
+    let mut stop = Sheet::new(sheetgen::sheet::SCAN);
+    stop.edition = 2;
+    stop.stops.push(Stop {
         across: 12.0,
         ..Stop::at(1, 3.0)
     });
-    small.lines.push(Line {
+    let first = Sheet {
+        edition: 1,
+        ..stop.clone()
+    };
+    for edition in 0..=4 {
+        for sheet in [&stop, &first] {
+            let mut other = sheet.write();
+            other[0] = edition;
+            cases.add(other);
+        }
+    }
+    let mut car = stop.clone();
+    car.lines.push(Line {
         id: 1,
         mask: 1 << 63,
     });
-    small.cars.push(Car {
+    car.cars.push(Car {
         across: -7.5,
         ..Car::parked(1)
     });
-    small.demands.push(Demand {
-        stop: 1,
-        riding: 0,
-        call: true,
-    });
-    let whole = small.write();
-    for edition in 0..=4 {
-        let mut other = whole.clone();
-        other[0] = edition;
-        cases.add(other);
-        let mut first = small.clone();
-        first.edition = 1;
-        let mut other = first.write();
-        other[0] = edition;
-        cases.add(other);
-    }
-    let (stop, car) = (514, 514 + 182 + 118);
-    for length in (stop / 8..stop / 8 + 24).chain(car / 8 + 24..car / 8 + 38) {
+    let (stop_at, car_at) = (514, 514 + 182 + 118);
+    let whole = stop.write();
+    for length in stop_at / 8..whole.len() {
         cases.add(whole[..length].to_vec());
     }
-    for (at, lengths) in [
-        (stop, [95, 96, 97, 159, 161, 779]),
-        (car, [714, 715, 716, 778, 780, 160]),
+    let whole = car.write();
+    for length in car_at / 8 + 24..car_at / 8 + 36 {
+        cases.add(whole[..length].to_vec());
+    }
+    for (sheet, at, lengths) in [
+        (&stop, stop_at, [95, 96, 97, 159, 161, 779]),
+        (&car, car_at, [714, 715, 716, 778, 780, 160]),
     ] {
         for length in lengths {
-            let mut other = whole.clone();
+            let mut other = sheet.write();
             bits::set(&mut other, at + 6, 16, length);
             cases.add(other);
         }
     }
     let inside = [0.0, -0.0, 5e-324, 1e6, -1e6];
-    let outside = [1_000_000.000_000_000_1, -1_000_000.000_000_000_1, f64::NAN];
-    for across in inside
-        .into_iter()
-        .chain(outside)
-        .chain([f64::INFINITY, f64::NEG_INFINITY])
-    {
-        let mut other = small.clone();
+    let above = 1_000_000.000_000_000_1;
+    let outside = [above, -above, f64::NAN, f64::INFINITY, f64::NEG_INFINITY];
+    for across in inside.into_iter().chain(outside) {
+        let mut other = stop.clone();
         other.stops[0].across = across;
         cases.add(other.write());
-        other = small.clone();
+        let mut other = car.clone();
         other.cars[0].across = across;
         cases.add(other.write());
     }
@@ -302,7 +309,7 @@ fn smallest(cases: &mut Cases, from: impl Iterator<Item = Vec<u8>>, each: usize)
         found.sort_by_key(|sheet| sheet.len());
         found
             .into_iter()
-            .filter(|s| s.len() <= 700)
+            .filter(|s| s.len() <= 350)
             .take(each)
             .for_each(|s| cases.add(s));
     }
@@ -319,11 +326,14 @@ pub fn refusals(seed: u64) -> (Vec<u8>, usize) {
     let ways = provoke::ways() as u64;
     for way in 0..ways {
         let make = |k| provoke::provoke(&mut Rng::new(seed, 200, k * ways + way), way).bytes;
-        smallest(&mut cases, (0..400).map(make), 1);
+        smallest(&mut cases, (0..2000).map(make), 1);
     }
-    for profile in [Profile::Damaged, Profile::DamagedSideways] {
-        smallest(&mut cases, (0..4000).map(|k| generate(profile, seed, k)), 1);
-    }
+    let damaged = |profile: Profile| (0..8000).map(move |k| generate(profile, seed, k));
+    smallest(&mut cases, damaged(Profile::Damaged), 1);
+    // Of edition 2, stops and cars: the other kinds are those of edition 1.
+    let other = |sheet: &Vec<u8>| matches!(key(sheet).2, 2 | 4);
+    let damaged = damaged(Profile::DamagedSideways).filter(other);
+    smallest(&mut cases, damaged, 1);
     smallest(
         &mut cases,
         (0..4000).map(|k| generate(Profile::Garbage, seed, k)),
@@ -336,10 +346,7 @@ pub fn refusals(seed: u64) -> (Vec<u8>, usize) {
         list.push(number as u8);
         list.extend((offset as u32).to_be_bytes());
     }
-    assert!(
-        list.len() <= 204_800,
-        "longer than replay_refusals's buffer"
-    );
+    fits(&list, 204_800, "replay_refusals");
     (list, cases.0.len())
 }
 
@@ -450,7 +457,7 @@ fn put_pass(list: &mut Vec<u8>, pass: &Pass) {
 pub fn passes(seed: u64) -> (Vec<u8>, usize) {
     let mut rust = Rust::new();
     let mut list = Vec::new();
-    let cases = telling(seed, 600, 10, &[]).0;
+    let cases = telling(seed, 600, 7, &[]).0;
     for case in &cases {
         let Answer::Passed(pass) = answer(&mut rust, case) else {
             unreachable!()
@@ -458,7 +465,7 @@ pub fn passes(seed: u64) -> (Vec<u8>, usize) {
         put(&mut list, case);
         put_pass(&mut list, &pass);
     }
-    assert!(list.len() <= 131_072, "longer than replay_passes's buffer");
+    fits(&list, 131_072, "replay_passes");
     (list, cases.len())
 }
 
@@ -669,9 +676,11 @@ pub fn pairs(seed: u64) -> (Vec<u8>, usize) {
                 if k % 3 != raise {
                     add(profile, true, 2, 850);
                 }
-                // In the stead of further ones, second coordinates without which cells were others.
+                // Of some profiles, in the stead of a further one: second coordinates without which cells were others.
                 if (k + 1) % 3 != raise && k % 2 == 0 {
                     add(Profile::Sideways, k != 2, 1, 600);
+                } else if (k + 1) % 3 != raise && k == 1 {
+                    add(profile, true, 1, 600);
                 }
                 if k == 0 && raise == usize::from(strategy) {
                     add(profile, true, 4, 1900);
@@ -694,7 +703,7 @@ pub fn pairs(seed: u64) -> (Vec<u8>, usize) {
     }
     let mut list = Vec::new();
     pairs.iter().for_each(|pair| pair.put(&mut list));
-    assert!(list.len() <= 131_072, "longer than replay_pairs's buffer");
+    fits(&list, 131_072, "replay_pairs");
     print_pairs(&pairs);
     (list, pairs.len())
 }
@@ -1049,7 +1058,7 @@ fn crowds(rust: &mut Rust, strategy: u8, seed: u64) -> Vec<Ranked> {
 pub fn ranks(seed: u64) -> (Vec<u8>, usize) {
     let mut rust = Rust::new();
     // The rule of most cars is a matter of the choice alone.
-    let small = telling(seed + 2, 300, 5, &[Fault::LeftStanding]).0;
+    let small = telling(seed + 2, 300, 2, &[Fault::LeftStanding]).0;
     let mut cases: Vec<Ranked> = small
         .into_iter()
         .map(|bytes| Ranked::new(&mut rust, bytes))
@@ -1064,7 +1073,7 @@ pub fn ranks(seed: u64) -> (Vec<u8>, usize) {
         case.put(&mut list);
         case.count(&mut tallies[usize::from(case.sheet.policy.strategy)]);
     }
-    assert!(list.len() <= 262_144, "longer than replay_ranks's buffer");
+    fits(&list, 262_144, "replay_ranks");
     assert!(tallies[usize::from(RSR)].shown[LOAD_TERM].1 >= 1000);
     print_tallies(&tallies);
     (list, cases.len())

@@ -129,11 +129,6 @@ pub fn sideways(rng: &mut Rng, sheet: &mut Sheet) {
     Maker { rng, profile }.second_coordinates(sheet);
 }
 
-/// The distance of a car and a stop.
-fn distance(car: &Car, stop: &Stop) -> f64 {
-    (car.position - stop.position).abs() + (car.across - stop.across).abs()
-}
-
 /// A valid sheet of a strategy with so many stops, cars and riders, on one line for every eight cars.
 pub fn sized(
     strategy: u8,
@@ -283,7 +278,7 @@ fn cancel(rng: &mut Rng, sheet: &mut Sheet) {
         return;
     };
     let at = sheet.stops.iter().find(|s| s.id == w.stop).unwrap();
-    let travel = distance(car, at) / car.speed;
+    let travel = car.distance(at) / car.speed;
     let here = sheet.waiting.iter().filter(|v| v.stop == w.stop);
     let (mut sum, mut squares) = (0.0, 0.0);
     for v in here {
@@ -479,7 +474,7 @@ fn to_the_ceiling(rng: &mut Rng, sheet: &mut Sheet) {
     let at = sheet.stops.iter().find(|s| s.id == stop).unwrap();
     let first = &sheet.cars[rng.pick(&idle)];
     let (position, across, speed) = (first.position, first.across, first.speed);
-    let travel = distance(first, at) / speed;
+    let travel = first.distance(at) / speed;
     if travel < 0.3 {
         return;
     }

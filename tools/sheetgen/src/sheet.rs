@@ -367,6 +367,11 @@ impl Stop {
 }
 
 impl Car {
+    /// The distance to a stop, over both coordinates.
+    pub fn distance(&self, stop: &Stop) -> f64 {
+        (self.position - stop.position).abs() + (self.across - stop.across).abs()
+    }
+
     /// An idle-listed car in phase idle at 0, capacity 100, empty, up, strict, both lamps lit.
     pub fn parked(line: u32) -> Self {
         Self {
