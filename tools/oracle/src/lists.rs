@@ -679,7 +679,7 @@ pub fn pairs(seed: u64) -> (Vec<u8>, usize) {
                 // Of some profiles, in the stead of a further one: second coordinates without which cells were others.
                 if (k + 1) % 3 != raise && k % 2 == 0 {
                     add(Profile::Sideways, k != 2, 1, 600);
-                } else if (k + 1) % 3 != raise && k == 1 {
+                } else if (k + 1) % 3 != raise && k < 4 {
                     add(profile, true, 1, 600);
                 }
                 if k == 0 && raise == usize::from(strategy) {
