@@ -6,7 +6,7 @@ use sheetgen::{Car, Line, Sheet, Stop};
 
 use super::heights::{self, Heights};
 use super::legend::Legend;
-use super::plan::Plan;
+use super::plan::{Plan, mark_car, mark_stop};
 use super::riders::{Riders, Way};
 use super::svg::{self, Anchor, Svg, short};
 use super::{Chosen, LEGEND, LONG_ID, car_name};
@@ -484,12 +484,12 @@ impl Building<'_> {
         };
         legend.sentence(svg, words);
         if self.plan.is_some() {
-            legend.entry(svg, "in the plan, a stop", |svg, x, y| {
-                svg.line("floor", (x - 6.0, y), (x + 6.0, y));
-                svg.circle("served", x, y, 2.6);
-            });
+            legend.entry(svg, "in the plan, a stop", mark_stop);
             legend.entry(svg, "a car, idle-listed", |svg, x, y| {
-                svg.tile((x - 5.0, y - 4.0), (10.0, 8.0), "#fff", "car listed", "");
+                mark_car(svg, (x, y), true, "");
+            });
+            legend.entry(svg, "another car", |svg, x, y| {
+                mark_car(svg, (x, y), false, "");
             });
             legend.entry(
                 svg,
@@ -524,8 +524,8 @@ impl Building<'_> {
     }
 }
 
-const SIDEWAYS: &str = "Edition 2: behind a stop's position stands its second coordinate, across, as the plan has it. A distance is the sum of the differences of both; up, down and on the way are matters of the position alone.";
-const SIDEWAYS_BY_ORDER: &str = "Edition 2: behind a stop's position stands its second coordinate, across; in the plan they stand in order, and their distances are not to scale. A distance is the sum of the differences of both; up, down and on the way are matters of the position alone.";
+const SIDEWAYS: &str = "Edition 2: behind a stop's position stands its second coordinate, across, as the plan has it. A distance is the sum of the differences of both; up, down and on the way are matters of the position alone. Names without room in the plan show under the pointer.";
+const SIDEWAYS_BY_ORDER: &str = "Edition 2: behind a stop's position stands its second coordinate, across; in the plan they stand in order, and their distances are not to scale. A distance is the sum of the differences of both; up, down and on the way are matters of the position alone. Names without room in the plan show under the pointer.";
 
 /// What the seconds at the arrows are of.
 fn of_seconds(ramps: &Ramps, edition: u8) -> String {
