@@ -86,7 +86,7 @@ enum dispatch_bench_refusal {
 #define DISPATCH_BENCH_MOST_INPUT 1000000.0
 #define DISPATCH_BENCH_LEAST_RATE 0.0009765625
 
-/* Bytes of a sheet past these change no answer; an accepted one has at most 26,515. */
+/* Bytes of a sheet past these change no answer; an accepted one has at most 27,283. */
 #define DISPATCH_BENCH_MOST_BYTES 65536
 
 /* Bytes of a store of weights past these change no answer: 257 records. */

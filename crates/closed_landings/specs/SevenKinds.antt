@@ -14,10 +14,10 @@ use Rattle.components.specs.Codes.{kindOf, by-kind}
 use Rattle.layout.specs.declared.Counts.{Counts}
 use Rattle.layout.specs.declared.Reading.{Reading}
 use Rattle.layout.specs.declared.Reading.the-variants.{Refused, Accepted}
-use Rattle.layout.specs.Offsets.{none, next, endOf}
+use Rattle.layout.specs.Offsets.{next, endOf}
 use Rattle.layout.specs.Refusals.{recordCount, kindAt, refusal2}
 use Rattle.layout.specs.Readings.{refused≢accepted, same-counts}
-use Rattle.layout.specs.Verdict.{headRules, tailRules, rulesOf, pick, firstOf, given, recordRefusal, tailVerdict, recordsVerdict, verdict}
+use Rattle.layout.specs.Verdict.{headRules, tailRules, rulesOf, pick, firstOf, given, recordRefusal, tailVerdict, recordsVerdict, atFirst, verdict}
 
 -- document 01: "4, kind not 1 to 7"
 unfoldable pub kindOfSeven : ℕ → Kind
@@ -31,7 +31,7 @@ recordsOfSeven s zero c = tailVerdict s c
 recordsOfSeven s (suc n) c = given (refusalOfSeven s c) (endOf c) (recordsOfSeven s n (next c (kindOfSeven (kindAt s c))))
 
 unfoldable pub verdictOfSeven : List ℕ → Reading
-verdictOfSeven s = given (firstOf (headRules s)) 0 (recordsOfSeven s (recordCount s) none)
+verdictOfSeven s = given (firstOf (headRules s)) 0 (recordsOfSeven s (recordCount s) (atFirst s))
 
 -- a reading is 4, at a record of kind 8
 pub record FourAtEight (s : List ℕ) (v : Reading) : Type 0 where
@@ -90,7 +90,7 @@ module _ (s : List ℕ) where
 -- it reads a byte string as this bench does, or refuses it with 4 at a record of kind 8
 pub read-as : (s : List ℕ) → (verdictOfSeven s ≡ verdict s) ⊎ FourAtEight s (verdictOfSeven s)
 unfolding verdictOfSeven verdict
-read-as s = same-place s (firstOf (headRules s)) 0 _ _ (records-as s (recordCount s) none)
+read-as s = same-place s (firstOf (headRules s)) 0 _ _ (records-as s (recordCount s) (atFirst s))
 
 -- ---- what it accepts has no record of kind 8
 
@@ -123,7 +123,7 @@ records-open s (suc n) c d h e =
 
 pub seven-open : (s : List ℕ) (c : Counts) → verdictOfSeven s ≡ Accepted c → c .closures ≡ 0
 unfolding verdictOfSeven
-seven-open s c h = records-open s (recordCount s) none c (given-accepted (firstOf (headRules s)) 0 _ c h) refl
+seven-open s c h = records-open s (recordCount s) (atFirst s) c (given-accepted (firstOf (headRules s)) 0 _ c h) refl
 
 -- ---- and a sheet that is accepted without one is accepted by it
 
@@ -166,4 +166,4 @@ pub seven-accepted : (s : List ℕ) (c : Counts) → verdict s ≡ Accepted c �
 unfolding verdict verdictOfSeven
 seven-accepted s c h e =
     let rest = given-accepted (firstOf (headRules s)) 0 _ c h in
-    sym (ap (given (firstOf (headRules s)) 0) (rest ∙ sym (records-accepted s (recordCount s) none c rest e))) ∙ h
+    sym (ap (given (firstOf (headRules s)) 0) (rest ∙ sym (records-accepted s (recordCount s) (atFirst s) c rest e))) ∙ h

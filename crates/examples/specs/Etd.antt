@@ -49,7 +49,7 @@ bytes =
     128 ∷ 24 ∷ 128 ∷ 0 ∷ 0 ∷ 0 ∷ 128 ∷ 0 ∷ 64 ∷ []
 
 unfoldable pub counts : Counts
-counts = record { policies = 1; stops = 3; lines = 1; cars = 2; aboards = 1; waits = 2; demands = 1; closures = 0 }
+counts = record { across = 0; policies = 1; stops = 3; lines = 1; cars = 2; aboards = 1; waits = 2; demands = 1; closures = 0 }
 
 unfoldable pub sheet : Sheet
 sheet = sheetOf bytes counts

@@ -40,7 +40,7 @@ bytes =
     1 ∷ []
 
 unfoldable pub counts : Counts
-counts = record { policies = 1; stops = 3; lines = 1; cars = 2; aboards = 1; waits = 0; demands = 3; closures = 0 }
+counts = record { across = 0; policies = 1; stops = 3; lines = 1; cars = 2; aboards = 1; waits = 0; demands = 3; closures = 0 }
 
 unfoldable pub sheet : Sheet
 sheet = sheetOf bytes counts

@@ -39,7 +39,7 @@ bytes =
     35 ∷ 128 ∷ 24 ∷ 128 ∷ 0 ∷ 0 ∷ 1 ∷ 128 ∷ 0 ∷ 64 ∷ []
 
 unfoldable pub counts : Counts
-counts = record { policies = 1; stops = 3; lines = 1; cars = 2; aboards = 0; waits = 0; demands = 2; closures = 0 }
+counts = record { across = 0; policies = 1; stops = 3; lines = 1; cars = 2; aboards = 0; waits = 0; demands = 2; closures = 0 }
 
 unfoldable pub sheet : Sheet
 sheet = sheetOf bytes counts

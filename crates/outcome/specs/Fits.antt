@@ -45,15 +45,15 @@ fits bytes c e =
       sweeps = s .most-cars;
     }
 
--- and an accepted sheet has at most 26,515 bytes: every table full, one demand and one closure a stop
-pub most-bytes : (bytes : List ℕ) (c : Counts) → verdict bytes ≡ Accepted c → length bytes ≤ 26515
+-- and an accepted sheet has at most 27,283 bytes, of edition 2: every table full, one demand and one closure a stop
+pub most-bytes : (bytes : List ℕ) (c : Counts) → verdict bytes ≡ Accepted c → length bytes ≤ 27283
 unfolding sheetOf
 most-bytes bytes c e =
     let a = accepted bytes c e in
     let d : c .demands ≤ c .stops = a .sheet .most-demands in
     let x : c .closures ≤ c .stops = a .sheet .most-closures in
-    let last : endOf c ≤ 212114 =
-    omega (arith, a .one-policy, a .small .stops, a .small .lines, a .small .cars, a .small .aboards, a .small .waits) in
+    let last : endOf c ≤ 218258 =
+    omega (arith, a .one-policy, a .small .stops, a .small .stop-bits, a .small .lines, a .small .car-bits, a .small .aboards, a .small .waits) in
     omega (arith, a .whole)
 
 -- the answered total is at most n sentinels, so at most 2^53

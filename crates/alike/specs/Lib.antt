@@ -1,0 +1,4 @@
+pub mod Alike
+pub mod Stops
+pub mod Costs
+pub mod Rows

@@ -1,0 +1,1 @@
+// Two sheets that a pass can hardly tell apart: specs/. No code.
