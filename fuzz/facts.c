@@ -6,7 +6,9 @@
 
 /* Where a field stands in its record, the 22 bits in front counted. */
 enum { ID = 22, SECOND = 54, LIMIT = 24, DESTINATION = 55 };
-enum { CAR_PHASE = 86, CAR_IDLE = 154, CAR_SWEEP = 157, CAR_CAPACITY = 287, CAR_LOAD = 351, CAR_RESTRICTED = 609 };
+enum { CAR_PHASE = 86, CAR_IDLE = 154, CAR_SWEEP = 157, CAR_POSITION = 159 };
+/* In edition 2 these stand behind the second coordinate. */
+enum { CAR_CAPACITY = 287, CAR_LOAD = 351, CAR_RESTRICTED = 609 };
 
 static double get_double(const uint8_t *bytes, size_t size, size_t at) {
     uint64_t bits = get_bits(bytes, size, at, 64);
@@ -15,14 +17,22 @@ static double get_double(const uint8_t *bytes, size_t size, size_t at) {
     return value;
 }
 
+/* A position and, in edition 2, the second coordinate behind it. */
+static void read_point(struct facts *f, double *point, const uint8_t *bytes, size_t size, size_t at) {
+    point[0] = get_double(bytes, size, at);
+    point[1] = f->edition == 2 ? get_double(bytes, size, at + 64) : 0;
+    f->sideways |= point[1] != 0;
+}
+
 static void read_car(struct facts *f, const uint8_t *bytes, size_t size, size_t at) {
-    size_t i = f->cars++;
+    size_t i = f->cars++, behind = at + (f->edition == 2 ? ACROSS : 0);
+    read_point(f, f->car_at[i], bytes, size, at + CAR_POSITION);
     f->car_id[i] = (uint32_t)get_bits(bytes, size, at + ID, 32);
     f->car_line[i] = (uint32_t)get_bits(bytes, size, at + SECOND, 32);
-    f->car_restricted[i] = get_bits(bytes, size, at + CAR_RESTRICTED, 64);
+    f->car_restricted[i] = get_bits(bytes, size, behind + CAR_RESTRICTED, 64);
     f->car_sweep[i] = (uint8_t)get_bits(bytes, size, at + CAR_SWEEP, 2);
-    f->car_laden[i] = get_bits(bytes, size, at + CAR_PHASE, 3) != 0 && get_double(bytes, size, at + CAR_CAPACITY) > 0 &&
-                      get_double(bytes, size, at + CAR_LOAD) > 0;
+    f->car_laden[i] = get_bits(bytes, size, at + CAR_PHASE, 3) != 0 && get_double(bytes, size, behind + CAR_CAPACITY) > 0 &&
+                      get_double(bytes, size, behind + CAR_LOAD) > 0;
     if (get_bits(bytes, size, at + CAR_IDLE, 1)) {
         f->idle_car[f->idle++] = i;
     }
@@ -47,6 +57,7 @@ static void read_aboard(struct facts *f, const uint8_t *bytes, size_t size, size
 void read_facts(struct facts *f, const uint8_t *bytes, size_t size) {
     static struct record records[MOST_RECORDS];
     memset(f, 0, sizeof *f);
+    f->edition = (unsigned)get_bits(bytes, size, 0, 8);
     size_t count = cut_records(bytes, size, records);
     for (size_t i = 0; i < count; i++) {
         size_t at = records[i].start;
@@ -55,6 +66,7 @@ void read_facts(struct facts *f, const uint8_t *bytes, size_t size) {
             f->weighs_loads = f->strategy == 1 && get_double(bytes, size, LOAD_WEIGHT) > 0;
             f->limit = get_bits(bytes, size, at + LIMIT, 16);
         } else if (records[i].kind == STOP && f->stops < 64) {
+            read_point(f, f->stop_at[f->stops], bytes, size, at + SECOND);
             f->stop_id[f->stops++] = (uint32_t)get_bits(bytes, size, at + ID, 32);
         } else if (records[i].kind == LINE && f->lines < 8) {
             f->line_serves[f->lines] = get_bits(bytes, size, at + SECOND, 64);

@@ -6,12 +6,18 @@
 #include <stdint.h>
 
 struct facts {
+    /* 1 or 2. */
+    unsigned edition;
     unsigned strategy;
     /* RSR with a load weight above 0. */
     int weighs_loads;
     uint64_t limit;
     size_t stops, lines, cars, idle;
     uint32_t stop_id[64];
+    /* Both coordinates; the second is 0 in edition 1. */
+    double stop_at[64][2], car_at[32][2];
+    /* Some second coordinate is no zero. */
+    int sideways;
     uint32_t line_id[8];
     uint64_t line_serves[8];
     uint32_t car_id[32];

@@ -46,8 +46,43 @@ static int weighs_loads(const uint8_t *sheet, size_t length) {
     return bits_at(sheet, length, 24 + 22, 2) == 1 && load > 0 && load >> 63 == 0;
 }
 
+#define MOST_LENGTH (1 << 17)
+
+/* The faults of edition 2, in which the library is given another sheet: edition 3 as the second, and second coordinates as 0 where they are outside of
+   their range, below zero, or inside of it. */
+static const uint8_t *read_otherwise(const uint8_t *sheet, size_t length) {
+    static uint8_t copy[MOST_LENGTH];
+    if (length < 4 || length > MOST_LENGTH || !(is("edition_3") || is("across_any") || is("across_below") || is("across_ignored"))) {
+        return sheet;
+    }
+    memcpy(copy, sheet, length);
+    copy[0] = is("edition_3") && copy[0] == 3 ? 2 : copy[0];
+    size_t at = 24;
+    for (uint64_t left = bits_at(copy, length, 8, 16); copy[0] == 2 && left > 0 && at < 8 * length; left--) {
+        uint64_t kind = bits_at(copy, length, at, 6);
+        size_t second = at + (kind == 2 ? 118 : 223);
+        uint64_t across = bits_at(copy, length, second, 64);
+        int outside = across << 1 > UINT64_C(0x412e848000000000) << 1;
+        int changed = (is("across_ignored") && !outside) || (is("across_any") && outside) || (is("across_below") && across >> 63);
+        for (size_t bit = second; (kind == 2 || kind == 4) && changed && !is("edition_3") && bit < second + 64 && bit < 8 * length; bit++) {
+            copy[bit / 8] &= (uint8_t)~(0x80 >> bit % 8);
+        }
+        at += 22 + bits_at(copy, length, at + 6, 16);
+    }
+    return copy;
+}
+
+/* Edition 2 is not known, as before it was there. */
+static int is_unknown(const uint8_t *sheet, size_t length) {
+    return is("edition_2_refused") && length >= 3 && sheet[0] == 2;
+}
+
 uint32_t __wrap_dispatch_bench_read(const uint8_t *sheet, size_t length, uint64_t *offset) {
-    uint32_t number = __real_dispatch_bench_read(sheet, length, offset);
+    if (is_unknown(sheet, length)) {
+        *offset = 0;
+        return DISPATCH_BENCH_EDITION;
+    }
+    uint32_t number = __real_dispatch_bench_read(read_otherwise(sheet, length), length, offset);
     if (is("read_load_weight") && number == 0 && weighs_loads(sheet, length)) {
         *offset = 24;
         return DISPATCH_BENCH_LOAD_WEIGHT;
@@ -164,7 +199,11 @@ uint32_t __wrap_dispatch_bench_pass(const uint8_t *sheet, size_t length, uint32_
                                     uint64_t *held, uint64_t *offset) {
     uint32_t stood = decision_count > 31 ? decisions[31] : 0;
     uint64_t before = *held;
-    uint32_t number = __real_dispatch_bench_pass(sheet, length, decisions, decision_count, matrix, cell_count, sweeps, sweep_count, cars, stops, total,
+    if (is_unknown(sheet, length) && decision_count > 31 && cell_count > 2047 && sweep_count > 31) {
+        *offset = 0;
+        return DISPATCH_BENCH_EDITION;
+    }
+    uint32_t number = __real_dispatch_bench_pass(read_otherwise(sheet, length), length, decisions, decision_count, matrix, cell_count, sweeps, sweep_count, cars, stops, total,
                                                  ranked, held, offset);
     if (number == 0) {
         spoil_held(matrix, *cars, *stops, held, before);
@@ -201,7 +240,7 @@ uint32_t __wrap_dispatch_bench_pass(const uint8_t *sheet, size_t length, uint32_
 
 /* The id of a stop record, 0 where there is none. Stop records follow the policy's. */
 static uint32_t stop_at(const uint8_t *sheet, size_t length, size_t place) {
-    uint64_t record = bits_at(sheet, length, 24 + 22 + 468 + place * (22 + 96), 54);
+    uint64_t record = bits_at(sheet, length, 24 + 22 + 468 + place * (22 + (sheet[0] == 2 ? 160 : 96)), 54);
     return record >> 48 == 2 ? (uint32_t)record : 0;
 }
 
@@ -245,7 +284,11 @@ static void spoil_pending(const uint8_t *sheet, size_t length, uint32_t *stops, 
 uint32_t __wrap_dispatch_bench_pending(const uint8_t *sheet, size_t length, uint32_t *stops, size_t places, uint64_t *count, uint64_t *offset) {
     uint32_t held[MOST_PLACES];
     memcpy(held, stops, sizeof *held * (places < MOST_PLACES ? places : MOST_PLACES));
-    uint32_t number = __real_dispatch_bench_pending(sheet, length, stops, places, count, offset);
+    if (is_unknown(sheet, length) && places > 63) {
+        *offset = 0;
+        return DISPATCH_BENCH_EDITION;
+    }
+    uint32_t number = __real_dispatch_bench_pending(read_otherwise(sheet, length), length, stops, places, count, offset);
     if (number == 0) {
         spoil_pending(sheet, length, stops, places, held, count, offset);
     } else {

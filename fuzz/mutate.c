@@ -1,5 +1,5 @@
 /* Sheets changed by their records: a field gets another value of its sort, a record is repeated, left out, or taken from another sheet, a landing is
-   closed. One change in eight is libFuzzer's own, of plain bytes. */
+   closed, the edition is the other one. One change in eight is libFuzzer's own, of plain bytes. */
 #include <string.h>
 
 #include "sheet.h"
@@ -16,8 +16,10 @@ struct field {
     unsigned width;
 };
 
-/* The fields of each kind, in order. */
-static const struct field fields[9][24] = {
+/* The fields of each kind, in order; those of edition 2's stops and cars follow. */
+#define SECOND_STOP 9
+#define SECOND_CAR 10
+static const struct field fields[11][25] = {
     [POLICY] = {{STRATEGY, 2}, {LIMIT, 16}, {DOUBLE, 64}, {TRAFFIC, 2}, {DOUBLE, 64}, {DOUBLE, 64}, {DOUBLE, 64}, {DOUBLE, 64}, {DOUBLE, 64}, {DOUBLE, 64}},
     [STOP] = {{ID, 32}, {DOUBLE, 64}},
     [LINE] = {{ID, 32}, {MASK, 64}},
@@ -28,7 +30,15 @@ static const struct field fields[9][24] = {
     [WAITING] = {{STOP_ID, 32}, {PRESENT, 1}, {LINE_ID, 32}, {PRESENT, 1}, {STOP_ID, 32}, {DOUBLE, 64}, {WAIT, 64}},
     [DEMAND] = {{STOP_ID, 32}, {COUNT, 16}, {FLAG, 1}},
     [CLOSED] = {{STOP_ID, 32}},
+    [SECOND_STOP] = {{ID, 32}, {DOUBLE, 64}, {DOUBLE, 64}},
+    [SECOND_CAR] = {{ID, 32},    {LINE_ID, 32}, {PHASE, 3},    {PHASE_STOP, 32}, {PRESENT, 1}, {STOP_ID, 32}, {FLAG, 1},    {FLAG, 1},
+                    {FLAG, 1},   {FLAG, 1},     {FLAG, 1},     {DOUBLE, 64},     {DOUBLE, 64}, {DOUBLE, 64},  {DOUBLE, 64}, {DOUBLE, 64},
+                    {PRESENT, 1}, {DOUBLE, 64},  {PRESENT, 1},  {DOUBLE, 64},     {TICKS, 32},  {TICKS, 32},   {MASK, 64},   {MASK, 64}},
 };
+
+static const struct field *fields_of(unsigned kind, int sideways) {
+    return fields[sideways && kind == STOP ? SECOND_STOP : sideways && kind == CAR ? SECOND_CAR : kind];
+}
 
 static const double doubles[] = {0.0, -0.0, 1.0, 2.0, 10.0, 60.0, 0.5, 1.0 / 1024, 1000.0, 1e6, -1e6, 1e9, 281474976.710655, 1e-9, 3.5, 100.0,
                                  1e-300};
@@ -136,7 +146,7 @@ static void set_strategy(size_t at) {
 
 /* A field of a record gets another value. A present bit brings its field along, as a phase does its stop. */
 static void change_field(const struct record *r) {
-    const struct field *f = fields[r->kind];
+    const struct field *f = fields_of(r->kind, is_sideways(bytes, size));
     size_t n = 0, at = r->start + FRONT;
     while (f[n].sort != END) {
         n++;
@@ -187,7 +197,7 @@ static int splice(size_t from, size_t to, const uint8_t *with, size_t with_size,
 
 /* A record that was inserted gets an id of its own, or names records of this sheet. */
 static void settle(size_t at, unsigned kind, uint64_t last) {
-    size_t body = at + FRONT;
+    size_t body = at + FRONT, restricted = body + 587 + (is_sideways(bytes, size) ? ACROSS : 0);
     if (kind == STOP || kind == LINE || kind == CAR) {
         put_bits(bytes, body, 32, last + 1 + any(3));
     } else {
@@ -197,11 +207,11 @@ static void settle(size_t at, unsigned kind, uint64_t last) {
         put_bits(bytes, body + 32, 32, any_id(LINE));
     }
     if (kind == LINE || kind == CAR) {
-        size_t mask = kind == LINE ? body + 32 : body + 587;
+        size_t mask = kind == LINE ? body + 32 : restricted;
         put_bits(bytes, mask, 64, get_bits(bytes, size, mask, 64) & all_stops());
     }
     if (kind == CAR) {
-        put_bits(bytes, body + 651, 64, get_bits(bytes, size, body + 651, 64) & all_stops());
+        put_bits(bytes, restricted + 64, 64, get_bits(bytes, size, restricted + 64, 64) & all_stops());
     }
 }
 
@@ -241,9 +251,19 @@ static int take(const uint8_t *data, size_t data_size, unsigned seed) {
     return count > 0;
 }
 
+/* The kind is known, and the length is the kind's in this sheet's edition. */
 static int known(const struct record *r) {
-    static const unsigned lengths[9] = {0, 468, 96, 96, 715, 65, 226, 49, 32};
-    return r->kind >= POLICY && r->kind <= CLOSED && r->length == lengths[r->kind];
+    return r->kind >= POLICY && r->kind <= CLOSED && r->length == body_length(is_sideways(bytes, size), r->kind);
+}
+
+/* The sheet becomes one of the other edition. */
+static void change_edition(size_t most) {
+    static uint8_t out[sizeof bytes];
+    size_t length = other_edition(bytes, size, out, sizeof out);
+    if (length > 0 && length <= most) {
+        memcpy(bytes, out, sizeof bytes);
+        size = length;
+    }
 }
 
 size_t LLVMFuzzerCustomMutator(uint8_t *data, size_t data_size, size_t most, unsigned seed) {
@@ -259,6 +279,8 @@ size_t LLVMFuzzerCustomMutator(uint8_t *data, size_t data_size, size_t most, uns
             insert(bytes, size, r, most);
         } else if (change == 3 && any(2) == 0) {
             close_landing(most);
+        } else if (change == 4 && any(4) == 0) {
+            change_edition(most);
         } else if (known(r)) {
             change_field(r);
         }

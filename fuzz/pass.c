@@ -1,6 +1,8 @@
 /* Any bytes as a sheet, through the C interface: dispatch_bench_read, dispatch_bench_pass, dispatch_bench_pending and, on what the pass leaves,
    dispatch_bench_choose. Every pointer leads to guarded pages. The pass is run twice, with other contents, lengths and places of the buffers; and once
-   with each buffer too short. So are the pending stops asked for. */
+   with each buffer too short. So are the pending stops asked for. An accepted sheet is passed in its other edition too where all its second
+   coordinates are zero, or else mirrored in them. */
+#include <math.h>
 #include <stdio.h>
 #include <stdlib.h>
 #include <string.h>
@@ -43,13 +45,14 @@ static uint64_t unwritten(uint8_t pattern) {
 }
 
 /* How many inputs had which answer: passes by strategy, those with closed landings, with a rider of an idle-listed car bound for one, with load
-   weights and with held cells among them, refusals by number. */
-static unsigned long passes[3], closed_passes, bound_passes, load_passes, held_passes, refusals[17];
+   weights, with held cells, of edition 2 and with second coordinates among them, refusals by number. */
+static unsigned long passes[3], closed_passes, bound_passes, load_passes, held_passes, second_passes, sideways_passes, refusals[17];
 
 static void print_counts(void) {
     fprintf(stderr, "answers: passes %lu ETD, %lu RSR, %lu SCAN, %lu with closed landings, %lu with riders bound for them, ", passes[0], passes[1],
             passes[2], closed_passes, bound_passes);
-    fprintf(stderr, "%lu with a load weight, %lu with held cells; refusals", load_passes, held_passes);
+    fprintf(stderr, "%lu with a load weight, %lu with held cells, %lu of edition 2, %lu with second coordinates; refusals", load_passes, held_passes,
+            second_passes, sideways_passes);
     for (int number = 2; number <= 16; number++) {
         if (number != DISPATCH_BENCH_LOAD_WEIGHT) {
             fprintf(stderr, " %d: %lu", number, refusals[number]);
@@ -323,6 +326,62 @@ static void check_loads(const struct answer *a, const struct facts *f, const uin
     }
 }
 
+/* The edition and the coordinates of an accepted sheet are what the header says. */
+static void check_coordinates(const struct facts *f) {
+    require(f->edition == 1 || f->edition == 2, "an accepted sheet is of edition 1 or 2");
+    for (size_t i = 0; i < f->stops + f->cars; i++) {
+        const double *at = i < f->stops ? f->stop_at[i] : f->car_at[i - f->stops];
+        require(fabs(at[0]) <= 1e6 && fabs(at[1]) <= 1e6, "coordinates are inside of their range");
+    }
+}
+
+/* SCAN's cell is the distance, the sum of the two absolute differences, where there is a rank. */
+static void check_scan(const struct answer *a, const struct pending *p, const struct facts *f) {
+    size_t cars = a->value[CARS], stops = a->value[STOPS], columns = cars < stops ? stops : cars;
+    for (size_t i = 0; f->strategy == 2 && i < cars; i++) {
+        for (size_t k = 0; k < stops; k++) {
+            const double *car = f->car_at[f->idle_car[i]], *stop = f->stop_at[stop_place(f, p->stops[k])];
+            double along = fabs(car[0] - stop[0]), aside = fabs(car[1] - stop[1]), distance = along + aside;
+            uint64_t cell = a->matrix[i * columns + k];
+            require(cell == SENTINEL || cell == (uint64_t)round(distance * 1000000), "SCAN's cell is the distance");
+        }
+    }
+}
+
+/* The sheet with every second coordinate on the other side of 0. */
+static void mirror(uint8_t *bytes, size_t size) {
+    static struct record records[MOST_RECORDS];
+    size_t count = cut_records(bytes, size, records);
+    for (size_t i = 0; i < count; i++) {
+        unsigned kind = records[i].kind;
+        size_t sign = records[i].start + (kind == STOP ? STOP_ACROSS : CAR_ACROSS);
+        if (kind == STOP || kind == CAR) {
+            put_bits(bytes, sign, 1, 1 ^ get_bits(bytes, size, sign, 1));
+        }
+    }
+}
+
+/* An accepted sheet whose second coordinates are all zero, or that has none, is answered as in the other edition; another one as its mirrored sheet. */
+static void check_editions(const struct answer *a, const struct pending *p, const struct facts *f, const uint8_t *data, size_t size) {
+    static uint8_t other[MOST_BYTES];
+    static struct answer answer;
+    static struct pending pending;
+    struct lengths least = {DISPATCH_BENCH_DECISIONS, DISPATCH_BENCH_CELLS, DISPATCH_BENCH_SWEEPS};
+    size_t length = size;
+    if (f->sideways) {
+        memcpy(other, data, size);
+        mirror(other, size);
+    } else {
+        length = other_edition(data, size, other, sizeof other);
+        require(length > 0, "an accepted sheet has a twin");
+    }
+    run_pass(&answer, f, other, length, least, 1, 0xa5);
+    ask_pending(&pending, other, length, DISPATCH_BENCH_STOPS, 1, 0x96);
+    int same = memcmp(a, &answer, sizeof answer) == 0 && memcmp(p, &pending, sizeof pending) == 0;
+    require(same || f->sideways, "a sheet without second coordinates but zeros is answered as its twin");
+    require(same, "a mirrored sheet is answered alike");
+}
+
 /* Each buffer too short by itself: refusal 1 at 0, whatever the sheet, and nothing else written. */
 static void check_short(const uint8_t *data, size_t size, unsigned by) {
     struct lengths full = {DISPATCH_BENCH_DECISIONS, DISPATCH_BENCH_CELLS, DISPATCH_BENCH_SWEEPS};
@@ -368,6 +427,7 @@ static void tell_refusal(const struct answer *a, const uint8_t *data, size_t siz
     unsigned kind = (unsigned)get_bits(data, size, a->value[OFFSET], 6);
     kind = kind <= CLOSED ? kind : 0;
     features[a->number * 9 + kind] = 1;
+    features[3584 + is_sideways(data, size) * 256 + a->number * 9 + kind] = 1;
     features[256 + kind * 16 + bits_of(a->value[OFFSET]) % 16] = 1;
 }
 
@@ -394,6 +454,7 @@ static void tell_pass(const struct answer *a, const struct pending *p, const str
     }
     of[920 + bits_of((uint64_t)__builtin_popcountll(f->closed)) * 8 + bits_of(pending_closed)] = 1;
     of[990 + bits_of(a->value[HELD])] = 1;
+    of[1016 + f->edition + (unsigned)f->sideways] = 1;
 }
 
 /* FNV-1a: lengths that vary with the input, and are the same each time it is run. */
@@ -433,16 +494,21 @@ int LLVMFuzzerTestOneInput(const uint8_t *data, size_t size) {
         tell_refusal(&first, data, size);
         return 0;
     }
+    check_coordinates(&facts);
     check_lists(&first, &facts);
     check_loads(&first, &facts, data, size);
     check_pending(&pending, &first, &facts);
     check_counts(&first, &pending, &facts);
     check_decisions(&first, &pending, &facts);
+    check_scan(&first, &pending, &facts);
+    check_editions(&first, &pending, &facts, data, size);
     passes[facts.strategy]++;
     tell_pass(&first, &pending, &facts);
     closed_passes += facts.closed != 0;
     bound_passes += (facts.closed & facts.wanted) != 0;
     load_passes += facts.weighs_loads;
     held_passes += first.value[HELD] > 0;
+    second_passes += facts.edition == 2;
+    sideways_passes += facts.sideways;
     return 0;
 }

@@ -38,9 +38,9 @@ enum dispatch_bench_refusal {
     DISPATCH_BENCH_ACCEPTED = 0,
     DISPATCH_BENCH_SHORT_BUFFER = 1,    /* a lent buffer is too short (dispatch_bench_pass, _pending, _weights, _grade) */
     DISPATCH_BENCH_PAST_END = 2,        /* what is stated passes the last byte */
-    DISPATCH_BENCH_EDITION = 3,         /* the edition is not known */
+    DISPATCH_BENCH_EDITION = 3,         /* an edition that is not 1 or 2 */
     DISPATCH_BENCH_UNKNOWN_KIND = 4,    /* a kind that is not 1 to 8 */
-    DISPATCH_BENCH_BODY_LENGTH = 5,     /* a body of another length than its kind's */
+    DISPATCH_BENCH_BODY_LENGTH = 5,     /* a body of another length than its kind's in this edition */
     DISPATCH_BENCH_OUT_OF_ORDER = 6,    /* kinds that fall, or a first record that is no policy */
     DISPATCH_BENCH_TABLE_FULL = 7,      /* more records of a kind than there may be */
     DISPATCH_BENCH_UNUSED_BITS = 8,     /* bits where there must be none, or an unknown code */
@@ -86,7 +86,7 @@ enum dispatch_bench_refusal {
 #define DISPATCH_BENCH_MOST_INPUT 1000000.0
 #define DISPATCH_BENCH_LEAST_RATE 0.0009765625
 
-/* Bytes of a sheet past these change no answer; an accepted one has at most 27,283. */
+/* Bytes of a sheet past these change no answer; an accepted one has at most 26,515, of edition 2 at most 27,283. */
 #define DISPATCH_BENCH_MOST_BYTES 65536
 
 /* Bytes of a store of weights past these change no answer: 257 records. */
@@ -103,7 +103,7 @@ enum dispatch_bench_refusal {
    where *held is above 0 nothing says that their costs are equal. The first *stops columns are the pending stops by rising id, which
    dispatch_bench_pending gives. *total is the sum of a cell for each idle car: that of the stop where it is sent, or the sentinel where it stays
    idle. Which car a decision is for is read off the sheet: decision k is that of the k-th car record whose bit 154, counted from 0 where the record
-   starts, is set (idle-listed); its id is the 32 bits from bit 22 on (docs/manual/format.md; examples/c/pass.c does it). */
+   starts, is set (idle-listed); its id is the 32 bits from bit 22 on, in both editions (docs/manual/format.md; examples/c/pass.c does it). */
 uint32_t dispatch_bench_pass(const uint8_t *sheet, size_t length, uint32_t *decisions, size_t decision_count, uint64_t *matrix, size_t cell_count,
                              uint8_t *sweeps, size_t sweep_count, uint64_t *cars, uint64_t *stops, uint64_t *total, uint64_t *ranked, uint64_t *held,
                              uint64_t *offset);

@@ -9,7 +9,7 @@ pub struct Car {
 const CAR: u64 = 4;
 /// A record's kind and length.
 const FRONT: usize = 22;
-/// Where a car record holds whether it is idle-listed.
+/// Where a car record holds whether it is idle-listed, in both editions: edition 2 has more behind the position, which comes later.
 const IDLE_LISTED: usize = 154;
 /// Bytes past these change no answer.
 const MOST_BYTES: usize = 65_536;

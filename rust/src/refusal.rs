@@ -6,11 +6,11 @@ use crate::rules;
 /// [`remedy`](Refusal::remedy) says what to do.
 ///
 /// ```
-/// let refusal = dispatch_bench::read(&[2, 0, 0]).unwrap_err();
+/// let refusal = dispatch_bench::read(&[3, 0, 0]).unwrap_err();
 /// assert_eq!((refusal.number, refusal.offset), (3, 0));
 /// assert_eq!(
 ///     refusal.to_string(),
-///     "refused 3 at 0: The edition in the first 8 bits is not 1."
+///     "refused 3 at 0: The edition in the first 8 bits is not 1 or 2."
 /// );
 /// ```
 #[derive(Clone, Copy, Debug, PartialEq, Eq, Hash)]

@@ -29,9 +29,9 @@ pub const RULES: [Rule; 16] = [
         remedy: "Fetch the whole file again, in binary; if it is whole, it may be no sheet, or its writer stated a wrong record count or body length.",
     },
     Rule {
-        says: "The edition in the first 8 bits is not 1.",
+        says: "The edition in the first 8 bits is not 1 or 2.",
         remedy: concat!(
-            "Have the sheet written as edition 1, or take a bench that reads its edition. The file may also be no sheet at all, or not the right one. ",
+            "Have the sheet written as edition 1 or 2, or take a bench that reads its edition. The file may also be no sheet at all, or not the right one. ",
             changed!()
         ),
     },
@@ -43,7 +43,7 @@ pub const RULES: [Rule; 16] = [
         ),
     },
     Rule {
-        says: "A record's stated body length is not its kind's: 468, 96, 96, 715, 65, 226, 49, 32 bits for kinds 1 to 8.",
+        says: "A record's stated body length is not its kind's: 468, 96, 96, 715, 65, 226, 49, 32 bits for kinds 1 to 8; in edition 2 a stop has 160 and a car 779.",
         remedy: concat!(
             "Write the record with its kind's fields and length; a newer writer can cause this. ",
             changed!()

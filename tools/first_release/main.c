@@ -1,11 +1,12 @@
 /* The reader of the first release on sheets of today: "A bench of the first release refuses such a sheet, by 4 where nothing earlier is wrong", of
-   closed landings; and by 15, at the policy, where RSR has a load weight above 0. libdispatch_bench.a is that release's library.
+   closed landings; by 15, at the policy, where RSR has a load weight above 0; and by 3, at 0, of edition 2. libdispatch_bench.a is that release's
+   library.
 
        main LIST SHEET ..
 
    LIST is crates/replay_refusals/stdin: each case is a sheet's length in 16 bits, its bytes, the number of its refusal today in 8 bits and the offset
-   in 32, both 0 where it is accepted. Of the sheets named after it only those with a closed landing or a load weight are looked at, and they are
-   accepted today or refused at a closed landing. */
+   in 32, both 0 where it is accepted. Of the sheets named after it only those of edition 2 and those with a closed landing or a load weight are
+   looked at, and the latter are accepted today or refused at a closed landing. */
 #include <stdint.h>
 #include <stdio.h>
 #include <stdlib.h>
@@ -44,6 +45,11 @@ static size_t first_closed(const uint8_t *sheet, size_t length) {
     return 0;
 }
 
+/* The head is there and states edition 2. */
+static int is_second(const uint8_t *sheet, size_t length) {
+    return length >= 3 && sheet[0] == 2;
+}
+
 /* The policy, which must be whole, is RSR's and has a load weight above 0. */
 static int weighs_loads(const uint8_t *sheet, size_t length) {
     const size_t body = FIRST_RECORD + 22;
@@ -75,7 +81,7 @@ static void answers(const char *name, unsigned nth, const uint8_t *sheet, size_t
 }
 
 int main(int count, char **names) {
-    unsigned cases = 0, closed = 0, loads = 0, closed_sheets = 0, load_sheets = 0;
+    unsigned cases = 0, closed = 0, loads = 0, seconds = 0, closed_sheets = 0, load_sheets = 0, second_sheets = 0;
     if (count < 3) {
         fprintf(stderr, "usage: main LIST SHEET ..\n");
         return 2;
@@ -85,7 +91,10 @@ int main(int count, char **names) {
         size_t size = (size_t)bytes[at] << 8 | bytes[at + 1];
         const uint8_t *sheet = bytes + at + 2;
         uint64_t number = sheet[size], offset = field(sheet + size + 1, 4, 0, 32), first = first_closed(sheet, size);
-        if ((number == 0 || offset > FIRST_RECORD) && weighs_loads(sheet, size)) {
+        if (is_second(sheet, size)) {
+            answers(names[1], cases, sheet, size, DISPATCH_BENCH_EDITION, 0);
+            seconds++;
+        } else if ((number == 0 || offset > FIRST_RECORD) && weighs_loads(sheet, size)) {
             answers(names[1], cases, sheet, size, DISPATCH_BENCH_LOAD_WEIGHT, FIRST_RECORD);
             loads++;
         } else {
@@ -98,7 +107,10 @@ int main(int count, char **names) {
     for (int k = 2; k < count; k++) {
         length = file(names[k]);
         size_t first = first_closed(bytes, length);
-        if (weighs_loads(bytes, length)) {
+        if (is_second(bytes, length)) {
+            answers(names[k], 0, bytes, length, DISPATCH_BENCH_EDITION, 0);
+            second_sheets++;
+        } else if (weighs_loads(bytes, length)) {
             answers(names[k], 0, bytes, length, DISPATCH_BENCH_LOAD_WEIGHT, FIRST_RECORD);
             load_sheets++;
         } else if (first > 0) {
@@ -106,12 +118,12 @@ int main(int count, char **names) {
             closed_sheets++;
         }
     }
-    if (closed_sheets == 0 || load_sheets == 0) {
-        fprintf(stderr, "no sheet has a closed landing, or none a load weight\n");
+    if (closed_sheets == 0 || load_sheets == 0 || second_sheets == 0) {
+        fprintf(stderr, "no sheet has a closed landing, none a load weight, or none is of edition 2\n");
         return 1;
     }
     printf("the first release refuses %u sheets and %u of %u stored cases by 4 at their first closed landing, %u sheets and %u cases by 15 for their "
-           "load weight, and answers the others as today\n",
-           closed_sheets, closed, cases, load_sheets, loads);
+           "load weight, %u sheets and %u cases of edition 2 by 3, and answers the others as today\n",
+           closed_sheets, closed, cases, load_sheets, loads, second_sheets, seconds);
     return 0;
 }

@@ -1,5 +1,4 @@
--- Alike sheets with the same bars have the same matrix, decisions and sweeps; without a limit a sheet with more bars has cells that are the same or the
--- sentinel. Assumes nothing.
+-- Alike sheets with the same bars have the same matrix, the same held cells and as many ranked pairs. Assumes nothing.
 use Prim.Native.Nat.{ℕ, min, _<_, _≤_}
 use native.Mathlib.Omega.{arith}
 use mathlib.Core.Path.{_≡_, refl, sym, ap, ap₂, _∙_}
@@ -35,11 +34,11 @@ module _ (s : Sheet) (stop : ℕ → Stop) (line : ℕ → Line) (car : ℕ → 
   abbrev t : Sheet
   t = other s stop line car aboard waiting demand closed
 
-  row-below : (r : ℕ) → r < idleCars s → rowCar s r < s .cars
+  pub row-below : (r : ℕ) → r < idleCars s → rowCar s r < s .cars
   unfolding rowCar idleCars
   row-below r l = nth-is (idle s) (s .cars) r l .below
 
-  column-below : (c : ℕ) → c < pendingStops s → columnStop s c < s .stops
+  pub column-below : (c : ℕ) → c < pendingStops s → columnStop s c < s .stops
   unfolding columnStop pendingStops
   column-below c l = nth-is (pending s) (s .stops) c l .below
 

@@ -12,12 +12,13 @@ use Rattle.laws.specs.Sums.{sum-le, sum-same}
 use Rattle.laws.specs.Tables.{tabs-length, tab-length}
 use Rattle.layout.specs.declared.Counts.{Counts}
 use Rattle.layout.specs.declared.Reading.the-variants.{Accepted}
-use Rattle.layout.specs.Offsets.{endOf}
+use Rattle.layout.specs.Offsets.{recordLength, endOf}
 use Rattle.layout.specs.Records.{sheetOf}
 use Rattle.layout.specs.Verdict.{verdict}
 use Rattle.accepted.specs.Accepted.{accepted}
 use Rattle.components.specs.Sheet.{Sheet}
 use Rattle.components.specs.declared.Strategy.{Strategy}
+use Rattle.components.specs.declared.Kind.the-variants.{Stop, Car}
 use Rattle.components.specs.declared.Strategy.the-variants.{Etd, Rsr, Scan, Unknown}
 use Rattle.scan.specs.Scan.{preparedSweep}
 use Rattle.sweep.specs.Sweeps.{sweepCode, sweepOf}
@@ -45,8 +46,8 @@ fits bytes c e =
       sweeps = s .most-cars;
     }
 
--- and an accepted sheet has at most 27,283 bytes, of edition 2: every table full, one demand and one closure a stop
-pub most-bytes : (bytes : List ℕ) (c : Counts) → verdict bytes ≡ Accepted c → length bytes ≤ 27283
+-- and an accepted sheet has at most 27,283 bytes: every table full, one demand and one closure a stop; of edition 1 at most 26,515
+pub most-bytes : (bytes : List ℕ) (c : Counts) → verdict bytes ≡ Accepted c → (length bytes ≤ 27283) × (c .across ≡ 0 → length bytes ≤ 26515)
 unfolding sheetOf
 most-bytes bytes c e =
     let a = accepted bytes c e in
@@ -54,7 +55,14 @@ most-bytes bytes c e =
     let x : c .closures ≤ c .stops = a .sheet .most-closures in
     let last : endOf c ≤ 218258 =
     omega (arith, a .one-policy, a .small .stops, a .small .stop-bits, a .small .lines, a .small .car-bits, a .small .aboards, a .small .waits) in
-    omega (arith, a .whole)
+    let first : c .across ≡ 0 → endOf c ≤ 212114 = λ z.
+    let p : recordLength (c .across) Stop * c .stops ≤ 118 * 64 = ap-le (λ (w : ℕ). recordLength w Stop * c .stops) z (omega (arith, a .small .stops)) in
+    let q : recordLength (c .across) Car * c .cars ≤ 737 * 32 = ap-le (λ (w : ℕ). recordLength w Car * c .cars) z (omega (arith, a .small .cars)) in
+    omega (arith, a .one-policy, a .small .stops, a .small .lines, a .small .aboards, a .small .waits) in
+    (omega (arith, a .whole), λ z. omega (arith, a .whole, first z))
+  where
+    ap-le : (f : ℕ → ℕ) {w n : ℕ} → w ≡ 0 → f 0 ≤ n → f w ≤ n
+    ap-le f e l = rw e l
 
 -- the answered total is at most n sentinels, so at most 2^53
 pub total-most : (bytes : List ℕ) (c : Counts) (limit : ℕ) → verdict bytes ≡ Accepted c

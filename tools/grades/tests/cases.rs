@@ -14,7 +14,7 @@ fn sheet(cars: u32, positions: &[f64]) -> Vec<u8> {
     let mut sheet = Sheet::new(SCAN);
     for (k, position) in positions.iter().enumerate() {
         let (id, position) = (k as u32 + 1, *position);
-        sheet.stops.push(Stop { id, position });
+        sheet.stops.push(Stop::at(id, position));
         let stop = id;
         sheet.demands.push(Demand {
             stop,

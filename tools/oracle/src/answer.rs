@@ -1,11 +1,12 @@
 //! The answer to a sheet as documents 01 and 02 have it: the refusal, or what a pass writes and answers. Of a sheet
-//! without closed landings, cells and decisions are the Rust's wherever it builds a matrix; elsewhere they are the
-//! documents' own.
+//! without closed landings and without second coordinates but zeros, cells and decisions are the Rust's wherever it
+//! builds a matrix, of edition 2 for its twin in edition 1; elsewhere they are the documents' own.
 
 use std::collections::BTreeSet;
 use std::fmt::Write;
 
 use pathfinding::least_choice;
+use sheetgen::twin::twin;
 use sheetgen::{Car, Line, Refusal, Sheet, Stop, read};
 
 use crate::paper;
@@ -50,7 +51,7 @@ pub enum Source {
     Rust,
     /// The Rust builds none: no idle car, or no pending stop.
     Document,
-    /// The sheet has closed landings, which the Rust does not have: src/paper.rs.
+    /// The sheet has closed landings, or second coordinates that are no zeros, which the Rust does not have: src/paper.rs.
     Model,
 }
 
@@ -60,15 +61,28 @@ pub enum Answer {
     Passed(Pass),
 }
 
-/// The documents' answer to a sheet: with kind 8, "the definition alone is the measure".
+/// What the Rust is given for an accepted sheet: the sheet, or where it is of edition 2 and all its second coordinates are zero, its
+/// edition 1 twin. Nothing where it has closed landings or other second coordinates.
+pub fn for_rust(bytes: &[u8]) -> Option<Sheet> {
+    let sheet = Sheet::of_accepted(bytes);
+    if !sheet.closed.is_empty() || sheet.runs_sideways() {
+        return None;
+    }
+    Some(match sheet.edition {
+        1 => sheet,
+        _ => Sheet::of_accepted(&twin(bytes)),
+    })
+}
+
+/// The documents' answer to a sheet: with kind 8, "the definition alone is the measure"; "With all second coordinates zero, an accepted
+/// edition 2 sheet answers as its edition 1 twin; for the others the definition is the measure".
 pub fn answer(rust: &mut Rust, bytes: &[u8]) -> Answer {
     if let Some(refusal) = read(bytes) {
         return Answer::Refused(refusal);
     }
-    let sheet = Sheet::of_accepted(bytes);
-    Answer::Passed(match sheet.closed.is_empty() {
-        true => of_rust(&rust.pass(&sheet, false)),
-        false => paper::answered(&sheet),
+    Answer::Passed(match for_rust(bytes) {
+        Some(sheet) => of_rust(&rust.pass(&sheet, false)),
+        None => paper::answered(&Sheet::of_accepted(bytes)),
     })
 }
 
@@ -134,8 +148,8 @@ fn beside(twin: &mut Sheet) {
         let id = (1..).find(|id| !named.contains(id)).unwrap();
         named.insert(id);
         bound.for_each(|a| a.destination = Some(id));
-        let position = twin.stops.iter().find(|s| s.id == stop).unwrap().position;
-        twin.stops.push(Stop { id, position });
+        let closed = twin.stops.iter().find(|s| s.id == stop).unwrap().clone();
+        twin.stops.push(Stop { id, ..closed });
     }
 }
 
@@ -210,17 +224,22 @@ pub fn passprint(rust: &mut Rust, bytes: &[u8]) -> String {
 }
 
 /// Everything the Rust gives: pending stops, states, matrix, least total, decisions; ranks if asked for. Of a sheet with closed
-/// landings it is what the definitions give, and the ranks are those of the Rust without them.
+/// landings or second coordinates it is what the definitions give; the ranks are then those of the Rust without closures, and with second
+/// coordinates the definitions'.
 pub fn details(rust: &mut Rust, bytes: &[u8], with_ranks: bool) -> String {
     if let Some(r) = read(bytes) {
         return format!("refused {} at {}\n", r.number, r.offset);
     }
     let sheet = Sheet::of_accepted(bytes);
-    let found = rust.pass(&sheet, with_ranks);
-    let pass = match sheet.closed.is_empty() {
-        true => of_rust(&found),
-        false => paper::answered(&sheet),
+    let given = for_rust(bytes);
+    let mut found = rust.pass(given.as_ref().unwrap_or(&sheet), with_ranks);
+    let pass = match given {
+        Some(_) => of_rust(&found),
+        None => paper::answered(&sheet),
     };
+    if with_ranks && sheet.runs_sideways() {
+        found.ranks = paper::named_ranks(&sheet);
+    }
     let columns = pass.cars.max(pass.stops) as usize;
     let mut out = format!(
         "cars {} stops {} columns {columns} total {} held {}",
@@ -274,10 +293,7 @@ mod tests {
     fn one_car(strategy: u8, positions: &[f64]) -> Sheet {
         let mut s = Sheet::new(strategy);
         for (k, position) in positions.iter().enumerate() {
-            s.stops.push(Stop {
-                id: k as u32 + 1,
-                position: *position,
-            });
+            s.stops.push(Stop::at(k as u32 + 1, *position));
         }
         s.lines.push(Line {
             id: 1,
@@ -458,6 +474,102 @@ mod tests {
                 panic!()
             };
             assert_eq!(pass.stops, stops);
+        }
+    }
+
+    /// Document 02's second coordinates: every distance is the sum of the two absolute differences, directions are the first's.
+    #[test]
+    fn second_coordinates() {
+        let sideways = |s: &Sheet| Sheet {
+            edition: 2,
+            ..s.clone()
+        };
+        // SCAN's cost; a stop beside the car is not ahead of it, and lenient it is reached.
+        let mut s = sideways(&one_car(SCAN, &[3.0]));
+        (s.cars[0].across, s.stops[0].across) = (-1.0, 4.0);
+        assert_eq!(cells(&s), [8_000_000]);
+        s.stops[0].position = 0.0;
+        assert_eq!(cells(&s), [5_000_000]);
+        s.stops.push(Stop::at(2, 5.0));
+        s.demands.push(Demand {
+            stop: 2,
+            riding: 0,
+            call: true,
+        });
+        s.lines[0].mask |= mask_bit(1);
+        assert_eq!(cells(&s), [SENTINEL as u64, 6_000_000]);
+        // Travel of ETD and of RSR: 3 and 5 at speed 2.
+        for strategy in [ETD, RSR] {
+            let mut s = sideways(&one_car(strategy, &[3.0]));
+            s.policy.weights[0] = 1.0;
+            s.stops[0].across = -5.0;
+            assert_eq!(cells(&s), [4_000_000]);
+            s.cars[0].across = -5.0;
+            assert_eq!(cells(&s), [1_500_000]);
+        }
+        // ETD's detour: to (3, 4) and on to (6, 0), 7 and 7, in the stead of 6, at speed 2. Intervening stops are those between the
+        // first coordinates, however far aside.
+        let mut s = sideways(&one_car(ETD, &[3.0, 6.0, 1.0]));
+        s.policy.weights[1] = 1.0;
+        s.stops[0].across = 4.0;
+        s.aboard.push(Aboard {
+            car: 1,
+            destination: Some(2),
+        });
+        assert_eq!(cells(&s), [4_000_000]);
+        s.policy.weights = [0.0, 0.0, 1.0, 0.0, 0.0, 0.0];
+        s.cars[0].open = 60;
+        s.demands[0].stop = 1;
+        s.stops[2].across = 1_000.0;
+        assert_eq!(cells(&s), [0]);
+        s.demands.push(Demand {
+            stop: 3,
+            riding: 1,
+            call: false,
+        });
+        assert_eq!(cells(&s)[0], 1_000_000);
+        // The cut keeps the nearest by both: 1 + 9 is farther than 6 + 0.
+        let mut s = sideways(&one_car(ETD, &[1.0, 6.0]));
+        s.policy.weights[0] = 1.0;
+        s.policy.limit = 1;
+        s.stops[0].across = 9.0;
+        s.demands.push(Demand {
+            stop: 2,
+            riding: 0,
+            call: true,
+        });
+        assert_eq!(cells(&s), [SENTINEL as u64, 3_000_000]);
+        // RSR's aboard-path test looks along the first coordinate: (5, 90) is on the way to (10, 0).
+        let mut s = sideways(&one_car(RSR, &[5.0, 10.0]));
+        s.stops[0].across = 90.0;
+        s.policy.weights[0] = 1.0;
+        s.aboard.push(Aboard {
+            car: 1,
+            destination: Some(2),
+        });
+        assert_eq!(cells(&s), [47_500_000]);
+        s.stops[0].position = 11.0;
+        assert_eq!(cells(&s), [SENTINEL as u64]);
+    }
+
+    /// Second coordinates that all are one number make no difference: every sheet of edition 1 answers as it does with them.
+    #[test]
+    fn all_beside_each_other() {
+        let mut rust = Rust::new();
+        for index in 0..300 {
+            let bytes = sheetgen::generate::generate(sheetgen::generate::Profile::Valid, 5, index);
+            let Answer::Passed(right) = answer(&mut rust, &bytes) else {
+                panic!()
+            };
+            for across in [0.0, -0.0, 12.5, -1e6] {
+                let mut sheet = Sheet::of_accepted(&bytes);
+                sheet.edition = 2;
+                sheet.stops.iter_mut().for_each(|s| s.across = across);
+                sheet.cars.iter_mut().for_each(|c| c.across = across);
+                let found = paper::answered(&sheet);
+                let source = right.source;
+                assert_eq!(Pass { source, ..found }, right, "{index} {across}");
+            }
         }
     }
 

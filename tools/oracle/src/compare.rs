@@ -6,7 +6,7 @@ use sheetgen::generate::{PROFILES, Profile, generate};
 use sheetgen::shrink::shrink;
 use sheetgen::{Refusal, Sheet, describe, read};
 
-use crate::answer::{Answer, Pass, Source, answer, by_covering};
+use crate::answer::{Answer, Pass, Source, answer, by_covering, for_rust};
 use crate::bench::{Bench, Has, KEPT, Lent, Places};
 use crate::choice;
 use crate::paper::{self, weighs_loads};
@@ -54,6 +54,10 @@ pub struct Tally {
     pub load_passes: u64,
     pub document_passes: u64,
     pub closed_passes: u64,
+    /// Of the first, those of edition 2, by the Rust's pass of their edition 1 twins.
+    pub twin_passes: u64,
+    /// Passes of sheets with second coordinates that are no zeros, by src/paper.rs.
+    pub sideways_passes: u64,
     /// Passes of sheets where riders of idle cars are bound for a closed stop with demand (document 02, F-6).
     pub bound_passes: u64,
     pub cells: u64,
@@ -130,21 +134,19 @@ impl<'a> Comparison<'a> {
             found = self.pending(bytes, &right);
         }
         if self.covering && found.is_none() && refusal.is_none() {
-            found = self.ranks(&Sheet::of_accepted(bytes));
+            found = self.ranks(bytes);
         }
         found
     }
 
-    /// The ranks of the definitions by their 64 bits, but for the sign of a zero, which the Rust leaves open; of sheets without
-    /// closed landings.
-    fn ranks(&mut self, sheet: &Sheet) -> Option<Difference> {
-        if !sheet.closed.is_empty() {
-            return None;
-        }
+    /// The ranks of the definitions by their 64 bits, but for the sign of a zero, which the Rust leaves open; of sheets that the Rust
+    /// is given.
+    fn ranks(&mut self, bytes: &[u8]) -> Option<Difference> {
         let bits = |rank: Option<f64>| rank.map(|cost| (cost + 0.0).to_bits());
-        let ranks = self.rust.pass(sheet, true).ranks;
+        let ranks = self.rust.pass(&for_rust(bytes)?, true).ranks;
         let right: Vec<_> = ranks.iter().map(|rank| bits(rank.2)).collect();
-        let found: Vec<_> = paper::ranks(sheet).into_iter().map(bits).collect();
+        let found = paper::ranks(&Sheet::of_accepted(bytes));
+        let found: Vec<_> = found.into_iter().map(bits).collect();
         self.tally.ranks += right.iter().flatten().count() as u64;
         (right != found).then(|| differ("pass: ranks", right, found))?
     }
@@ -152,7 +154,7 @@ impl<'a> Comparison<'a> {
     /// The answer to an accepted sheet.
     fn right(&mut self, bytes: &[u8]) -> Answer {
         let sheet = Sheet::of_accepted(bytes);
-        match self.covering && !sheet.closed.is_empty() {
+        match self.covering && !sheet.closed.is_empty() && !sheet.runs_sideways() {
             true => Answer::Passed(by_covering(&mut self.rust, &sheet)),
             false => answer(&mut self.rust, bytes),
         }
@@ -251,12 +253,15 @@ impl<'a> Comparison<'a> {
                     return differ("pass: number", (0, 0), (number, lent.offset));
                 }
                 let found = self.passed(pass, &fresh, &lent);
+                let sideways = Sheet::of_accepted(bytes).runs_sideways();
                 match pass.source {
                     Source::Rust => {
                         self.tally.rust_passes += 1;
                         self.tally.load_passes += u64::from(weighs_loads(bytes));
+                        self.tally.twin_passes += u64::from(bytes[0] == 2);
                     }
                     Source::Document => self.tally.document_passes += 1,
+                    Source::Model if sideways => self.tally.sideways_passes += 1,
                     Source::Model => self.tally.closed_passes += 1,
                 }
                 let closed_first = Sheet::of_accepted(bytes).closed_first();
@@ -509,12 +514,14 @@ fn run(
                 .map(|k| format!("{k}:{}", t.numbers[k]))
                 .collect();
             println!(
-                "{name}: {} sheets, {} with cells of the Rust ({} of RSR with a load weight), {} with closed landings by the \
-                 definitions ({} with riders bound for one), {} cells, {} of document 01 alone, {} with held cells ({}, and {} at the \
+                "{name}: {} sheets, {} with cells of the Rust ({} of RSR with a load weight, {} of edition 2 for their twins), {} with \
+                 second coordinates by the definitions, {} with closed landings by the definitions ({} with riders bound for one), {} cells, {} of document 01 alone, {} with held cells ({}, and {} at the \
                  ceiling that are not), {ranks}{} pending stops, refused {} in {seconds:.1} s",
                 t.sheets,
                 t.rust_passes,
                 t.load_passes,
+                t.twin_passes,
+                t.sideways_passes,
                 t.closed_passes,
                 t.bound_passes,
                 t.cells,
@@ -631,17 +638,16 @@ pub fn survey(seed: u64, count: u64) {
             (0, 0u64, 0u64, 0u64, 0u64, 0u64, 0u64);
         let (mut ranks, mut ranked, mut minus_zero, mut covered, mut cut) =
             (0u64, 0u64, 0u64, 0u64, 0u64);
-        let mut closed = 0u64;
+        let mut others = 0u64;
         for index in 0..count {
             let bytes = generate(profile, seed, index);
             if read(&bytes).is_some() {
                 continue;
             }
-            let sheet = Sheet::of_accepted(&bytes);
-            if !sheet.closed.is_empty() {
-                closed += 1;
+            let Some(sheet) = for_rust(&bytes) else {
+                others += 1;
                 continue;
-            }
+            };
             let pass = rust.pass(&sheet, true);
             let demand = sheet.stops.iter().enumerate().filter(|(j, s)| {
                 let bit = sheetgen::sheet::mask_bit(*j);
@@ -674,7 +680,7 @@ pub fn survey(seed: u64, count: u64) {
         println!(
             "{name}: {passes} matrices of {count} sheets, {cells} cells ({zero} zero, {ceiling} at the ceiling, {held} of them held), \
              {ranked} of {ranks} pairs have a rank ({minus_zero} minus zero), {sent} cars sent, {idle} idle, \
-             {covered} sheets with covered stops, {cut} with unranked pairs; {closed} with closed landings are not looked at"
+             {covered} sheets with covered stops, {cut} with unranked pairs; {others} with closed landings or second coordinates are not looked at"
         );
     }
 }
@@ -686,6 +692,7 @@ pub fn limits(seed: u64, count: u64) -> bool {
         ("limits", Profile::Limits),
         ("load", Profile::Load),
         ("closed", Profile::Closed),
+        ("sideways", Profile::Sideways),
     ];
     let mut profiles = profiles.into_iter();
     profiles.all(|(name, profile)| limits_of(name, profile, seed, count))
@@ -721,10 +728,10 @@ fn limits_of(name: &str, profile: Profile, seed: u64, count: u64) -> bool {
 }
 
 /// "A bench of the first release refuses such a sheet, by 4 where nothing earlier is wrong": the reader of that release's
-/// library on sheets with kind 8, on RSR's with a load weight, which it refuses by 15, and on the others as now. True where
-/// that held.
+/// library on sheets with kind 8, on RSR's with a load weight, which it refuses by 15, on edition 2, which it refuses by 3, and on
+/// the others as now. True where that held.
 pub fn first_release(bench: &mut dyn Bench, seed: u64, count: u64) -> bool {
-    let (mut closed, mut loads, mut others) = (0u64, 0u64, 0u64);
+    let (mut closed, mut loads, mut editions, mut others) = (0u64, 0u64, 0u64, 0u64);
     for (name, profile) in PROFILES {
         let count = match profile {
             Profile::Full => count.div_ceil(20),
@@ -743,12 +750,14 @@ pub fn first_release(bench: &mut dyn Bench, seed: u64, count: u64) -> bool {
             match expected.0 {
                 4 if read(&bytes).is_none_or(|now| now.number != 4) => closed += 1,
                 15 => loads += 1,
+                3 if bytes[0] == 2 => editions += 1,
                 _ => others += 1,
             }
         }
     }
     println!(
-        "{closed} sheets refused by 4 at their first record of kind 8, {loads} of RSR by 15 for their load weight; {others} others answered as now"
+        "{closed} sheets refused by 4 at their first record of kind 8, {loads} of RSR by 15 for their load weight, {editions} of edition 2 by \
+         3; {others} others answered as now"
     );
     true
 }

@@ -11,12 +11,13 @@ use sheetgen::{Refusal, Sheet, read};
 use crate::paper;
 
 /// The profiles that sheets are taken from.
-const PROFILES: [Profile; 5] = [
+const PROFILES: [Profile; 6] = [
     Profile::Valid,
     Profile::Ties,
     Profile::Extreme,
     Profile::Limits,
     Profile::Closed,
+    Profile::Sideways,
 ];
 
 /// The most columns, or prices, that a case has.

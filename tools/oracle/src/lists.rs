@@ -9,10 +9,10 @@ use sheetgen::sheet::{ETD, NO_LIMIT, RSR, SCAN};
 use sheetgen::shrink::shrink;
 use sheetgen::{Aboard, Car, Demand, Line, Sheet, Stop, Waiting, read};
 
-use crate::answer::{Answer, Pass, Source, answer};
+use crate::answer::{Answer, Pass, Source, answer, for_rust};
 use crate::compare::Comparison;
-use crate::paper::{FAULTS, Fault, Paper};
-use crate::rust_pass::{Rust, RustPass};
+use crate::paper::{self, FAULTS, Fault, Paper};
+use crate::rust_pass::Rust;
 
 fn put(list: &mut Vec<u8>, sheet: &[u8]) {
     list.extend(
@@ -21,6 +21,15 @@ fn put(list: &mut Vec<u8>, sheet: &[u8]) {
             .to_be_bytes(),
     );
     list.extend(sheet);
+}
+
+/// The buffer of the program that replays a list has room for it.
+fn fits(list: &[u8], most: usize, program: &str) {
+    let length = list.len();
+    assert!(
+        length <= most,
+        "{length} bytes are longer than {program}'s buffer of {most}"
+    );
 }
 
 /// Cases, each once.
@@ -39,10 +48,7 @@ impl Cases {
 fn tables(cases: &mut Cases) {
     let base = || {
         let mut s = Sheet::new(sheetgen::sheet::SCAN);
-        s.stops.push(Stop {
-            id: 1,
-            position: 0.0,
-        });
+        s.stops.push(Stop::at(1, 0.0));
         s.lines.push(Line { id: 1, mask: 0 });
         s.cars.push(Car::parked(1));
         s
@@ -50,11 +56,10 @@ fn tables(cases: &mut Cases) {
     for more in [0, 1] {
         let mut s = Sheet::new(sheetgen::sheet::SCAN);
         s.stops = (1..=64 + more)
-            .map(|id| Stop {
-                id,
-                position: f64::from(id),
-            })
+            .map(|id| Stop::at(id, f64::from(id)))
             .collect();
+        cases.add(s.write());
+        s.edition = 2;
         cases.add(s.write());
         let mut s = Sheet::new(sheetgen::sheet::SCAN);
         s.lines = (1..=8 + more).map(|id| Line { id, mask: 0 }).collect();
@@ -101,10 +106,7 @@ fn edges(cases: &mut Cases) {
         flipped[bit / 8] ^= 0x80 >> (bit % 8);
         cases.add(flipped);
     }
-    small.stops.push(Stop {
-        id: 1,
-        position: 0.0,
-    });
+    small.stops.push(Stop::at(1, 0.0));
     small.demands.push(Demand {
         stop: 1,
         riding: 1,
@@ -126,10 +128,11 @@ fn edges(cases: &mut Cases) {
     }
     closures(cases);
     load_weights(cases);
+    editions(cases);
     // The last demand record of 1 to 8 ends at every bit of a byte but for its tail.
     for stops in 1..=8 {
         let mut s = Sheet::new(sheetgen::sheet::SCAN);
-        s.stops = (1..=stops).map(|id| Stop { id, position: 0.0 }).collect();
+        s.stops = (1..=stops).map(|id| Stop::at(id, 0.0)).collect();
         s.demands = vec![Demand {
             stop: stops,
             riding: 0,
@@ -143,6 +146,67 @@ fn edges(cases: &mut Cases) {
             set[bit / 8] |= 0x80 >> (bit % 8);
             cases.add(set);
         }
+    }
+}
+
+/// Edition 2: a small sheet under other editions, with the lengths of edition 1, cut from its first stop on, and with second coordinates at the
+/// ends of their range, beyond them, and no numbers.
+fn editions(cases: &mut Cases) {
+    let mut stop = Sheet::new(sheetgen::sheet::SCAN);
+    stop.edition = 2;
+    stop.stops.push(Stop {
+        across: 12.0,
+        ..Stop::at(1, 3.0)
+    });
+    let first = Sheet {
+        edition: 1,
+        ..stop.clone()
+    };
+    for edition in 0..=4 {
+        for sheet in [&stop, &first] {
+            let mut other = sheet.write();
+            other[0] = edition;
+            cases.add(other);
+        }
+    }
+    let mut car = stop.clone();
+    car.lines.push(Line {
+        id: 1,
+        mask: 1 << 63,
+    });
+    car.cars.push(Car {
+        across: -7.5,
+        ..Car::parked(1)
+    });
+    let (stop_at, car_at) = (514, 514 + 182 + 118);
+    let whole = stop.write();
+    for length in stop_at / 8..whole.len() {
+        cases.add(whole[..length].to_vec());
+    }
+    let whole = car.write();
+    for length in car_at / 8 + 24..car_at / 8 + 36 {
+        cases.add(whole[..length].to_vec());
+    }
+    for (sheet, at, lengths) in [
+        (&stop, stop_at, [95, 96, 97, 159, 161, 779]),
+        (&car, car_at, [714, 715, 716, 778, 780, 160]),
+    ] {
+        for length in lengths {
+            let mut other = sheet.write();
+            bits::set(&mut other, at + 6, 16, length);
+            cases.add(other);
+        }
+    }
+    let inside = [0.0, -0.0, 5e-324, 1e6, -1e6];
+    let above = 1_000_000.000_000_000_1;
+    let outside = [above, -above, f64::NAN, f64::INFINITY, f64::NEG_INFINITY];
+    for across in inside.into_iter().chain(outside) {
+        let mut other = stop.clone();
+        other.stops[0].across = across;
+        cases.add(other.write());
+        let mut other = car.clone();
+        other.cars[0].across = across;
+        cases.add(other.write());
     }
 }
 
@@ -162,7 +226,7 @@ fn load_weights(cases: &mut Cases) {
 /// Closed landings: ids that are listed, unlisted, repeated and 0; cuts of a small sheet from its first closure on; kinds and lengths at both.
 fn closures(cases: &mut Cases) {
     let mut small = Sheet::new(sheetgen::sheet::SCAN);
-    small.stops = [3, 7].map(|id| Stop { id, position: 0.0 }).to_vec();
+    small.stops = [3, 7].map(|id| Stop::at(id, 0.0)).to_vec();
     for closed in [
         [3, 7],
         [7, 3],
@@ -201,7 +265,7 @@ fn closures(cases: &mut Cases) {
 fn closed_ends(cases: &mut Cases) {
     for closed in 1..=4 {
         let mut s = Sheet::new(sheetgen::sheet::SCAN);
-        s.stops = (1..=4).map(|id| Stop { id, position: 0.0 }).collect();
+        s.stops = (1..=4).map(|id| Stop::at(id, 0.0)).collect();
         s.closed = (1..=closed).collect();
         let bytes = s.write();
         cases.add(bytes.clone());
@@ -212,17 +276,19 @@ fn closed_ends(cases: &mut Cases) {
         }
     }
     let mut s = Sheet::new(sheetgen::sheet::SCAN);
-    s.stops = (1..=64).map(|id| Stop { id, position: 0.0 }).collect();
+    s.stops = (1..=64).map(|id| Stop::at(id, 0.0)).collect();
     s.closed = (1..=64).rev().collect();
     cases.add(s.write());
 }
 
-/// The refusal's number and the kind of the record at its offset.
-fn key(sheet: &[u8]) -> (u32, usize) {
-    read(sheet).map_or((0, 0), |r| {
+/// Whether the sheet states edition 2, the refusal's number and the kind of the record at its offset.
+fn key(sheet: &[u8]) -> (bool, u32, usize) {
+    let is_second = sheet.first() == Some(&2);
+    read(sheet).map_or((is_second, 0, 0), |r| {
         let at = r.offset as usize;
         let stated = at >= 24 && at + 6 <= sheet.len() * 8;
         (
+            is_second,
             r.number,
             if stated {
                 bits::get(sheet, at, 6).min(9) as usize
@@ -243,7 +309,7 @@ fn smallest(cases: &mut Cases, from: impl Iterator<Item = Vec<u8>>, each: usize)
         found.sort_by_key(|sheet| sheet.len());
         found
             .into_iter()
-            .filter(|s| s.len() <= 700)
+            .filter(|s| s.len() <= 350)
             .take(each)
             .for_each(|s| cases.add(s));
     }
@@ -256,17 +322,18 @@ pub fn refusals(seed: u64) -> (Vec<u8>, usize) {
     cases.add(Sheet::example().write());
     tables(&mut cases);
     edges(&mut cases);
-    // The smallest of many, two for each way of spoiling and each kind that it spoils.
+    // The smallest of many, one for each way of spoiling, each edition and each kind that it spoils.
     let ways = provoke::ways() as u64;
     for way in 0..ways {
         let make = |k| provoke::provoke(&mut Rng::new(seed, 200, k * ways + way), way).bytes;
-        smallest(&mut cases, (0..400).map(make), 2);
+        smallest(&mut cases, (0..2000).map(make), 1);
     }
-    smallest(
-        &mut cases,
-        (0..4000).map(|k| generate(Profile::Damaged, seed, k)),
-        1,
-    );
+    let damaged = |profile: Profile| (0..8000).map(move |k| generate(profile, seed, k));
+    smallest(&mut cases, damaged(Profile::Damaged), 1);
+    // Of edition 2, stops and cars: the other kinds are those of edition 1.
+    let other = |sheet: &Vec<u8>| matches!(key(sheet).2, 2 | 4);
+    let damaged = damaged(Profile::DamagedSideways).filter(other);
+    smallest(&mut cases, damaged, 1);
     smallest(
         &mut cases,
         (0..4000).map(|k| generate(Profile::Garbage, seed, k)),
@@ -279,10 +346,7 @@ pub fn refusals(seed: u64) -> (Vec<u8>, usize) {
         list.push(number as u8);
         list.extend((offset as u32).to_be_bytes());
     }
-    assert!(
-        list.len() <= 204_800,
-        "longer than replay_refusals's buffer"
-    );
+    fits(&list, 204_800, "replay_refusals");
     (list, cases.0.len())
 }
 
@@ -301,7 +365,8 @@ fn telling(seed: u64, count: u64, each: usize, left_out: &[Fault]) -> Cases {
     cases.add(Sheet::example().write());
     for &fault in FAULTS
         .iter()
-        .filter(|f| **f != Fault::None && !f.is_of_ranked() && !left_out.contains(f)) {
+        .filter(|f| **f != Fault::None && !f.is_of_ranked() && !left_out.contains(f))
+    {
         let mut bench = Paper { fault, whole: true };
         let mut c = Comparison::new(&mut bench);
         c.has.read = false;
@@ -309,11 +374,20 @@ fn telling(seed: u64, count: u64, each: usize, left_out: &[Fault]) -> Cases {
         for (_, profile) in PROFILES {
             if matches!(
                 profile,
-                Profile::Full | Profile::Damaged | Profile::Provoked | Profile::Garbage
+                Profile::Full
+                    | Profile::Damaged
+                    | Profile::DamagedSideways
+                    | Profile::Provoked
+                    | Profile::Garbage
             ) {
                 continue;
             }
             let is_shown = match profile {
+                Profile::Sideways => fault.is_of_editions(),
+                Profile::Level => fault == Fault::AcrossMinusZero,
+                _ if fault.is_of_editions() => {
+                    fault == Fault::LengthsOfEditionTwo && profile == Profile::Valid
+                }
                 Profile::Closed => fault.is_of_closures(),
                 Profile::Load => fault.is_of_loads(),
                 Profile::Ceiling => fault.is_of_held() || fault == Fault::LeftStanding,
@@ -324,9 +398,9 @@ fn telling(seed: u64, count: u64, each: usize, left_out: &[Fault]) -> Cases {
             if !is_shown {
                 continue;
             }
-            // Of closed landings, a sheet of each strategy that shows the fault.
+            // Of closed landings and of second coordinates, a sheet of each strategy that shows the fault.
             let strategies: &[Option<u8>] = match profile {
-                Profile::Closed => &[Some(ETD), Some(RSR), Some(SCAN)],
+                Profile::Closed | Profile::Sideways => &[Some(ETD), Some(RSR), Some(SCAN)],
                 _ => &[None],
             };
             // Equal totals that send unlike numbers of cars are rare.
@@ -383,7 +457,7 @@ fn put_pass(list: &mut Vec<u8>, pass: &Pass) {
 pub fn passes(seed: u64) -> (Vec<u8>, usize) {
     let mut rust = Rust::new();
     let mut list = Vec::new();
-    let cases = telling(seed, 600, 10, &[]).0;
+    let cases = telling(seed, 600, 7, &[]).0;
     for case in &cases {
         let Answer::Passed(pass) = answer(&mut rust, case) else {
             unreachable!()
@@ -391,7 +465,7 @@ pub fn passes(seed: u64) -> (Vec<u8>, usize) {
         put(&mut list, case);
         put_pass(&mut list, &pass);
     }
-    assert!(list.len() <= 131_072, "longer than replay_passes's buffer");
+    fits(&list, 131_072, "replay_passes");
     (list, cases.len())
 }
 
@@ -481,7 +555,8 @@ fn values(sheet: &Sheet) -> std::collections::BTreeSet<String> {
             }
         )
     });
-    let stops = sheet.stops.iter().map(|s| format!("stop {:?}", s.position));
+    let stops = sheet.stops.iter();
+    let stops = stops.map(|s| format!("stop {:?} {:?}", s.position, s.across));
     let waiting = sheet.waiting.iter().map(|w| {
         let bound = (w.line.is_some(), w.destination.is_some());
         format!("waiting {bound:?} {:?} {}", w.weight, w.wait)
@@ -522,24 +597,29 @@ fn limited(rust: &mut Rust, wanted: &Wanted, seed: u64, next: &mut u64) -> Limit
         let (all, first) = (values(&sheet), 1 + (index % 3) as u16);
         let mut pair = |bytes: &[u8]| {
             let part = Sheet::of_accepted(bytes);
-            if part.policy != sheet.policy || !values(&part).is_subset(&all) {
+            let like = part.edition == sheet.edition && part.policy == sheet.policy;
+            if !like || !values(&part).is_subset(&all) {
                 return None;
             }
             let pair = Limited::new(rust, &part, first, wanted.raise);
             let pass = &pair.cases[0].1;
-            let open = Sheet {
-                closed: Vec::new(),
-                ..part
-            };
             let mut matters = |pass: &Pass| {
-                let Answer::Passed(other) = answer(rust, &open.write()) else {
+                let mut other = part.clone();
+                other.closed.clear();
+                other.edition = 1;
+                other.policy.limit = first;
+                let Answer::Passed(other) = answer(rust, &other.write()) else {
                     unreachable!()
                 };
-                other.pending != pass.pending
+                match wanted.profile {
+                    Profile::Closed => other.pending != pass.pending,
+                    _ => other.cells != pass.cells,
+                }
             };
+            let asked = matches!(wanted.profile, Profile::Closed | Profile::Sideways);
             let good = pass.source != Source::Document
                 && pass.cars >= wanted.cars
-                && (wanted.profile != Profile::Closed || matters(pass));
+                && (!asked || matters(pass));
             (good && pair.uncut() && pair.falls() == wanted.falls).then_some(pair)
         };
         if pair(&bytes).is_some() {
@@ -564,6 +644,7 @@ pub fn pairs(seed: u64) -> (Vec<u8>, usize) {
     ];
     let mut rust = Rust::new();
     let mut next = [0; PROFILES.len()];
+    let mut next_sideways = 0;
     let mut pairs = vec![Limited::new(&mut rust, &Sheet::example(), 1, 2)];
     for strategy in [ETD, RSR, SCAN] {
         // No sheet of the last profile is SCAN's.
@@ -575,7 +656,7 @@ pub fn pairs(seed: u64) -> (Vec<u8>, usize) {
                     Profile::Cover if strategy == RSR => Profile::Load,
                     profile => profile,
                 };
-                let mut add = |falls, cars, length| {
+                let mut add = |profile, falls, cars, length| {
                     let wanted = Wanted {
                         strategy,
                         profile,
@@ -584,18 +665,25 @@ pub fn pairs(seed: u64) -> (Vec<u8>, usize) {
                         cars,
                         length,
                     };
-                    pairs.push(limited(&mut rust, &wanted, seed, &mut next[k]));
+                    let next = match profile {
+                        Profile::Sideways => &mut next_sideways,
+                        _ => &mut next[k],
+                    };
+                    pairs.push(limited(&mut rust, &wanted, seed, next));
                 };
-                add(true, 1, 600);
-                add(false, 1, 600);
+                add(profile, true, 1, 600);
+                add(profile, false, 1, 600);
                 if k % 3 != raise {
-                    add(true, 2, 850);
+                    add(profile, true, 2, 850);
                 }
-                if (k + 1) % 3 != raise {
-                    add(true, 1, 600);
+                // Of some profiles, in the stead of a further one: second coordinates without which cells were others.
+                if (k + 1) % 3 != raise && k % 2 == 0 {
+                    add(Profile::Sideways, k != 2, 1, 600);
+                } else if (k + 1) % 3 != raise && k < 4 {
+                    add(profile, true, 1, 600);
                 }
                 if k == 0 && raise == usize::from(strategy) {
-                    add(true, 4, 1900);
+                    add(profile, true, 4, 1900);
                 }
             }
         }
@@ -615,7 +703,7 @@ pub fn pairs(seed: u64) -> (Vec<u8>, usize) {
     }
     let mut list = Vec::new();
     pairs.iter().for_each(|pair| pair.put(&mut list));
-    assert!(list.len() <= 131_072, "longer than replay_pairs's buffer");
+    fits(&list, 131_072, "replay_pairs");
     print_pairs(&pairs);
     (list, pairs.len())
 }
@@ -736,7 +824,7 @@ type Shows = fn(&Pair) -> bool;
 
 /// What pairs are counted by; the load term is at this place.
 const LOAD_TERM: usize = 0;
-const FEATURES: [(&str, Shows); 20] = [
+const FEATURES: [(&str, Shows); 21] = [
     ("a load term above zero", |p| {
         p.load_ratio().is_some_and(|ratio| ratio > 0.0)
     }),
@@ -753,6 +841,9 @@ const FEATURES: [(&str, Shows); 20] = [
     ("a load that counts for nothing in phase idle", |p| {
         let weighed = p.sheet.policy.strategy == RSR && p.sheet.policy.weights[3] > 0.0;
         weighed && p.car.phase == 0 && p.car.load > 0.0 && p.car.capacity > 0.0
+    }),
+    ("second coordinates that differ", |p| {
+        p.car.across != p.stop.across
     }),
     ("car and stop within 1e-9 of each other, not equal", |p| {
         near(p.car.position, p.stop.position)
@@ -828,24 +919,39 @@ impl Tally {
     }
 }
 
-/// A sheet with its pass.
+/// A sheet with its idle cars, its pending stops and their ranks, which the Rust gives, or where it runs sideways the definitions.
 struct Ranked {
     bytes: Vec<u8>,
     sheet: Sheet,
-    pass: RustPass,
+    idle: Vec<u32>,
+    pending: Vec<u32>,
+    ranks: Vec<Rank>,
 }
 
 impl Ranked {
     fn new(rust: &mut Rust, bytes: Vec<u8>) -> Self {
         let sheet = Sheet::of_accepted(&bytes);
-        let pass = rust.pass(&sheet, true);
-        Self { bytes, sheet, pass }
+        let (pending, ranks) = match for_rust(&bytes) {
+            Some(given) => {
+                let pass = rust.pass(&given, true);
+                (pass.pending, pass.ranks)
+            }
+            None => (paper::answered(&sheet).pending, paper::named_ranks(&sheet)),
+        };
+        let idle = sheet.cars.iter().filter(|c| c.idle).map(|c| c.id).collect();
+        Self {
+            bytes,
+            sheet,
+            idle,
+            pending,
+            ranks,
+        }
     }
 
     fn count(&self, tally: &mut Tally) {
         let known = |id: &u32| self.sheet.stops.iter().find(|s| s.id == *id).unwrap();
-        let pending: Vec<&Stop> = self.pass.pending.iter().map(known).collect();
-        Pair::of(&self.sheet, &pending, &self.pass.ranks).for_each(|pair| tally.add(&pair));
+        let pending: Vec<&Stop> = self.pending.iter().map(known).collect();
+        Pair::of(&self.sheet, &pending, &self.ranks).for_each(|pair| tally.add(&pair));
     }
 
     fn tally(&self) -> Tally {
@@ -857,22 +963,22 @@ impl Ranked {
     /// How many ranks there are that are no zero, each once.
     fn different(&self) -> usize {
         let above = |rank: &Rank| rank.2.filter(|cost| *cost != 0.0).map(f64::to_bits);
-        let bits = self.pass.ranks.iter().filter_map(above);
+        let bits = self.ranks.iter().filter_map(above);
         bits.collect::<std::collections::BTreeSet<_>>().len()
     }
 
     fn put(&self, list: &mut Vec<u8>) {
         put(list, &self.bytes);
-        list.push(self.pass.idle.len() as u8);
-        list.push(self.pass.pending.len() as u8);
+        list.push(self.idle.len() as u8);
+        list.push(self.pending.len() as u8);
         let place = |k: Option<usize>| k.unwrap() as u8;
-        for id in &self.pass.idle {
+        for id in &self.idle {
             list.push(place(self.sheet.cars.iter().position(|c| c.id == *id)));
         }
-        for id in &self.pass.pending {
+        for id in &self.pending {
             list.push(place(self.sheet.stops.iter().position(|s| s.id == *id)));
         }
-        for (_, _, rank) in &self.pass.ranks {
+        for (_, _, rank) in &self.ranks {
             list.push(u8::from(rank.is_some()));
             // The Rust leaves the sign of a zero rank open (`max` of zeros of unlike sign).
             let bits = rank.filter(|cost| *cost != 0.0).map_or(0, f64::to_bits);
@@ -886,12 +992,13 @@ impl Ranked {
 /// with the most different ranks among those left, until there are 2,000 pairs. The profile load is RSR's; of it those follow
 /// in which most ranks above zero have a load term above zero, until 1,000 have.
 fn crowds(rust: &mut Rust, strategy: u8, seed: u64) -> Vec<Ranked> {
-    const PROFILES: [Profile; 6] = [
+    const PROFILES: [Profile; 7] = [
         Profile::Valid,
         Profile::Ties,
         Profile::Near,
         Profile::Extreme,
         Profile::Fine,
+        Profile::Sideways,
         Profile::Load,
     ];
     const LARGEST: usize = 2000;
@@ -903,7 +1010,7 @@ fn crowds(rust: &mut Rust, strategy: u8, seed: u64) -> Vec<Ranked> {
                 .map(|index| crowded(*profile, strategy, seed, index).write())
                 .filter(|bytes| bytes.len() <= LARGEST)
                 .map(|bytes| Ranked::new(rust, bytes))
-                .filter(|ranked| ranked.pass.ranks.len() >= 100)
+                .filter(|ranked| ranked.ranks.len() >= 100)
                 .collect()
         })
         .collect();
@@ -951,11 +1058,11 @@ fn crowds(rust: &mut Rust, strategy: u8, seed: u64) -> Vec<Ranked> {
 pub fn ranks(seed: u64) -> (Vec<u8>, usize) {
     let mut rust = Rust::new();
     // The rule of most cars is a matter of the choice alone.
-    let small = telling(seed + 2, 300, 5, &[Fault::LeftStanding]).0;
+    let small = telling(seed + 2, 300, 2, &[Fault::LeftStanding]).0;
     let mut cases: Vec<Ranked> = small
         .into_iter()
         .map(|bytes| Ranked::new(&mut rust, bytes))
-        .filter(|ranked| !ranked.pass.ranks.is_empty() && ranked.sheet.closed.is_empty())
+        .filter(|ranked| !ranked.ranks.is_empty() && ranked.sheet.closed.is_empty())
         .collect();
     for strategy in [ETD, RSR, SCAN] {
         cases.extend(crowds(&mut rust, strategy, seed));
@@ -966,7 +1073,7 @@ pub fn ranks(seed: u64) -> (Vec<u8>, usize) {
         case.put(&mut list);
         case.count(&mut tallies[usize::from(case.sheet.policy.strategy)]);
     }
-    assert!(list.len() <= 262_144, "longer than replay_ranks's buffer");
+    fits(&list, 262_144, "replay_ranks");
     assert!(tallies[usize::from(RSR)].shown[LOAD_TERM].1 >= 1000);
     print_tallies(&tallies);
     (list, cases.len())

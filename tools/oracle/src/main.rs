@@ -29,9 +29,10 @@ oracle selftest [COUNT [FAULT]]
                                benches that are wrong on purpose must be found out
 oracle time LIBRARY [ROUNDS]   from bytes to decisions, the bench beside the Rust, in microseconds a sheet
 oracle beside OLDER NEWER [ROUNDS]   reading and passing, two libraries in turns, and the ratio of their times
-oracle limits SEED COUNT       a higher limit never raises the total, by the Rust, and with closed landings by the definitions
+oracle limits SEED COUNT       a higher limit never raises the total, by the Rust, and with closed landings or second coordinates by the definitions
 oracle first LIBRARY SEED COUNT
-                               the first release refuses closed landings by 4 and load weights by 15; LIBRARY is its shared object
+                               the first release refuses closed landings by 4, load weights by 15 and edition 2 by 3; LIBRARY is its shared
+                               object
 oracle survey SEED COUNT       what the sheets of each profile are like
 oracle travel LIBRARY SEED COUNT
                                travel times beside eta.rs, on COUNT runs; LIBRARY is a shared object

@@ -1,11 +1,11 @@
 //! The pass as document 01 defines it, apart from the published Rust: group, demand, coverage, the candidate
 //! cut by counting, ranks, cells. Compared with the Rust it shows that document 01 says what the Rust does. With
-//! document 02's closed landings, which the Rust does not have, it is what a bench is held to. RSR's load term is
-//! document 02's too; the Rust has it.
+//! document 02's closed landings and second coordinates, which the Rust does not have, it is what a bench is held to.
+//! RSR's load term is document 02's too; the Rust has it.
 //! Each fault below changes one place of it; the comparison must find every one of them out.
 
 use sheetgen::sheet::{ETD, HEAD_BITS, NO_LIMIT, RECORD_HEAD_BITS, RSR, SCAN, mask_bit};
-use sheetgen::{Car, Sheet, Waiting, bits, read};
+use sheetgen::{Car, Sheet, Stop, Waiting, bits, read};
 
 use crate::answer::{self, SENTINEL};
 use crate::bench::{Bench, Has, KEPT, Lent, Places};
@@ -206,9 +206,113 @@ faults! {
     RankedBeyondLimit
     /// The pairs of every car count as ranked.
     RankedOfAllCars
+    /// Edition 2 is refused by 3, as before F-12.
+    EditionTwoRefused
+    /// Every edition is read as edition 2 where it is not 1.
+    EditionThreeRead
+    /// Edition 1 is held to edition 2's lengths.
+    LengthsOfEditionTwo
+    /// A second coordinate may be anything.
+    AcrossUnchecked
+    /// A second coordinate below zero is outside its range.
+    AcrossFromZero
+    /// A minus zero second coordinate is outside its range.
+    AcrossMinusZero
+    /// Second coordinates are read and left out of everything.
+    AcrossIgnored
+    /// A distance is the larger of the two differences.
+    AcrossLarger
+    /// A distance is the straight one.
+    AcrossStraight
+    /// The differences are added before they lose their signs.
+    AcrossSigned
+    /// A stop's second coordinate alone is the difference.
+    AcrossOfStopAlone
+    /// A distance in the candidate cut is the first coordinates'.
+    AcrossNotInCut
+    /// ETD's and RSR's travel is the first coordinates'.
+    AcrossNotInTravel
+    /// ETD's detours are the first coordinates'.
+    AcrossNotInDetours
+    /// A detour's direct way is the first coordinates'.
+    AcrossNotInDirect
+    /// SCAN's cost is the first coordinates'.
+    AcrossNotInScan
+    /// Where a car is bound is a matter of the sum of both coordinates: bypass, wrong direction and ahead.
+    AcrossInDirection
+    /// A waiting rider's direction is that of the sum of both coordinates.
+    AcrossInLamps
+    /// SCAN's sweep looks ahead by the sum of both coordinates.
+    AcrossInSweep
+    /// SCAN accepts a stop by the sum of both coordinates.
+    AcrossInAccept
+    /// The aboard-path test compares distances.
+    AcrossInPath
+    /// The aboard-path test asks for the second coordinate's direction too.
+    AcrossInPathSigns
+    /// A stop intervenes only between the second coordinates too.
+    AcrossInBetween
+}
+
+/// Where a stop or a car is: the first coordinate, and the second, 0 in edition 1.
+#[derive(Clone, Copy)]
+struct Point {
+    position: f64,
+    across: f64,
+}
+
+impl Point {
+    fn of_stop(stop: &Stop) -> Self {
+        Self {
+            position: stop.position,
+            across: stop.across,
+        }
+    }
+
+    fn of_car(car: &Car) -> Self {
+        Self {
+            position: car.position,
+            across: car.across,
+        }
+    }
+
+    /// "the sum of the two absolute differences", each rounded, then the sum.
+    fn distance(self, other: Self) -> f64 {
+        (self.position - other.position).abs() + (self.across - other.across).abs()
+    }
 }
 
 impl Fault {
+    /// Only a sheet of edition 2 shows it, or that there is one.
+    pub fn is_of_editions(self) -> bool {
+        matches!(
+            self,
+            Fault::EditionTwoRefused
+                | Fault::EditionThreeRead
+                | Fault::LengthsOfEditionTwo
+                | Fault::AcrossUnchecked
+                | Fault::AcrossFromZero
+                | Fault::AcrossMinusZero
+                | Fault::AcrossIgnored
+                | Fault::AcrossLarger
+                | Fault::AcrossStraight
+                | Fault::AcrossSigned
+                | Fault::AcrossOfStopAlone
+                | Fault::AcrossNotInCut
+                | Fault::AcrossNotInTravel
+                | Fault::AcrossNotInDetours
+                | Fault::AcrossNotInDirect
+                | Fault::AcrossNotInScan
+                | Fault::AcrossInDirection
+                | Fault::AcrossInLamps
+                | Fault::AcrossInSweep
+                | Fault::AcrossInAccept
+                | Fault::AcrossInPath
+                | Fault::AcrossInPathSigns
+                | Fault::AcrossInBetween
+        )
+    }
+
     /// Only a sheet with closed landings shows it.
     pub fn is_of_closures(self) -> bool {
         matches!(
@@ -294,9 +398,38 @@ fn load_refused(sheet: &[u8], right: Verdict) -> Verdict {
     }
 }
 
+/// A bench that does not know edition 2 gives 3 for it, where the head is there.
+fn edition_two_refused(sheet: &[u8], right: Verdict) -> Verdict {
+    match sheet.len() >= 3 && sheet[0] == 2 {
+        true => Some((3, 0)),
+        false => right,
+    }
+}
+
+/// 5 at the first stop or car of edition 1, where `right` finds nothing there or earlier.
+fn lengths_of_edition_two(sheet: &[u8], right: Verdict) -> Verdict {
+    let found = sheetgen::generate::records(sheet).into_iter();
+    let mut longer = found.filter(|r| r.1 == 2 || r.1 == 4).map(|r| r.0 as u64);
+    let first = longer.find(|_| sheet[0] == 1);
+    let first = first.filter(|at| right.is_none_or(|r| r.1 > *at));
+    first.map(|at| (5, at)).or(right)
+}
+
+/// Whether the refusal by 11 is for a second coordinate.
+fn is_of_across(sheet: &[u8], at: u64) -> bool {
+    let across = sheetgen::sheet::across_at(bits::get(sheet, at as usize, 6) as usize);
+    let value = |from: usize| bits::get(sheet, at as usize + RECORD_HEAD_BITS + from, 64);
+    let outside = |bits: u64| !(-1e6..=1e6).contains(&f64::from_bits(bits));
+    sheet[0] == 2 && across.is_some_and(|from| outside(value(from)))
+}
+
 /// The refusal of a bench of the first release.
 pub fn of_first_release(sheet: &[u8]) -> Verdict {
     let now = read(sheet).map(|r| (r.number, r.offset));
+    let now = edition_two_refused(sheet, now);
+    if now == Some((3, 0)) {
+        return now;
+    }
     load_refused(sheet, closed_unknown(sheet, now))
 }
 
@@ -325,6 +458,24 @@ impl Paper {
                     && !(1..=8).contains(&kind(at)) =>
             {
                 Some((4, at))
+            }
+            (Fault::EditionTwoRefused, _) => edition_two_refused(sheet, right),
+            (Fault::EditionThreeRead, Some((3, _))) => {
+                let mut other = sheet.to_vec();
+                other[0] = 2;
+                read(&other).map(|r| (r.number, r.offset))
+            }
+            (Fault::LengthsOfEditionTwo, _) => lengths_of_edition_two(sheet, right),
+            (Fault::AcrossUnchecked, Some((11, at))) if is_of_across(sheet, at) => None,
+            (Fault::AcrossFromZero | Fault::AcrossMinusZero, None) => {
+                let s = Sheet::of_accepted(sheet);
+                let outside = |across: f64| match self.fault {
+                    Fault::AcrossFromZero => across < 0.0,
+                    _ => across.to_bits() == 1 << 63,
+                };
+                let stops = s.stops.iter().map(|s| s.across);
+                let mut all = stops.chain(s.cars.iter().map(|c| c.across));
+                all.any(outside).then_some((11, 24))
             }
             (Fault::MinusZero, None) => {
                 let s = Sheet::of_accepted(sheet);
@@ -570,11 +721,12 @@ impl<'a> Pass<'a> {
         };
         let wide = self.is(Fault::AheadAtTolerance);
         let ahead = (0..self.sheet.stops.len()).any(|j| {
-            let p = self.sheet.stops[j].position;
+            let p = self.along(Point::of_stop(&self.sheet.stops[j]), Fault::AcrossInSweep);
+            let at = self.along(Point::of_car(c), Fault::AcrossInSweep);
             let past = if c.sweep_down {
-                p < c.position - 1e-9 || wide && p == c.position - 1e-9
+                p < at - 1e-9 || wide && p == at - 1e-9
             } else {
-                p > c.position + 1e-9 || wide && p == c.position + 1e-9
+                p > at + 1e-9 || wide && p == at + 1e-9
             };
             nth(among, j) && past
         });
@@ -594,8 +746,32 @@ impl<'a> Pass<'a> {
             .mask
     }
 
-    fn distance(&self, from: f64, j: usize) -> f64 {
-        (from - self.sheet.stops[j].position).abs()
+    /// The first coordinate, by which directions are told; with this fault the sum of both.
+    fn along(&self, at: Point, fault: Fault) -> f64 {
+        match self.is(fault) {
+            true => at.position + at.across,
+            false => at.position,
+        }
+    }
+
+    /// The distance of two points; with this fault that of the first coordinates.
+    fn distance(&self, from: Point, to: Point, fault: Fault) -> f64 {
+        let (along, aside) = (from.position - to.position, from.across - to.across);
+        match self.fault {
+            at if at == fault => along.abs(),
+            Fault::AcrossIgnored => along.abs(),
+            Fault::AcrossLarger => along.abs().max(aside.abs()),
+            Fault::AcrossStraight => along.hypot(aside),
+            Fault::AcrossSigned => (along + aside).abs(),
+            Fault::AcrossOfStopAlone => along.abs() + to.across.abs(),
+            _ => from.distance(to),
+        }
+    }
+
+    /// That of a car and a stop.
+    fn to_stop(&self, c: &Car, j: usize, fault: Fault) -> f64 {
+        let stop = Point::of_stop(&self.sheet.stops[j]);
+        self.distance(Point::of_car(c), stop, fault)
     }
 
     fn kept(&self, c: &Car, j: usize) -> bool {
@@ -608,11 +784,11 @@ impl<'a> Pass<'a> {
         } else {
             viable
         };
-        let here = (self.distance(c.position, j), j);
+        let here = (self.to_stop(c, j, Fault::AcrossNotInCut), j);
         let before = (0..self.sheet.stops.len())
             .filter(|k| nth(among, *k))
             .filter(|k| {
-                let there = (self.distance(c.position, *k), *k);
+                let there = (self.to_stop(c, *k, Fault::AcrossNotInCut), *k);
                 if self.is(Fault::CutByHigherId) && there.0 == here.0 {
                     return there.1 > here.1;
                 }
@@ -622,13 +798,10 @@ impl<'a> Pass<'a> {
         nth(viable, j) && (none || before < usize::from(limit))
     }
 
-    /// The position of a stop by id.
-    fn position(&self, id: u32) -> Option<f64> {
-        self.sheet
-            .stops
-            .iter()
-            .find(|s| s.id == id)
-            .map(|s| s.position)
+    /// Where a stop is, by id.
+    fn place(&self, id: u32) -> Option<Point> {
+        let stop = self.sheet.stops.iter().find(|s| s.id == id);
+        stop.map(Point::of_stop)
     }
 
     fn aboard(&self, c: &Car) -> Vec<Option<u32>> {
@@ -643,17 +816,26 @@ impl<'a> Pass<'a> {
     /// Where a moving or repositioning car is bound.
     fn heading(&self, c: &Car) -> Option<f64> {
         if c.phase == 1 || c.phase == 2 {
-            self.position(c.stop)
+            let to = self.place(c.stop)?;
+            Some(self.along(to, Fault::AcrossInDirection))
         } else {
             None
         }
     }
 
-    fn bypass(&self, c: &Car, p: f64) -> bool {
+    /// Where a car and a stop are on the way that directions are told by.
+    fn directed(&self, c: &Car, j: usize) -> (f64, f64) {
+        let fault = Fault::AcrossInDirection;
+        let stop = Point::of_stop(&self.sheet.stops[j]);
+        (self.along(Point::of_car(c), fault), self.along(stop, fault))
+    }
+
+    fn bypass(&self, c: &Car, j: usize) -> bool {
         let Some(target) = self.heading(c) else {
             return false;
         };
-        let (up, down) = (target > c.position, target < c.position);
+        let (at, p) = self.directed(c, j);
+        let (up, down) = (target > at, target < at);
         if !up && !down {
             return false;
         }
@@ -667,16 +849,18 @@ impl<'a> Pass<'a> {
         if ratio < threshold || ratio == threshold && self.is(Fault::BypassAbove) {
             return false;
         }
-        up && p > c.position || down && p < c.position
+        up && p > at || down && p < at
     }
 
-    fn can_board(&self, c: &Car, w: &Waiting, p: f64, remaining: f64) -> bool {
+    fn can_board(&self, c: &Car, w: &Waiting, stop: &Stop, remaining: f64) -> bool {
         if w.weight > remaining || w.weight == remaining && self.is(Fault::BoardBelow) {
             return false;
         }
-        let Some(to) = w.destination.and_then(|id| self.position(id)) else {
+        let Some(to) = w.destination.and_then(|id| self.place(id)) else {
             return true;
         };
+        let to = self.along(to, Fault::AcrossInLamps);
+        let p = self.along(Point::of_stop(stop), Fault::AcrossInLamps);
         if self.is(Fault::LampsIgnored) {
             return true;
         }
@@ -685,12 +869,11 @@ impl<'a> Pass<'a> {
 
     fn useful(&self, c: &Car, j: usize, path: bool) -> bool {
         let stop = &self.sheet.stops[j];
-        let p = stop.position;
         let aboard = self.aboard(c);
         if aboard.contains(&Some(stop.id)) {
             return true;
         }
-        if self.bypass(c, p) {
+        if self.bypass(c, j) {
             return false;
         }
         let remaining = c.capacity - c.load;
@@ -700,7 +883,8 @@ impl<'a> Pass<'a> {
         let servable = if self.waiters(j).next().is_none() {
             self.call(j) && !self.is(Fault::CallIgnored)
         } else {
-            self.waiters(j).any(|w| self.can_board(c, w, p, remaining))
+            self.waiters(j)
+                .any(|w| self.can_board(c, w, stop, remaining))
         };
         if !servable {
             return false;
@@ -709,18 +893,26 @@ impl<'a> Pass<'a> {
         if !path || !strict && aboard.iter().all(Option::is_none) {
             return true;
         }
-        let to_stop = p - c.position;
+        let to_stop = stop.position - c.position;
         aboard.iter().any(|a| {
-            let Some(at) = a.and_then(|id| self.position(id)) else {
+            let Some(at) = a.and_then(|id| self.place(id)) else {
                 return false;
             };
-            let to_there = at - c.position;
+            let to_there = at.position - c.position;
+            let aside = (at.across - c.across) * (stop.across - c.across);
+            if self.is(Fault::AcrossInPathSigns) && aside < 0.0 {
+                return false;
+            }
             let onward = if self.is(Fault::PathBySigns) {
                 !(to_there > 0.0 && to_stop < 0.0 || to_there < 0.0 && to_stop > 0.0)
             } else {
                 to_there * to_stop >= 0.0
             };
-            onward && to_stop.abs() <= to_there.abs()
+            let (car, stop) = (Point::of_car(c), Point::of_stop(stop));
+            match self.is(Fault::AcrossInPath) {
+                true => onward && car.distance(stop) <= car.distance(at),
+                false => onward && to_stop.abs() <= to_there.abs(),
+            }
         })
     }
 
@@ -762,7 +954,7 @@ impl<'a> Pass<'a> {
             return None;
         }
         let travel = if c.speed > 0.0 {
-            self.distance(c.position, j) / c.speed
+            self.to_stop(c, j, Fault::AcrossNotInTravel) / c.speed
         } else {
             0.0
         };
@@ -789,6 +981,13 @@ impl<'a> Pass<'a> {
             .filter(|k| nth(among, *k))
             .filter(|k| {
                 let q = self.sheet.stops[*k].position;
+                if self.is(Fault::AcrossInBetween) {
+                    let (a, b) = (c.across, self.sheet.stops[j].across);
+                    let aside = self.sheet.stops[*k].across;
+                    if aside < a.min(b) || aside > a.max(b) {
+                        return false;
+                    }
+                }
                 if self.is(Fault::CountAtTolerance) {
                     q >= low + 1e-9 && q <= high - 1e-9
                 } else {
@@ -801,10 +1000,15 @@ impl<'a> Pass<'a> {
             .aboard(c)
             .into_iter()
             .flatten()
-            .filter_map(|id| self.position(id))
+            .filter_map(|id| self.place(id))
         {
-            let direct = (c.position - to).abs();
-            let detour = (c.position - p).abs() + (p - to).abs();
+            let fault = Fault::AcrossNotInDetours;
+            let (car, stop) = (Point::of_car(c), Point::of_stop(&self.sheet.stops[j]));
+            let direct = match self.fault {
+                Fault::AcrossNotInDirect => (car.position - to.position).abs(),
+                _ => self.distance(car, to, fault),
+            };
+            let detour = self.distance(car, stop, fault) + self.distance(stop, to, fault);
             if c.speed > 0.0 {
                 delay += (detour - direct).max(0.0) / c.speed;
             }
@@ -813,10 +1017,11 @@ impl<'a> Pass<'a> {
             _ if c.phase == 2 && self.is(Fault::NoBonusRepositioning) => 0.0,
             Some(to) => {
                 let beyond = self.is(Fault::AheadBeyondTarget);
-                let ahead = if to > c.position {
-                    p > c.position && (p <= to || beyond)
+                let (at, p) = self.directed(c, j);
+                let ahead = if to > at {
+                    p > at && (p <= to || beyond)
                 } else {
-                    p < c.position && (p >= to || beyond)
+                    p < at && (p >= to || beyond)
                 };
                 if ahead { -travel * 0.5 } else { 0.0 }
             }
@@ -853,11 +1058,11 @@ impl<'a> Pass<'a> {
             return None;
         }
         let w = self.sheet.policy.weights;
-        let p = self.sheet.stops[j].position;
-        let mut cost = w[0] * (self.distance(c.position, j) / c.speed);
+        let (at, p) = self.directed(c, j);
+        let mut cost = w[0] * (self.to_stop(c, j, Fault::AcrossNotInTravel) / c.speed);
         if let Some(to) = self.heading(c)
             && w[1] > 0.0
-            && (to > c.position && p < c.position || to < c.position && p > c.position)
+            && (to > at && p < at || to < at && p > at)
         {
             let traffic = self.sheet.policy.traffic;
             let peak = traffic == 1 || traffic == 3 && !self.is(Fault::NoDownPeak);
@@ -914,16 +1119,17 @@ impl<'a> Pass<'a> {
         if !self.useful(c, j, false) {
             return None;
         }
-        let p = self.sheet.stops[j].position;
+        let p = self.along(Point::of_stop(&self.sheet.stops[j]), Fault::AcrossInAccept);
+        let at = self.along(Point::of_car(c), Fault::AcrossInAccept);
         let down = sweep >= 2;
         let lenient = sweep % 2 == 1 && !self.is(Fault::AlwaysStrict);
         let accepted = match (lenient, down) {
-            (false, false) => p > c.position + 1e-9,
-            (false, true) => p < c.position - 1e-9,
-            (true, false) => p > c.position - 1e-9,
-            (true, true) => p < c.position + 1e-9,
+            (false, false) => p > at + 1e-9,
+            (false, true) => p < at - 1e-9,
+            (true, false) => p > at - 1e-9,
+            (true, true) => p < at + 1e-9,
         };
-        accepted.then(|| self.distance(c.position, j))
+        accepted.then(|| self.to_stop(c, j, Fault::AcrossNotInScan))
     }
 
     fn scale(&self, cost: f64) -> u64 {
@@ -1035,6 +1241,16 @@ pub fn ranks(sheet: &Sheet) -> Vec<Option<f64>> {
     let of_car = |i: usize| pending.iter().map(move |j| (i, *j));
     let pairs = pass.idle().into_iter().flat_map(of_car);
     pairs.map(|(i, j)| pass.rank(i, j)).collect()
+}
+
+/// The same with the ids of car and stop.
+pub fn named_ranks(sheet: &Sheet) -> Vec<(u32, u32, Option<f64>)> {
+    let pass = Pass::new(Fault::None, sheet);
+    let cars = pass.idle().into_iter().map(|i| sheet.cars[i].id);
+    let stops: Vec<u32> = answered(sheet).pending;
+    let pairs = cars.flat_map(|car| stops.iter().map(move |stop| (car, *stop)));
+    let ranks = pairs.zip(ranks(sheet));
+    ranks.map(|((car, stop), rank)| (car, stop, rank)).collect()
 }
 
 /// What a pass of an accepted sheet writes and answers, by the definitions alone.

@@ -2,6 +2,8 @@
 
 use crate::bench::{Bench, Lent};
 use crate::rust_pass::Rust;
+use sheetgen::rng::Rng;
+use sheetgen::twin::twin;
 use std::time::{Duration, Instant};
 
 /// Name, stops, cars and riders.
@@ -85,7 +87,46 @@ fn load_table(bench: &mut dyn Bench, rounds: usize) {
     }
 }
 
-/// A line for each size and strategy, then what the load's part takes.
+/// A line for each size: sheets of edition 2 beside their twins of edition 1, all strategies, the rounds in turn.
+fn edition_table(bench: &mut dyn Bench, rounds: usize) {
+    let mut lent = Lent::new(32, 2048, 32);
+    println!("edition      edition 2 us   edition 1 twin us   ratio");
+    for (size, stops, cars, riders) in SIZES {
+        let count: u64 = if size == "full" { 40 } else { 400 };
+        let second = |i: u64| {
+            let strategy = (i % 3) as u8;
+            let mut sheet = sheetgen::generate::sized(strategy, stops, cars, riders, 7, i);
+            sheetgen::generate::sideways(&mut Rng::new(7, 3000, i), &mut sheet);
+            sheet.write()
+        };
+        let seconds: Vec<Vec<u8>> = (0..3 * count).map(second).collect();
+        let firsts: Vec<Vec<u8>> = seconds.iter().map(|bytes| twin(bytes)).collect();
+        if bench.read(&seconds[0]).0 == 3 {
+            println!("{size:<13}not timed: the library does not know edition 2");
+            continue;
+        }
+        let mut timed = |sheets: &[Vec<u8>]| {
+            let began = Instant::now();
+            for sheet in sheets {
+                assert_eq!(bench.pass(sheet, &mut lent), 0);
+            }
+            began.elapsed()
+        };
+        let (mut ours, mut plain) = (Duration::MAX, Duration::MAX);
+        for _ in 0..rounds {
+            ours = ours.min(timed(&seconds));
+            plain = plain.min(timed(&firsts));
+        }
+        println!(
+            "{size:<13}{:12.2}{:20.2}{:8.2}",
+            micros(ours, seconds.len()),
+            micros(plain, seconds.len()),
+            ours.as_secs_f64() / plain.as_secs_f64()
+        );
+    }
+}
+
+/// A line for each size and strategy, then what the load's part takes, then what edition 2 does.
 pub fn table(bench: &mut dyn Bench, rounds: usize) {
     let mut rust = Rust::new();
     let mut lent = Lent::new(32, 2048, 32);
@@ -129,6 +170,7 @@ pub fn table(bench: &mut dyn Bench, rounds: usize) {
         }
     }
     load_table(bench, rounds);
+    edition_table(bench, rounds);
 }
 
 /// A line for each size: reading a sheet and passing it, by two libraries in turns, and the newer one's part of the older one's time.

@@ -1,9 +1,9 @@
 //! A byte string cut into records, as far as that goes. Nothing here says whether a sheet is accepted.
 
 use sheetgen::bits;
-use sheetgen::sheet::{BODY_BITS, HEAD_BITS, RECORD_HEAD_BITS};
+use sheetgen::sheet::{HEAD_BITS, RECORD_HEAD_BITS, body_bits};
 
-use crate::fields::{self, Field};
+use crate::fields::{self, Field, KINDS};
 use crate::value::{self, Stops, Value};
 
 #[derive(Clone, Copy)]
@@ -20,6 +20,8 @@ pub struct Record {
     pub kind: usize,
     /// The stated length of its body, in bits.
     pub length: usize,
+    /// The edition of its sheet.
+    pub edition: u64,
 }
 
 impl Record {
@@ -27,10 +29,15 @@ impl Record {
         self.at + RECORD_HEAD_BITS
     }
 
+    /// The bits of its body by its kind, where that is known.
+    pub fn bits(&self) -> Option<usize> {
+        let is_known = (1..KINDS.len()).contains(&self.kind);
+        is_known.then(|| body_bits(self.edition, self.kind))
+    }
+
     /// Its kind is known and its length is the kind's, so that it has fields.
     pub fn has_fields(&self) -> bool {
-        let bits = BODY_BITS.get(self.kind);
-        self.kind > 0 && bits == Some(&self.length)
+        self.bits() == Some(self.length)
     }
 }
 
@@ -81,7 +88,13 @@ impl<'a> Cut<'a> {
         }
         let kind = bits::get(self.bytes, at, 6) as usize;
         let length = bits::get(self.bytes, at + 6, 16) as usize;
-        Some(Record { at, kind, length })
+        let edition = self.head.map_or(1, |head| head.edition);
+        Some(Record {
+            at,
+            kind,
+            length,
+            edition,
+        })
     }
 
     fn record_at(&self, at: usize) -> Option<Record> {
@@ -101,7 +114,7 @@ impl<'a> Cut<'a> {
         if record.kind == 1 {
             fields::policy_fields(bits::get(self.bytes, record.body(), 2))
         } else {
-            fields::fields(record.kind)
+            fields::fields(record.edition, record.kind)
         }
     }
 

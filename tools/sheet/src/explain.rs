@@ -54,6 +54,9 @@ fn accepted(cut: &Cut) -> String {
         "accepted\n{}\nto do: Nothing for this bench. If a host refuses the sheet, ask for the number that it gave (1: the host's own buffers are too short; 19 or 20: what a site sent to be graded) and for the length of its file: here it is {bytes}.",
         show::counts(cut)
     );
+    if cut.head.is_some_and(|head| head.edition == 2) {
+        lines += " If it is 3 at 0, the host has a bench that reads edition 1 alone: renew it, or write the sheet as edition 1, which has no second coordinates.";
+    }
     if let Some(policy) = cut
         .records
         .first()
@@ -252,7 +255,7 @@ fn whole_records(whole: usize, count: usize) -> String {
 
 fn edition(cut: &Cut) -> String {
     let edition = cut.head.map_or(0, |head| head.edition);
-    format!("Head (bit 0): edition is {edition}, but this bench reads edition 1.")
+    format!("Head (bit 0): edition is {edition}, but this bench reads editions 1 and 2.")
 }
 
 fn tail(cut: &Cut, at: usize, refusal: Refusal) -> Reason {

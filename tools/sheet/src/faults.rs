@@ -1,12 +1,12 @@
 //! Which field of a refused record a refusal's number is about, and what it holds. Only records that the
 //! proved library has refused by that number are looked at.
 
-use sheetgen::sheet::{BODY_BITS, MOST};
+use sheetgen::sheet::MOST;
 
 use crate::cut::{Cut, Record};
 use crate::fields::{Absence, Field, Form, KINDS, Names, PHASES, Range};
 use crate::numbers::{grouped, grouped_text};
-use crate::show::number_of;
+use crate::show::{in_edition, number_of};
 use crate::value::{self, Value};
 
 /// The most ids that a sentence names.
@@ -54,10 +54,10 @@ fn wait(cut: &Cut, record: &Record) -> Option<String> {
 
 fn length(record: &Record) -> Option<String> {
     let (kind, stated) = (record.kind, grouped(record.length as u64));
-    let bits = BODY_BITS.get(kind)?;
+    let (bits, edition) = (record.bits()?, in_edition(record));
     let name = KINDS.get(kind)?;
     Some(format!(
-        "length is {stated}, but the body of kind {kind} ({name}) has {bits} bits"
+        "length is {stated}, but the body of kind {kind} ({name}) has {bits} bits{edition}"
     ))
 }
 
@@ -261,6 +261,7 @@ mod tests {
             Profile::Full,
             Profile::Near,
             Profile::Extreme,
+            Profile::Sideways,
         ];
         for profile in profiles {
             for index in 0..40 {

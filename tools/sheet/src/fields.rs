@@ -1,4 +1,4 @@
-//! The fields of each kind of record, in document 01's order, and document 02's kind 8: name, place in the body, form.
+//! The fields of each kind of record, in document 01's order, and document 02's kind 8 and edition 2: name, place in the body, form.
 
 use sheetgen::sheet::{ETD, RSR};
 
@@ -69,7 +69,7 @@ impl Field {
 }
 
 impl Form {
-    pub fn width(self) -> usize {
+    pub const fn width(self) -> usize {
         match self {
             Form::Number(width) | Form::Code(_, width) => width,
             Form::Id(_) => 32,
@@ -177,17 +177,41 @@ static STORED_ETD: [Field; 4] = stored(Form::Code(&WEIGHTS_ETD, 8));
 static STORED_RSR: [Field; 4] = stored(Form::Code(&WEIGHTS_RSR, 8));
 static STORED_SCAN: [Field; 4] = stored(Form::Code(&WEIGHTS_SCAN, 8));
 
-static STOP: [Field; 2] = [
+/// The name of the second coordinate.
+pub const ACROSS: &str = "across";
+
+/// The fields of edition 2: a second coordinate right after the position, which is the field at this place, and the others behind it.
+const fn sideways<const N: usize, const M: usize>(of: [Field; N], position: usize) -> [Field; M] {
+    let coordinate = of[position].form;
+    let across = of[position].at + coordinate.width();
+    let mut fields = [always(ACROSS, across, coordinate); M];
+    let mut k = 0;
+    while k < N {
+        if k <= position {
+            fields[k] = of[k];
+        } else {
+            fields[k + 1] = Field {
+                at: of[k].at + coordinate.width(),
+                ..of[k]
+            };
+        }
+        k += 1;
+    }
+    fields
+}
+
+const STOP: [Field; 2] = [
     always("id", 0, Form::Id(Names::Itself)),
     always("position", 32, Form::Double(Range::Position)),
 ];
+static STOPS: (&[Field], &[Field]) = (&STOP, &sideways::<2, 3>(STOP, 1));
 
 static LINE: [Field; 2] = [
     always("id", 0, Form::Id(Names::Itself)),
     always("serves", 32, Form::Mask),
 ];
 
-static CAR: [Field; 20] = [
+const CAR: [Field; 20] = [
     always("id", 0, Form::Id(Names::Itself)),
     always("line", 32, Form::Id(Names::Record(3))),
     always("phase", 64, Form::Code(PHASES, 3)),
@@ -214,6 +238,7 @@ static CAR: [Field; 20] = [
     always("restricted", 587, Form::Mask),
     always("car_calls", 651, Form::Mask),
 ];
+static CARS: (&[Field], &[Field]) = (&CAR, &sideways::<20, 21>(CAR, 10));
 
 static ABOARD: [Field; 2] = [
     always("car", 0, Form::Id(Names::Record(4))),
@@ -257,12 +282,16 @@ pub fn store_fields(strategy: Option<u64>) -> &'static [Field; 4] {
     }
 }
 
-/// The fields of a record of kind 2 to 8; a policy's depend on its strategy.
-pub fn fields(kind: usize) -> &'static [Field] {
+/// The fields of a record of kind 2 to 8 in an edition, others being read as the first; a policy's depend on its strategy.
+pub fn fields(edition: u64, kind: usize) -> &'static [Field] {
+    let of = |editions: &(&'static [Field], &'static [Field])| match edition {
+        2 => editions.1,
+        _ => editions.0,
+    };
     match kind {
-        2 => &STOP,
+        2 => of(&STOPS),
         3 => &LINE,
-        4 => &CAR,
+        4 => of(&CARS),
         5 => &ABOARD,
         6 => &WAITING,
         7 => &DEMAND,
@@ -274,7 +303,7 @@ pub fn fields(kind: usize) -> &'static [Field] {
 #[cfg(test)]
 mod tests {
     use super::*;
-    use sheetgen::sheet::BODY_BITS;
+    use sheetgen::sheet::{EDITIONS, body_bits};
     use sheetgen::store::RECORD_BITS;
 
     /// The fields follow each other without a gap and fill the body.
@@ -289,12 +318,14 @@ mod tests {
 
     #[test]
     fn fields_fill_their_bodies() {
-        for strategy in 0..4 {
-            fill(policy_fields(strategy), BODY_BITS[1]);
-        }
-        assert_eq!(KINDS.len(), BODY_BITS.len());
-        for (kind, bits) in BODY_BITS.iter().enumerate().skip(2) {
-            fill(fields(kind), *bits);
+        assert_eq!(KINDS.len(), sheetgen::sheet::KINDS + 1);
+        for edition in EDITIONS {
+            for strategy in 0..4 {
+                fill(policy_fields(strategy), body_bits(edition, 1));
+            }
+            for kind in 2..KINDS.len() {
+                fill(fields(edition, kind), body_bits(edition, kind));
+            }
         }
         for strategy in [None, Some(0), Some(1), Some(2)] {
             fill(store_fields(strategy), RECORD_BITS);

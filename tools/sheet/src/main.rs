@@ -12,7 +12,8 @@ use sheet::{near, rules, show, store, text};
 
 const USAGE: &str = "\
 usage: sheet COMMAND
-  example [STRATEGY]   print a text to start from: ETD (the default), RSR or SCAN
+  example [STRATEGY|sideways]
+                       print a text to start from: ETD (the default), RSR or SCAN, or one of edition 2
   write IN.txt [OUT]   turn text into a sheet, in OUT or on standard output
   show SHEET           print a sheet as text that `write` turns into the same bytes
   explain SHEET        say whether the bench accepts a sheet, and if not, what to do
@@ -43,7 +44,7 @@ Exit 0: done, a refusal explained included. 1: not done, the reason is on standa
 type Command = (&'static str, &'static str, usize);
 
 const COMMANDS: [Command; 13] = [
-    ("example", " [STRATEGY]", 0),
+    ("example", " [STRATEGY|sideways]", 0),
     ("write", " IN.txt [OUT]", 1),
     ("show", " SHEET", 1),
     ("explain", " SHEET", 1),
@@ -368,9 +369,10 @@ fn example(strategy: &str) -> Result<(), Stop> {
         "ETD" => include_str!("../examples/lobby.txt"),
         "RSR" => include_str!("../examples/small_rsr.txt"),
         "SCAN" => include_str!("../examples/small_scan.txt"),
+        "sideways" => include_str!("../examples/sideways.txt"),
         _ => {
             return Err(failed(format!(
-                "\"{strategy}\": expected a strategy, ETD, RSR or SCAN"
+                "\"{strategy}\": expected a strategy, ETD, RSR or SCAN, or sideways"
             )));
         }
     };

@@ -1,5 +1,7 @@
 //! What to do about a refused field, where the general words of its rule do not fit it.
 
+use sheetgen::sheet::body_bits;
+
 use crate::cut::{Cut, Record};
 use crate::fields::{Absence, Field, Form, KINDS, Names, STRATEGIES};
 use crate::rules;
@@ -27,6 +29,7 @@ pub fn find(cut: &Cut, record: &Record, number: u32, name: &str) -> Option<Strin
         4 | 5 if is_first(cut, record) && record.kind != 1 => {
             Some("Make the policy the first record; a newer writer, or a file that is no sheet, can cause this.".into())
         }
+        5 => other_edition(record),
         6 => order(cut, record),
         7 if record.kind == 1 => Some("Leave this policy out; a sheet has one.".into()),
         8 => field().map(|field| unused(cut, record, field, held(field))),
@@ -35,6 +38,24 @@ pub fn find(cut: &Cut, record: &Record, number: u32, name: &str) -> Option<Strin
         11 => Some(format!("Give {name} a value inside of its range.")),
         _ => None,
     }
+}
+
+/// 5, of a stop or a car with the length of the other edition.
+fn other_edition(record: &Record) -> Option<String> {
+    record.bits()?;
+    let other = match record.edition {
+        2 => 1,
+        _ => 2,
+    };
+    let words = match other {
+        1 => {
+            "Write the record with its second coordinate, across, or the sheet as edition 1, which has none."
+        }
+        _ => {
+            "Write the sheet as edition 2, which has a second coordinate, or the record without one."
+        }
+    };
+    (body_bits(other, record.kind) == record.length).then(|| words.into())
 }
 
 fn is_first(cut: &Cut, record: &Record) -> bool {

@@ -1,7 +1,7 @@
 //! A sheet as text that `write` turns into the same bytes.
 
 use sheetgen::bits;
-use sheetgen::sheet::{BODY_BITS, EDITION};
+use sheetgen::sheet::across_at;
 
 use crate::cut::{Cut, Record};
 use crate::fields::{Absence, KINDS};
@@ -72,8 +72,10 @@ fn head(cut: &Cut) -> Option<String> {
         return Some("sheet head=none # fewer than 24 bits".into());
     };
     let records = cut.records.len();
-    if head.edition == EDITION && head.count == records {
-        return None;
+    match head.edition {
+        1 if head.count == records => return None,
+        2 if head.count == records => return Some("sheet edition=2".into()),
+        _ => {}
     }
     let mut line = format!("sheet edition={} records={}", head.edition, head.count);
     if head.count != records {
@@ -100,12 +102,20 @@ pub fn record_line(cut: &Cut, record: &Record, stops: &Stops) -> String {
 
 fn raw_line(cut: &Cut, record: &Record) -> String {
     let (kind, length) = (record.kind, record.length);
-    let why = match BODY_BITS.get(kind) {
-        Some(bits) if kind > 0 => format!("a {} has {bits} bits", KINDS[kind]),
-        _ => "no such kind".into(),
+    let why = match record.bits() {
+        Some(bits) => format!("a {} has {bits} bits{}", KINDS[kind], in_edition(record)),
+        None => "no such kind".into(),
     };
     let digits = hex(cut.bytes, record.body(), length);
     format!("record kind={kind} length={length} bits={digits} # {why}")
+}
+
+/// The edition, where it matters to the length of the record's kind.
+pub fn in_edition(record: &Record) -> &'static str {
+    match across_at(record.kind) {
+        Some(_) if record.edition == 2 => " in edition 2",
+        _ => "",
+    }
 }
 
 /// What follows the last record that could be cut, as raw bits.

@@ -3,9 +3,9 @@
 use std::path::Path;
 
 use sheetgen::bits::Writer;
-use sheetgen::sheet::{BODY_BITS, EDITION};
+use sheetgen::sheet::{across_at, body_bits};
 
-use crate::fields::{self, Absence, Field, KINDS, WEIGHTS};
+use crate::fields::{self, ACROSS, Absence, Field, KINDS, WEIGHTS};
 use crate::line::{self, Fault, Line};
 use crate::near::did_you_mean;
 use crate::store;
@@ -16,7 +16,7 @@ use crate::weights::of_file;
 /// For who hands a text over where a sheet is expected.
 pub const HINT: &str = "If this is a sheet's text, `sheet write` turns it into a sheet.";
 
-/// Bytes that are printed characters and line ends alone. No accepted sheet is: its first byte is 1.
+/// Bytes that are printed characters and line ends alone. No accepted sheet is: its first byte is 1 or 2.
 pub fn is_text(bytes: &[u8]) -> bool {
     let is_printed = |c: char| !c.is_control() || "\t\r\n".contains(c);
     let text = std::str::from_utf8(bytes).unwrap_or("");
@@ -25,6 +25,8 @@ pub fn is_text(bytes: &[u8]) -> bool {
 
 /// What a line is read with.
 struct Around<'a> {
+    /// That of the line of the head, or 1.
+    edition: u64,
     /// How many records the text has.
     records: usize,
     stops: Stops,
@@ -38,6 +40,7 @@ pub fn write(text: &[u8], folder: &Path) -> Result<Vec<u8>, Vec<Fault>> {
     let (lines, mut faults) = line::lines(text.map_err(|fault| vec![fault])?);
     let stop_lines = lines.iter().filter(|line| line.word == "stop");
     let around = Around {
+        edition: edition(&lines),
         records: lines.iter().filter(|line| is_record(line)).count(),
         stops: Stops(stop_lines.map(stop_id).collect()),
         folder,
@@ -63,6 +66,13 @@ pub fn write(text: &[u8], folder: &Path) -> Result<Vec<u8>, Vec<Fault>> {
     } else {
         Err(faults)
     }
+}
+
+/// The edition that the first line says where it is the head's, and 1 where none is said.
+fn edition(lines: &[Line]) -> u64 {
+    let head = lines.first().filter(|line| line.word == "sheet");
+    let said = head.and_then(|line| line.number("edition", 8).ok().flatten());
+    said.unwrap_or(1)
 }
 
 fn is_record(line: &Line) -> bool {
@@ -102,7 +112,7 @@ fn place(line: &Line, before: Before) -> Result<(), Fault> {
 fn encode(writer: &mut Writer, line: &Line, around: &Around) -> Result<(), Fault> {
     match (line.word, kind(line)) {
         (_, Some(kind)) => named_record(writer, line, kind, around),
-        ("sheet", _) => head(writer, line, around.records),
+        ("sheet", _) => head(writer, line, around),
         ("record", _) => raw_record(writer, line),
         ("rest", _) => {
             line.only(&["length", "bits"])?;
@@ -126,7 +136,7 @@ fn encode(writer: &mut Writer, line: &Line, around: &Around) -> Result<(), Fault
 /// Edition 1 and the number of records there are.
 fn default_head(writer: &mut Writer, records: usize, lines: &[Line]) -> Result<(), Fault> {
     let line = lines.last().map_or(1, |line| line.number);
-    writer.put(8, EDITION);
+    writer.put(8, 1);
     let fault = |what| Fault {
         line,
         column: 1,
@@ -142,7 +152,7 @@ fn counted(records: usize) -> Result<u64, String> {
     fits.then_some(records as u64).ok_or_else(many)
 }
 
-fn head(writer: &mut Writer, line: &Line, records: usize) -> Result<(), Fault> {
+fn head(writer: &mut Writer, line: &Line, around: &Around) -> Result<(), Fault> {
     if line.get("head") == Some("none") {
         return line.only(&["head"]);
     }
@@ -150,12 +160,12 @@ fn head(writer: &mut Writer, line: &Line, records: usize) -> Result<(), Fault> {
         return Err(line.fault_in("head", &format!("expected none, found \"{text}\"")));
     }
     line.only(&["edition", "records", "head"])?;
-    let edition = line.number("edition", 8)?.unwrap_or(EDITION);
+    line.number("edition", 8)?;
     let count = match line.number("records", 16)? {
         Some(count) => count,
-        None => counted(records).map_err(|what| line.fault(what))?,
+        None => counted(around.records).map_err(|what| line.fault(what))?,
     };
-    writer.put(8, edition);
+    writer.put(8, around.edition);
     writer.put(16, count);
     Ok(())
 }
@@ -168,15 +178,19 @@ fn named_record(
 ) -> Result<(), Fault> {
     let fields = match kind {
         1 => fields::policy_fields(strategy(line)?),
-        _ => fields::fields(kind),
+        _ => fields::fields(around.edition, kind),
     };
+    if across_at(kind).is_some() && around.edition != 2 && line.get(ACROSS).is_some() {
+        let what = "is a field of edition 2; the first line of such a text is `sheet edition=2`";
+        return Err(line.fault_in(ACROSS, what));
+    }
     let mut names: Vec<&str> = fields.iter().map(|field| field.name).collect();
     if kind == 1 {
         names.extend(OF_A_STORE);
     }
     line.only(&names)?;
     writer.put(6, kind as u64);
-    writer.put(16, BODY_BITS[kind] as u64);
+    writer.put(16, body_bits(around.edition, kind) as u64);
     let stored = kind == 1 && OF_A_STORE.iter().any(|name| line.get(name).is_some());
     let (written, weights) = fields.split_at(if stored { WEIGHTS } else { fields.len() });
     for field in written {

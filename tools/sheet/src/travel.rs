@@ -7,10 +7,10 @@ use crate::numbers::grouped_text;
 use crate::ramps::{ACCELERATION, DECELERATION, Ramps, SPEED};
 use crate::value::show_double;
 
-/// The seconds from a car to a stop, by the car's max speed.
+/// The seconds from a car to a stop, over the distance of both coordinates and by the car's max speed.
 pub fn seconds(car: &Car, stop: &Stop, ramps: &Ramps) -> Result<f64, OutsideDomain> {
     travel_time(&Run {
-        distance: (car.position - stop.position).abs(),
+        distance: car.distance(stop),
         speed: ramps.speed,
         top_speed: car.speed,
         acceleration: ramps.acceleration,

@@ -64,7 +64,7 @@ fn too_few_or_too_many_words() {
         (&["grade", "a"], "few", " SHEET GRADES.txt"),
         (&["grade", "a", "b", "c"], "many", " SHEET GRADES.txt"),
         (&["draw", "a", "b", "c"], "many", " SHEET [OUT] [RATES]"),
-        (&["example", "ETD", "RSR"], "many", " [STRATEGY]"),
+        (&["example", "ETD", "RSR"], "many", " [STRATEGY|sideways]"),
         (&["rule", "1", "2"], "many", " [NUMBER]"),
         (&["help", "a"], "many", ""),
         (&["--version", "a"], "many", ""),
@@ -135,9 +135,12 @@ fn texts_to_start_from() {
         let shown = text(&run(&["show", "-"], &written.stdout).stdout);
         assert!(shown.contains(&format!("\npolicy strategy={strategy} ")));
     }
+    let output = run(&["example", "sideways"], b"");
+    let written = run(&["write", "-"], &output.stdout);
+    assert_eq!((written.status.code(), written.stdout[0]), (Some(0), 2));
     let output = run(&["example", "LOOK"], b"");
     assert_eq!(output.status.code(), Some(1));
-    let said = "\"LOOK\": expected a strategy, ETD, RSR or SCAN\n";
+    let said = "\"LOOK\": expected a strategy, ETD, RSR or SCAN, or sideways\n";
     assert_eq!(text(&output.stderr), said);
     assert_eq!(text(&output.stdout), "");
 }

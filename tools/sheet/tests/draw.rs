@@ -263,6 +263,63 @@ fn passes_at_the_ceiling() {
     assert!(held > 30 && both > 5, "{held} {both}");
 }
 
+/// Sheets with second coordinates have a plan with every stop and car, and a mark for each decision; level ones have none.
+#[test]
+fn passes_of_edition_2() {
+    let mut plans = 0;
+    for (profile, most) in [(Profile::Sideways, 80), (Profile::Level, 20)] {
+        for index in 0..most {
+            let bytes = generate::generate(profile, 17, index);
+            let pass = pass(&bytes).unwrap();
+            drawn(&bytes, &pass, &format!("{profile:?}_{index}"));
+            let sheet = Sheet::of_accepted(&bytes);
+            let svg = without_legends(&draw(&bytes, None));
+            let tips = |what: &str| count(&svg, &format!("<title>{what} "));
+            let sent = pass.decisions.iter().flatten().count();
+            let planned = usize::from(sheet.runs_sideways());
+            assert_eq!(tips("stop"), planned * sheet.stops.len(), "{index}");
+            assert_eq!(
+                count(&svg, "<line class=\"sent\""),
+                planned * sent,
+                "{index}"
+            );
+            for car in &sheet.cars {
+                let tip = format!(
+                    "<title>car {} at {}, across {}<",
+                    car.id, car.position, car.across
+                );
+                assert_eq!(count(&svg, &tip), 1 + planned, "{index}");
+            }
+            plans += planned;
+        }
+    }
+    assert!(plans > 60, "{plans}");
+}
+
+/// The stored drawing of shuttles: the plan, the second coordinates in words, and SCAN's words of a distance.
+#[test]
+fn sideways_as_stored() {
+    let path = here("examples/sideways.txt");
+    let written = run(&["write", path.to_str().unwrap()], b"");
+    let drawn = text(&run(&["draw", "-"], &written.stdout).stdout);
+    let stored = text(&std::fs::read(path.with_extension("svg")).unwrap());
+    assert_eq!(drawn, stored);
+    for part in [
+        ">plan<",
+        ">2 at 20, 0<",
+        ">across -2.5<",
+        "<title>stop 3 at 20, across 40<",
+        "sent to a stop at its height",
+    ] {
+        assert!(drawn.contains(part), "{part}");
+    }
+    let mut sheet = Sheet::example();
+    sheet.edition = 2;
+    let drawn = draw(&sheet.write(), None);
+    assert!(drawn.contains("here all of them are 0") && !drawn.contains(">plan<"));
+    assert!(drawn.contains("the sum of the differences of both"));
+}
+
 /// Every table full: the size and form of the largest drawing.
 #[test]
 fn full_tables() {

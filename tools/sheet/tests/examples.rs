@@ -44,9 +44,9 @@ fn a_text_is_no_sheet() {
     let explained = run(&["explain", lobby.to_str().unwrap()], b"");
     let said = "\
 refused 3 at 0
-Head (bit 0): edition is 35, but this bench reads edition 1.
-rule 3: The edition in the first 8 bits is not 1.
-to do: Have the sheet written as edition 1, or take a bench that reads its edition. The file may also be no sheet at all, or not the right one. If the writer is not at fault, the file may have been changed on its way: fetch it again, in binary.
+Head (bit 0): edition is 35, but this bench reads editions 1 and 2.
+rule 3: The edition in the first 8 bits is not 1 or 2.
+to do: Have the sheet written as edition 1 or 2, or take a bench that reads its edition. The file may also be no sheet at all, or not the right one. If the writer is not at fault, the file may have been changed on its way: fetch it again, in binary.
 hint: If this is a sheet's text, `sheet write` turns it into a sheet.
 ";
     assert_eq!(text(&explained.stdout), said);
@@ -91,7 +91,7 @@ fn passes_as_stored() {
             assert_eq!(lines.lines().count(), 1);
         }
     }
-    assert_eq!(passes, 9);
+    assert_eq!(passes, 11);
     let example = run(&["pass", "-"], &sheetgen::Sheet::example().write());
     let stored = std::fs::read(here("../../crates/passprint/stdout")).unwrap();
     assert_eq!(example.stdout, stored);
@@ -118,6 +118,38 @@ fn a_first_release_is_named() {
     }
     let example = explain::explain(&sheetgen::Sheet::example().write());
     assert!(!example.contains("first release"), "{example}");
+}
+
+/// An accepted sheet of edition 2 is explained with what a host whose bench reads edition 1 alone says of it.
+#[test]
+fn a_bench_of_edition_1_is_named() {
+    for profile in [Profile::Sideways, Profile::Level] {
+        for index in 0..200 {
+            let said = explain::explain(&generate(profile, 11, index));
+            assert!(said.starts_with("accepted\n"), "{said}");
+            let words = " If it is 3 at 0, the host has a bench that reads edition 1 alone:";
+            assert!(said.contains(words), "{said}");
+        }
+    }
+    let example = explain::explain(&sheetgen::Sheet::example().write());
+    assert!(!example.contains("edition"), "{example}");
+}
+
+/// An edition 2 sheet whose second coordinates are zeros of either sign is passed as its edition 1 twin, which is document 01's example.
+#[test]
+fn a_twin_answers_alike() {
+    let path = here("examples/edition_2.txt");
+    let bytes = run(&["write", path.to_str().unwrap()], b"").stdout;
+    assert_eq!(
+        sheetgen::twin::twin(&bytes),
+        sheetgen::Sheet::example().write()
+    );
+    let passes = [
+        path.with_extension("pass"),
+        here("examples/document_01.pass"),
+    ];
+    let [second, first] = passes.map(|path| text(&std::fs::read(path).unwrap()));
+    assert_eq!(second, first);
 }
 
 /// Held cells are said of an accepted sheet where its pass has some, and nowhere else.

@@ -60,6 +60,33 @@ fn numbers_and_long_lines() {
     assert!(car.contains(" position=2000000 ") && car.ends_with(",4000000062 car_calls=none"));
 }
 
+/// Edition 2 is said by the first line; a record with a length of edition 1 is raw there, and so is one of edition 2 in edition 1.
+#[test]
+fn editions() {
+    let mut sheet = sheetgen::Sheet::example();
+    sheet.edition = 2;
+    sheet.stops[1].across = 12.5;
+    sheet.cars[0].across = -0.0;
+    let bytes = sheet.write();
+    let shown = show::show(&bytes);
+    let lines: Vec<&str> = shown.lines().collect();
+    assert_eq!(lines[1], "sheet edition=2");
+    assert_eq!(lines[4], "stop id=2 position=10 across=12.5");
+    assert!(
+        lines[7].contains(" position=0 across=-0 max_speed=2 "),
+        "{shown}"
+    );
+    assert_eq!(again(&bytes), bytes);
+    for (edition, of) in [(1, &bytes), (2, &sheetgen::Sheet::example().write())] {
+        let mut other = of.clone();
+        other[0] = edition;
+        let shown = show::show(&other);
+        assert_eq!(shown.matches("\nrecord kind=2 ").count(), 3, "{shown}");
+        assert_eq!(shown.matches("\nrecord kind=4 ").count(), 2, "{shown}");
+        assert_eq!(again(&other), other);
+    }
+}
+
 /// A closed landing is a line of its own; the comment counts them where there are some.
 #[test]
 fn closed_landings() {

@@ -103,12 +103,14 @@ mod timed {
             written("examples/lobby.txt"),
             written("examples/travel/far.txt"),
         );
+        let sideways = written("examples/sideways.txt");
         let fast = with(&RATES, &["--speed", "1.5"]);
         let stored = |name: &str| text(&std::fs::read(here("examples/travel").join(name)).unwrap());
         for (sheet, rates, name) in [
             (&lobby, &RATES[..], "lobby"),
             (&lobby, &fast, "lobby_moving"),
             (&far, &RATES, "far"),
+            (&sideways, &RATES, "sideways"),
         ] {
             let lines = output(&with(&["pass", "-"], rates), sheet);
             assert_eq!(lines, stored(&format!("{name}.pass")), "{name}");
@@ -231,7 +233,7 @@ mod timed {
                             timed += 1;
                         }
                         Err(_) => {
-                            assert!((car.position - stop.position).abs() > 1e6);
+                            assert!(car.distance(stop) > 1e6);
                             assert_eq!(added, " refused 21");
                             refused += 1;
                         }

@@ -20,6 +20,13 @@ fn mask(mask: u64, stops: usize) -> String {
 
 pub fn describe(sheet: &Sheet) -> String {
     let mut out = String::new();
+    if sheet.edition != 1 {
+        let _ = writeln!(out, "edition {}", sheet.edition);
+    }
+    let across = |value: f64| match sheet.edition {
+        2 => format!(" across {}", double(value)),
+        _ => String::new(),
+    };
     let p = &sheet.policy;
     let strategy = ["ETD", "RSR", "SCAN", "3"][usize::from(p.strategy)];
     let weights: Vec<_> = p.weights.iter().map(|w| double(*w)).collect();
@@ -32,7 +39,8 @@ pub fn describe(sheet: &Sheet) -> String {
         weights.join(" ")
     );
     for s in &sheet.stops {
-        let _ = writeln!(out, "stop {} at {}", s.id, double(s.position));
+        let beside = across(s.across);
+        let _ = writeln!(out, "stop {} at {}{beside}", s.id, double(s.position));
     }
     let n = sheet.stops.len();
     for l in &sheet.lines {
@@ -41,7 +49,7 @@ pub fn describe(sheet: &Sheet) -> String {
     for c in &sheet.cars {
         let _ = writeln!(
             out,
-            "car {} line {} phase {} stop {} target {}{}{}{} sweep {} {} at {} speed {} capacity {} load {} \
+            "car {} line {} phase {} stop {} target {}{}{}{} sweep {} {} at {}{} speed {} capacity {} load {} \
              thresholds {} {} ticks {} {} restricted {} calls {}",
             c.id,
             c.line,
@@ -54,6 +62,7 @@ pub fn describe(sheet: &Sheet) -> String {
             if c.sweep_down { "down" } else { "up" },
             if c.lenient { "lenient" } else { "strict" },
             double(c.position),
+            across(c.across),
             double(c.speed),
             double(c.capacity),
             double(c.load),

@@ -5,8 +5,8 @@ use crate::bits;
 use crate::provoke;
 use crate::rng::Rng;
 use crate::sheet::{
-    Aboard, BODY_BITS, Car, Demand, ETD, HEAD_BITS, KINDS, Line, NO_LIMIT, Policy,
-    RECORD_HEAD_BITS, RSR, SCAN, Sheet, Stop, Waiting, mask_bit,
+    ACROSS_BITS, Aboard, Car, Demand, ETD, HEAD_BITS, KINDS, Line, NO_LIMIT, Policy,
+    RECORD_HEAD_BITS, RSR, SCAN, Sheet, Stop, Waiting, across_at, body_bits, field_at, mask_bit,
 };
 
 #[derive(Clone, Copy, Debug, PartialEq, Eq)]
@@ -39,9 +39,15 @@ pub enum Profile {
     Load,
     /// Accepted, ETD and RSR with costs at the ceiling, within last places of it, and above.
     Ceiling,
+    /// Accepted, edition 2, of the other accepted profiles, with second coordinates.
+    Sideways,
+    /// Accepted, edition 2, of the other accepted profiles; every second coordinate is a zero of either sign.
+    Level,
+    /// Sheets of edition 2 after one to three damages; some are still accepted.
+    DamagedSideways,
 }
 
-pub const PROFILES: [(&str, Profile); 14] = [
+pub const PROFILES: [(&str, Profile); 17] = [
     ("valid", Profile::Valid),
     ("full", Profile::Full),
     ("ties", Profile::Ties),
@@ -53,7 +59,10 @@ pub const PROFILES: [(&str, Profile); 14] = [
     ("load", Profile::Load),
     ("ceiling", Profile::Ceiling),
     ("closed", Profile::Closed),
+    ("sideways", Profile::Sideways),
+    ("level", Profile::Level),
     ("damaged", Profile::Damaged),
+    ("damaged-sideways", Profile::DamagedSideways),
     ("provoked", Profile::Provoked),
     ("garbage", Profile::Garbage),
 ];
@@ -66,18 +75,58 @@ pub fn profile(name: &str) -> Option<Profile> {
 pub fn generate(profile: Profile, seed: u64, index: u64) -> Vec<u8> {
     let rng = &mut Rng::new(seed, profile as u64, index);
     match profile {
-        Profile::Damaged => {
-            let mut bytes = any_small(rng).write();
-            for _ in 0..1 + rng.below(3) {
-                damage(rng, &mut bytes);
-            }
-            bytes
+        Profile::Damaged => damaged(rng, |_, _| {}),
+        Profile::DamagedSideways => damaged(rng, sideways),
+        Profile::Sideways => {
+            of_edition_2(rng, |maker, sheet| maker.second_coordinates(sheet)).write()
         }
+        Profile::Level => of_edition_2(rng, |maker, sheet| maker.zeros(sheet)).write(),
         Profile::Provoked => provoke::provoke(rng, index).bytes,
         Profile::Garbage => garbage(rng),
         Profile::Closed => with_closures(rng).write(),
         _ => accepted(profile, rng).write(),
     }
+}
+
+/// A small sheet, changed first, after one to three damages.
+fn damaged(rng: &mut Rng, change: fn(&mut Rng, &mut Sheet)) -> Vec<u8> {
+    let mut sheet = any_small(rng);
+    change(rng, &mut sheet);
+    let mut bytes = sheet.write();
+    for _ in 0..1 + rng.below(3) {
+        damage(rng, &mut bytes);
+    }
+    bytes
+}
+
+/// What an accepted sheet is given before its profile shapes it.
+type Change = fn(&mut Maker, &mut Sheet);
+
+/// A sheet of another accepted profile in edition 2, some with closed landings.
+fn of_edition_2(rng: &mut Rng, change: Change) -> Sheet {
+    let profile = rng.pick(&[
+        Profile::Valid,
+        Profile::Ties,
+        Profile::Near,
+        Profile::Extreme,
+        Profile::Limits,
+        Profile::Fine,
+        Profile::Cover,
+        Profile::Load,
+        Profile::Ceiling,
+    ]);
+    let full = rng.one_in(200);
+    let mut sheet = shaped(if full { Profile::Full } else { profile }, rng, change);
+    if rng.one_in(8) && !sheet.stops.is_empty() {
+        close(rng, &mut sheet);
+    }
+    sheet
+}
+
+/// Makes a sheet one of edition 2, with ordinary second coordinates.
+pub fn sideways(rng: &mut Rng, sheet: &mut Sheet) {
+    let profile = Profile::Valid;
+    Maker { rng, profile }.second_coordinates(sheet);
 }
 
 /// A valid sheet of a strategy with so many stops, cars and riders, on one line for every eight cars.
@@ -111,6 +160,14 @@ pub fn sized(
 pub fn crowded(profile: Profile, strategy: u8, seed: u64, index: u64) -> Sheet {
     let source = 2000 + 10 * profile as u64 + u64::from(strategy);
     let rng = &mut Rng::new(seed, source, index);
+    let is_sideways = profile == Profile::Sideways;
+    let profile = match index % 4 {
+        _ if !is_sideways => profile,
+        0 => Profile::Valid,
+        1 => Profile::Ties,
+        2 => Profile::Near,
+        _ => Profile::Extreme,
+    };
     let size = Size {
         stops: 12 + rng.below(13),
         lines: 1 + rng.below(3),
@@ -122,6 +179,9 @@ pub fn crowded(profile: Profile, strategy: u8, seed: u64, index: u64) -> Sheet {
     let mut maker = Maker { rng, profile };
     let mut sheet = maker.sheet(&size);
     sheet.policy = maker.policy_of(strategy);
+    if is_sideways {
+        maker.second_coordinates(&mut sheet);
+    }
     match profile {
         Profile::Fine if strategy != SCAN => cancel(rng, &mut sheet),
         Profile::Load => loads(rng, &mut sheet),
@@ -131,14 +191,21 @@ pub fn crowded(profile: Profile, strategy: u8, seed: u64, index: u64) -> Sheet {
     sheet
 }
 
-/// A sheet of one of the accepted profiles.
+/// A sheet of one of the accepted profiles, of edition 1.
 pub fn accepted(profile: Profile, rng: &mut Rng) -> Sheet {
+    shaped(profile, rng, |_, _| {})
+}
+
+/// The same, changed before the profile shapes it.
+fn shaped(profile: Profile, rng: &mut Rng, change: Change) -> Sheet {
     let size = if profile == Profile::Full {
         Size::full(rng)
     } else {
         Size::any(rng, profile)
     };
-    let mut sheet = Maker { rng, profile }.sheet(&size);
+    let mut maker = Maker { rng, profile };
+    let mut sheet = maker.sheet(&size);
+    change(&mut maker, &mut sheet);
     match profile {
         Profile::Fine => cancel(rng, &mut sheet),
         Profile::Cover => cover(rng, &mut sheet),
@@ -210,13 +277,8 @@ fn cancel(rng: &mut Rng, sheet: &mut Sheet) {
     let Some(car) = sheet.cars.iter().find(|c| c.idle && c.speed > 0.0) else {
         return;
     };
-    let at = sheet
-        .stops
-        .iter()
-        .find(|s| s.id == w.stop)
-        .unwrap()
-        .position;
-    let travel = (car.position - at).abs() / car.speed;
+    let at = sheet.stops.iter().find(|s| s.id == w.stop).unwrap();
+    let travel = car.distance(at) / car.speed;
     let here = sheet.waiting.iter().filter(|v| v.stop == w.stop);
     let (mut sum, mut squares) = (0.0, 0.0);
     for v in here {
@@ -409,10 +471,10 @@ fn to_the_ceiling(rng: &mut Rng, sheet: &mut Sheet) {
         return;
     }
     let stop = rng.pick(&wanted);
-    let at = sheet.stops.iter().find(|s| s.id == stop).unwrap().position;
+    let at = sheet.stops.iter().find(|s| s.id == stop).unwrap();
     let first = &sheet.cars[rng.pick(&idle)];
-    let (position, speed) = (first.position, first.speed);
-    let travel = (position - at).abs() / speed;
+    let (position, across, speed) = (first.position, first.across, first.speed);
+    let travel = first.distance(at) / speed;
     if travel < 0.3 {
         return;
     }
@@ -421,7 +483,7 @@ fn to_the_ceiling(rng: &mut Rng, sheet: &mut Sheet) {
         if car.position != position && rng.flag() {
             continue;
         }
-        (car.position, car.speed) = (position, speed);
+        (car.position, car.across, car.speed) = (position, across, speed);
         (car.phase, car.stop, car.target) = (rng.pick(&[3, 4, 5, 6]), 0, None);
         (car.load, car.capacity) = (0.0, 1e9);
         (car.going_up, car.going_down) = (true, true);
@@ -569,8 +631,8 @@ impl Maker<'_> {
             } else {
                 0
             };
-            let position = self.position(&sheet.stops);
-            sheet.stops.push(Stop { id, position });
+            let position = self.position(&positions(&sheet.stops));
+            sheet.stops.push(Stop::at(id, position));
         }
         for k in 0..size.lines {
             let id = self.fresh(sheet.lines.iter().map(|l| l.id).collect());
@@ -724,14 +786,50 @@ impl Maker<'_> {
         }
     }
 
-    fn position(&mut self, stops: &[Stop]) -> f64 {
+    /// Edition 2: stops and cars get second coordinates.
+    fn second_coordinates(&mut self, sheet: &mut Sheet) {
+        sheet.edition = 2;
+        let mut taken = Vec::new();
+        for stop in &mut sheet.stops {
+            stop.across = self.across(&taken);
+            taken.push(stop.across);
+        }
+        for car in &mut sheet.cars {
+            let here = sheet.stops.iter().find(|s| s.position == car.position);
+            car.across = match here {
+                Some(stop) if self.rng.flag() => stop.across,
+                _ => self.across(&taken),
+            };
+        }
+    }
+
+    /// One as positions are, or one of those that are taken, or a zero of either sign.
+    fn across(&mut self, taken: &[f64]) -> f64 {
+        match self.rng.below(6) {
+            0 => self.rng.pick(&[0.0, -0.0]),
+            1 | 2 if !taken.is_empty() => self.rng.pick(taken),
+            _ => self.position(taken),
+        }
+    }
+
+    /// Edition 2: every second coordinate is a zero, of either sign.
+    fn zeros(&mut self, sheet: &mut Sheet) {
+        sheet.edition = 2;
+        let stops = sheet.stops.iter_mut().map(|s| &mut s.across);
+        for across in stops.chain(sheet.cars.iter_mut().map(|c| &mut c.across)) {
+            *across = self.rng.pick(&[0.0, -0.0]);
+        }
+    }
+
+    /// A coordinate, by the profile; near ones are near to those that are taken.
+    fn position(&mut self, taken: &[f64]) -> f64 {
         match self.profile {
             Profile::Ties if self.rng.flag() => self.rng.below(1024) as f64 / 128.0,
             Profile::Ties => self.rng.below(6) as f64 - 1.0,
             Profile::Fine => self.rng.between(-1e6, 1e6),
             Profile::Near => {
-                let base = if !stops.is_empty() && self.rng.flag() {
-                    stops[self.rng.below(stops.len())].position
+                let base = if !taken.is_empty() && self.rng.flag() {
+                    taken[self.rng.below(taken.len())]
                 } else {
                     self.rng
                         .pick(&[0.0, -0.0, 1.0, -1.0, 1.0, 1000.0, 0.1, 999_999.0])
@@ -850,7 +948,7 @@ impl Maker<'_> {
         let position = if !sheet.stops.is_empty() && self.rng.one_in(3) {
             sheet.stops[self.rng.below(sheet.stops.len())].position
         } else {
-            self.position(&sheet.stops)
+            self.position(&positions(&sheet.stops))
         };
         let speed = match (self.profile, self.rng.below(8)) {
             (_, 0) if self.rng.one_in(3) => self.rng.pick(&[0.0, -0.0]),
@@ -888,6 +986,7 @@ impl Maker<'_> {
             sweep_down: self.rng.flag(),
             lenient: self.rng.flag(),
             position,
+            across: 0.0,
             speed,
             capacity,
             load,
@@ -946,6 +1045,10 @@ impl Maker<'_> {
     }
 }
 
+fn positions(stops: &[Stop]) -> Vec<f64> {
+    stops.iter().map(|s| s.position).collect()
+}
+
 /// `value` moved by some units in the last place, kept within a position's range.
 fn ulps(value: f64, by: i64) -> f64 {
     // Doubles in rising order are consecutive whole numbers, minus zero left out.
@@ -981,8 +1084,16 @@ pub fn records(bytes: &[u8]) -> Vec<(usize, usize)> {
     found
 }
 
-/// Starts and widths of the fields of a body, optional ones with their present bit apart.
-pub const FIELDS: [&[(usize, usize)]; KINDS + 1] = [
+/// Starts and widths of the fields of a body in an edition, optional ones with their present bit apart.
+pub fn fields(edition: u64, kind: usize) -> Vec<(usize, usize)> {
+    let moved = |(from, width): &(usize, usize)| (field_at(edition, kind, *from), *width);
+    let across = across_at(kind).filter(|_| edition == 2);
+    let across = across.map(|from| (from, ACROSS_BITS));
+    FIELDS[kind].iter().map(moved).chain(across).collect()
+}
+
+/// Those of edition 1.
+const FIELDS: [&[(usize, usize)]; KINDS + 1] = [
     &[],
     &[
         (0, 2),
@@ -1040,6 +1151,7 @@ pub const FIELDS: [&[(usize, usize)]; KINDS + 1] = [
 /// One damage.
 fn damage(rng: &mut Rng, bytes: &mut Vec<u8>) {
     let size = bytes.len() * 8;
+    let edition = bytes.first().map_or(1, |first| u64::from(*first));
     match rng.below(12) {
         0..=2 => {
             for _ in 0..1 + rng.below(3) {
@@ -1065,8 +1177,13 @@ fn damage(rng: &mut Rng, bytes: &mut Vec<u8>) {
             bits::set(bytes, 8, 16, count & 0xffff);
         }
         6 => {
+            // One in four is an edition that there is.
             if let Some(first) = bytes.first_mut() {
-                *first = rng.next() as u8;
+                let other = rng.next();
+                *first = match other >> 8 & 7 {
+                    edition @ 1..=2 => edition as u8,
+                    _ => other as u8,
+                };
             }
         }
         7 => {
@@ -1077,9 +1194,9 @@ fn damage(rng: &mut Rng, bytes: &mut Vec<u8>) {
                 if rng.flag() {
                     bits::set(bytes, at, 6, rng.next() % 11);
                 } else {
-                    let near = BODY_BITS[kind.min(KINDS)] as u64;
-                    let length =
-                        rng.pick(&[near + 1, near.wrapping_sub(1) & 0xffff, 0, 65_535, 96, 65]);
+                    let near = body_bits(edition, kind.min(KINDS)) as u64;
+                    let below = near.wrapping_sub(1) & 0xffff;
+                    let length = rng.pick(&[near + 1, below, 0, 65_535, 96, 65, 160, 779, 715]);
                     bits::set(bytes, at + 6, 16, length);
                 }
             }
@@ -1092,7 +1209,7 @@ fn damage(rng: &mut Rng, bytes: &mut Vec<u8>) {
                 .collect();
             if !found.is_empty() {
                 let (at, kind) = found[rng.below(found.len())];
-                let (from, width) = FIELDS[kind][rng.below(FIELDS[kind].len())];
+                let (from, width) = rng.pick(&fields(edition, kind));
                 if at + RECORD_HEAD_BITS + from + width <= size {
                     let value = odd_value(rng, width);
                     bits::set(bytes, at + RECORD_HEAD_BITS + from, width, value);
@@ -1142,13 +1259,15 @@ fn garbage(rng: &mut Rng) -> Vec<u8> {
         bytes.iter_mut().for_each(|b| *b = 0);
     }
     if size >= 3 && !rng.one_in(4) {
-        bits::set(&mut bytes, 0, 8, 1);
+        let edition = 1 + rng.next() % 2;
+        bits::set(&mut bytes, 0, 8, edition);
         bits::set(&mut bytes, 8, 16, rng.next() % 5);
         if size >= 6 && !rng.one_in(4) {
             let kind = rng.below(10);
             bits::set(&mut bytes, 24, 6, kind as u64);
             if !rng.one_in(4) {
-                bits::set(&mut bytes, 30, 16, BODY_BITS[kind.min(KINDS)] as u64);
+                let length = body_bits(edition, kind.min(KINDS));
+                bits::set(&mut bytes, 30, 16, length as u64);
             }
         }
     }
@@ -1165,7 +1284,7 @@ mod tests {
         for (name, profile) in PROFILES {
             if matches!(
                 profile,
-                Profile::Damaged | Profile::Provoked | Profile::Garbage
+                Profile::Damaged | Profile::DamagedSideways | Profile::Provoked | Profile::Garbage
             ) {
                 continue;
             }
@@ -1184,7 +1303,7 @@ mod tests {
     #[test]
     fn crowded_sheets_are_accepted_and_of_their_strategy() {
         let but_closed = PROFILES.iter().filter(|p| p.1 != Profile::Closed);
-        for (name, profile) in but_closed.take(10) {
+        for (name, profile) in but_closed.take(11) {
             for strategy in [ETD, RSR, SCAN] {
                 for index in 0..1000 {
                     let sheet = crowded(*profile, strategy, 3, index);
@@ -1215,6 +1334,32 @@ mod tests {
         }
         let enough = demanded > 1_500 && wanted > 500 && other > 100;
         assert!(enough, "{demanded} {wanted} {other}");
+    }
+
+    /// Every sheet of edition 2 is one, and what tells the two coordinates apart is there: cars and stops that differ in one, in the
+    /// other and in both; of a level sheet zeros of both signs and nothing else.
+    #[test]
+    fn second_coordinates_are_there() {
+        let mut seen = [0; 4];
+        let mut zeros = [0; 2];
+        for index in 0..2_000 {
+            let sheet = Sheet::of_accepted(&generate(Profile::Sideways, 3, index));
+            assert_eq!(sheet.edition, 2, "{index}");
+            for car in &sheet.cars {
+                for stop in &sheet.stops {
+                    let differs = [car.position != stop.position, car.across != stop.across];
+                    seen[usize::from(differs[0]) + 2 * usize::from(differs[1])] += 1;
+                }
+            }
+            let sheet = Sheet::of_accepted(&generate(Profile::Level, 3, index));
+            assert!(sheet.edition == 2 && !sheet.runs_sideways(), "{index}");
+            let cars = sheet.cars.iter().map(|c| c.across);
+            for across in cars.chain(sheet.stops.iter().map(|s| s.across)) {
+                zeros[usize::from(across.is_sign_negative())] += 1;
+            }
+        }
+        assert!(seen.iter().all(|often| *often > 1_000), "{seen:?}");
+        assert!(zeros.iter().all(|often| *often > 1_000), "{zeros:?}");
     }
 
     /// Every sheet weighs loads, no idle-listed car is in phase idle, and what the term is made of is there: ratios between 0
@@ -1286,9 +1431,9 @@ mod tests {
 
     /// The most that a sheet can hold: each kind at its most, a demand and a closure for each stop.
     #[test]
-    fn the_longest_sheet_has_26_515_bytes() {
+    fn the_longest_sheets_have_26_515_and_27_283_bytes() {
         let mut sheet = Sheet::new(SCAN);
-        sheet.stops = (1..=64).map(|id| Stop { id, position: 0.0 }).collect();
+        sheet.stops = (1..=64).map(|id| Stop::at(id, 0.0)).collect();
         sheet.lines = (1..=8).map(|id| Line { id, mask: 0 }).collect();
         let car = |id| Car {
             id,
@@ -1318,6 +1463,9 @@ mod tests {
         sheet.closed = (1..=64).collect();
         let bytes = sheet.write();
         assert_eq!((bytes.len(), read(&bytes)), (26_515, None));
+        sheet.edition = 2;
+        let bytes = sheet.write();
+        assert_eq!((bytes.len(), read(&bytes)), (27_283, None));
     }
 
     #[test]

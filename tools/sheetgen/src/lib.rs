@@ -15,6 +15,7 @@ pub mod sheet;
 pub mod shrink;
 pub mod store;
 pub mod stores;
+pub mod twin;
 
 pub use reader::{Refusal, read};
 pub use sheet::{Aboard, Car, Demand, Line, Policy, Sheet, Stop, Waiting};

@@ -1,15 +1,15 @@
-//! Each refusal on purpose: a small accepted sheet, one record spoilt in one way, and the number and
-//! place that document 01, or for kind 8 document 02, then gives. The expectation is stated here by the way of spoiling and not by
+//! Each refusal on purpose: a small accepted sheet of edition 1 or 2, one record spoilt in one way, and the number and
+//! place that document 01, or for kind 8 and edition 2 document 02, then gives. The expectation is stated here by the way of spoiling and not by
 //! the reader, so that the two check each other. Some ways change a value to one just inside its range, or to a load
 //! weight of RSR, which is no fault any more; there the sheet stays accepted.
 
 use crate::bits::{self, Writer};
-use crate::generate::{any_small, close, records};
+use crate::generate::{any_small, close, records, sideways};
 use crate::reader::Refusal;
 use crate::rng::Rng;
 use crate::sheet::{
-    Aboard, BODY_BITS, Car, ETD, HEAD_BITS, KINDS, Line, MOST, NO_LIMIT, RECORD_HEAD_BITS, RSR,
-    SCAN, Sheet, Stop, Waiting,
+    Aboard, Car, ETD, HEAD_BITS, KINDS, Line, MOST, NO_LIMIT, RECORD_HEAD_BITS, RSR, SCAN, Sheet,
+    Stop, Waiting, body_bits, field_at,
 };
 
 pub struct Provoked {
@@ -38,6 +38,7 @@ const WAYS: &[Way] = &[
     other_edition,
     unknown_kind,
     wrong_length,
+    lengths_of_the_other_edition,
     empty_count,
     no_policy_first,
     kinds_fall,
@@ -97,9 +98,23 @@ fn accepted(name: &'static str, bytes: Vec<u8>) -> Provoked {
     }
 }
 
+/// A small accepted sheet of either edition.
+fn small(rng: &mut Rng) -> Sheet {
+    let mut sheet = any_small(rng);
+    if rng.flag() {
+        sideways(rng, &mut sheet);
+    }
+    sheet
+}
+
+/// The edition that bytes state.
+fn edition(bytes: &[u8]) -> u64 {
+    u64::from(bytes[0])
+}
+
 /// A small accepted sheet with at least one record of each kind.
 fn with_closed(rng: &mut Rng) -> Sheet {
-    let mut sheet = any_small(rng);
+    let mut sheet = small(rng);
     if sheet.closed.is_empty() {
         close(rng, &mut sheet);
     }
@@ -125,17 +140,17 @@ fn rows(bytes: &[u8]) -> Vec<Vec<u64>> {
     records(bytes)
         .iter()
         .map(|(at, kind)| {
-            (*at..body(*at) + BODY_BITS[*kind])
+            (*at..body(*at) + body_bits(edition(bytes), *kind))
                 .map(|k| bits::get(bytes, k, 1))
                 .collect()
         })
         .collect()
 }
 
-/// Rows put together under a stated count, and where each starts.
-fn assemble(rows: &[Vec<u64>], count: usize) -> (Vec<u8>, Vec<usize>) {
+/// Rows of a sheet put together under its edition and a stated count, and where each starts.
+fn assemble(of: &[u8], rows: &[Vec<u64>], count: usize) -> (Vec<u8>, Vec<usize>) {
     let mut w = Writer::default();
-    w.put(8, 1);
+    w.put(8, edition(of));
     w.put(16, count as u64);
     let mut starts = Vec::new();
     for row in rows {
@@ -153,7 +168,7 @@ fn pick_record(rng: &mut Rng, bytes: &[u8]) -> (usize, usize) {
 }
 
 fn short_head(rng: &mut Rng) -> Provoked {
-    let mut bytes = any_small(rng).write();
+    let mut bytes = small(rng).write();
     bytes.truncate(rng.below(3));
     if let Some(first) = bytes.first_mut() {
         *first = rng.next() as u8;
@@ -163,7 +178,7 @@ fn short_head(rng: &mut Rng) -> Provoked {
 
 /// Fewer than a record's 22 bits are left. The bytes end with the record before it or inside its head.
 fn cut_record_head(rng: &mut Rng) -> Provoked {
-    let mut bytes = any_small(rng).write();
+    let mut bytes = small(rng).write();
     let (at, _) = pick_record(rng, &bytes);
     let least = at.div_ceil(8);
     let most = (at + RECORD_HEAD_BITS - 1) / 8;
@@ -172,17 +187,17 @@ fn cut_record_head(rng: &mut Rng) -> Provoked {
 }
 
 fn cut_body(rng: &mut Rng) -> Provoked {
-    let mut bytes = any_small(rng).write();
+    let mut bytes = small(rng).write();
     let (at, kind) = pick_record(rng, &bytes);
     let least = body(at).div_ceil(8);
-    let most = (body(at) + BODY_BITS[kind] - 1) / 8;
+    let most = (body(at) + body_bits(edition(&bytes), kind) - 1) / 8;
     bytes.truncate(least + rng.below(most - least + 1));
     refused("cut body", bytes, 2, at)
 }
 
 /// Whatever the kind.
 fn stated_body_past_the_end(rng: &mut Rng) -> Provoked {
-    let mut bytes = any_small(rng).write();
+    let mut bytes = small(rng).write();
     let (at, _) = pick_record(rng, &bytes);
     let room = bytes.len() * 8 - body(at);
     let length = if rng.flag() { room + 1 } else { 65_535 };
@@ -194,7 +209,7 @@ fn stated_body_past_the_end(rng: &mut Rng) -> Provoked {
 }
 
 fn more_stated_than_there(rng: &mut Rng) -> Provoked {
-    let sheet = any_small(rng);
+    let sheet = small(rng);
     let mut bytes = sheet.write();
     let by = 1 + rng.below(3) as u64;
     bits::set(&mut bytes, 8, 16, sheet.records() as u64 + by);
@@ -204,8 +219,8 @@ fn more_stated_than_there(rng: &mut Rng) -> Provoked {
 }
 
 fn other_edition(rng: &mut Rng) -> Provoked {
-    let mut bytes = any_small(rng).write();
-    bytes[0] = rng.pick(&[0, 2, 3, 129, 255]);
+    let mut bytes = small(rng).write();
+    bytes[0] = rng.pick(&[0, 3, 4, 129, 255]);
     if rng.flag() {
         bytes.truncate(3 + rng.below(bytes.len() - 2));
     }
@@ -216,7 +231,7 @@ fn other_edition(rng: &mut Rng) -> Provoked {
 }
 
 fn unknown_kind(rng: &mut Rng) -> Provoked {
-    let mut bytes = any_small(rng).write();
+    let mut bytes = small(rng).write();
     let (at, _) = pick_record(rng, &bytes);
     let kind = if rng.one_in(3) { 0 } else { 9 + rng.below(55) };
     bits::set(&mut bytes, at, 6, kind as u64);
@@ -228,15 +243,16 @@ fn unknown_kind(rng: &mut Rng) -> Provoked {
 }
 
 fn wrong_length(rng: &mut Rng) -> Provoked {
-    let mut bytes = any_small(rng).write();
+    let mut bytes = small(rng).write();
     let (at, kind) = pick_record(rng, &bytes);
     let room = bytes.len() * 8 - body(at);
-    let right = BODY_BITS[kind];
-    let length = match rng.below(5) {
+    let right = body_bits(edition(&bytes), kind);
+    let length = match rng.below(6) {
         0 => right - 1,
         1 => right + 1,
         2 => 0,
-        3 => BODY_BITS[1 + rng.below(KINDS)],
+        3 => body_bits(1 + rng.next() % 2, 1 + rng.below(KINDS)),
+        4 => body_bits(3 - edition(&bytes), kind),
         _ => rng.below(room + 1),
     };
     let length = if length > room || length == right {
@@ -247,14 +263,22 @@ fn wrong_length(rng: &mut Rng) -> Provoked {
     bits::set(&mut bytes, at + 6, 16, length as u64);
     // A wrong length is 5 whatever the order.
     let other = 1 + rng.below(KINDS);
-    if rng.one_in(3) && BODY_BITS[other] != length {
+    if rng.one_in(3) && body_bits(edition(&bytes), other) != length {
         bits::set(&mut bytes, at, 6, other as u64);
     }
     refused("wrong length", bytes, 5, at)
 }
 
+/// The lengths of the stops, and of the cars, are those of the other edition.
+fn lengths_of_the_other_edition(rng: &mut Rng) -> Provoked {
+    let mut bytes = small(rng).write();
+    bytes[0] = 3 - bytes[0];
+    let at = start(&bytes, 2, 0);
+    refused("lengths of the other edition", bytes, 5, at)
+}
+
 fn empty_count(rng: &mut Rng) -> Provoked {
-    let mut bytes = any_small(rng).write();
+    let mut bytes = small(rng).write();
     bits::set(&mut bytes, 8, 16, 0);
     if rng.flag() {
         bytes.truncate(3);
@@ -263,10 +287,11 @@ fn empty_count(rng: &mut Rng) -> Provoked {
 }
 
 fn no_policy_first(rng: &mut Rng) -> Provoked {
-    let mut rows = rows(&any_small(rng).write());
+    let whole = small(rng).write();
+    let mut rows = rows(&whole);
     let skip = 1 + rng.below(rows.len() - 1);
     rows.drain(..skip);
-    let (bytes, _) = assemble(&rows, rows.len());
+    let (bytes, _) = assemble(&whole, &rows, rows.len());
     refused("no policy first", bytes, 6, 24)
 }
 
@@ -276,7 +301,8 @@ fn kind_of(row: &[u64]) -> u64 {
 
 /// A record moves behind one of a higher kind.
 fn kinds_fall(rng: &mut Rng) -> Provoked {
-    let mut rows = rows(&any_small(rng).write());
+    let whole = small(rng).write();
+    let mut rows = rows(&whole);
     let from = rng.below(rows.len() - 1);
     let kind = kind_of(&rows[from]);
     let later: Vec<usize> = (0..rows.len())
@@ -289,16 +315,17 @@ fn kinds_fall(rng: &mut Rng) -> Provoked {
     let to = later[rng.below(later.len())];
     let copy = rows[from].clone();
     rows.insert(to, copy);
-    let (bytes, starts) = assemble(&rows, rows.len());
+    let (bytes, starts) = assemble(&whole, &rows, rows.len());
     refused("kinds fall", bytes, 6, starts[to])
 }
 
 fn one_policy_too_many(rng: &mut Rng) -> Provoked {
-    let mut rows = rows(&any_small(rng).write());
+    let whole = small(rng).write();
+    let mut rows = rows(&whole);
     let mut copy = rows[0].clone();
     scramble(rng, &mut copy);
     rows.insert(1, copy);
-    let (bytes, starts) = assemble(&rows, rows.len());
+    let (bytes, starts) = assemble(&whole, &rows, rows.len());
     refused("one policy too many", bytes, 7, starts[1])
 }
 
@@ -313,17 +340,14 @@ fn scramble(rng: &mut Rng, row: &mut [u64]) {
 
 /// A sheet with the most records of each kind but demand.
 fn full(rng: &mut Rng) -> Sheet {
-    let mut sheet = any_small(rng);
+    let mut sheet = small(rng);
     sheet.demands.clear();
     let last = sheet.stops.last().unwrap().id;
     for k in 1.. {
         if sheet.stops.len() == MOST[2] {
             break;
         }
-        sheet.stops.push(Stop {
-            id: last + k,
-            position: f64::from(k),
-        });
+        sheet.stops.push(Stop::at(last + k, f64::from(k)));
     }
     let unused = |taken: &dyn Fn(u32) -> bool| (1..).find(|id| !taken(*id)).unwrap();
     while sheet.lines.len() < MOST[3] {
@@ -363,7 +387,8 @@ fn full(rng: &mut Rng) -> Sheet {
 
 fn one_too_many(rng: &mut Rng) -> Provoked {
     let kind = 2 + rng.below(5);
-    let mut rows = rows(&full(rng).write());
+    let whole = full(rng).write();
+    let mut rows = rows(&whole);
     // The records of later kinds may be missing: they play no part.
     if rng.flag() {
         rows.retain(|row| kind_of(row) <= kind as u64);
@@ -375,7 +400,7 @@ fn one_too_many(rng: &mut Rng) -> Provoked {
     let mut copy = rows[last].clone();
     scramble(rng, &mut copy);
     rows.insert(last + 1, copy);
-    let (bytes, starts) = assemble(&rows, rows.len());
+    let (bytes, starts) = assemble(&whole, &rows, rows.len());
     refused("one record too many", bytes, 7, starts[last + 1])
 }
 
@@ -384,14 +409,14 @@ fn full_tables(rng: &mut Rng) -> Provoked {
 }
 
 fn strategy_three(rng: &mut Rng) -> Provoked {
-    let mut bytes = any_small(rng).write();
+    let mut bytes = small(rng).write();
     bits::set(&mut bytes, body(24), 2, 3);
     refused("strategy 3", bytes, 8, 24)
 }
 
 /// Minus zero has a one bit too.
 fn unused_weight(rng: &mut Rng) -> Provoked {
-    let mut sheet = any_small(rng);
+    let mut sheet = small(rng);
     let strategy = rng.pick(&[ETD, SCAN]);
     let slot = if strategy == ETD { 5 } else { rng.below(6) };
     sheet.policy.strategy = strategy;
@@ -407,7 +432,7 @@ fn a_car(rng: &mut Rng, sheet: &Sheet) -> usize {
 }
 
 fn phase_seven(rng: &mut Rng) -> Provoked {
-    let mut sheet = any_small(rng);
+    let mut sheet = small(rng);
     let k = a_car(rng, &sheet);
     sheet.cars[k].phase = 7;
     let bytes = sheet.write();
@@ -416,7 +441,7 @@ fn phase_seven(rng: &mut Rng) -> Provoked {
 }
 
 fn unused_phase_stop(rng: &mut Rng) -> Provoked {
-    let mut sheet = any_small(rng);
+    let mut sheet = small(rng);
     let k = a_car(rng, &sheet);
     sheet.cars[k].phase = rng.pick(&[0, 3, 4, 5, 6]);
     sheet.cars[k].stop = 1 << rng.below(32);
@@ -425,7 +450,7 @@ fn unused_phase_stop(rng: &mut Rng) -> Provoked {
     refused("stop of another phase", bytes, 8, at)
 }
 
-/// Kind, start of the optional field, its width.
+/// Kind, start of the optional field in edition 1, its width.
 const OPTIONAL: [(usize, usize, usize); 6] = [
     (4, 99, 32),
     (4, 393, 64),
@@ -436,8 +461,9 @@ const OPTIONAL: [(usize, usize, usize); 6] = [
 ];
 
 fn absent_with_bits(rng: &mut Rng) -> Provoked {
-    let mut bytes = any_small(rng).write();
+    let mut bytes = small(rng).write();
     let (kind, from, width) = rng.pick(&OPTIONAL);
+    let from = field_at(edition(&bytes), kind, from);
     let found: Vec<_> = records(&bytes)
         .into_iter()
         .filter(|r| r.1 == kind)
@@ -476,7 +502,7 @@ fn zero_id(rng: &mut Rng) -> Provoked {
 }
 
 fn zero_phase_stop(rng: &mut Rng) -> Provoked {
-    let mut sheet = any_small(rng);
+    let mut sheet = small(rng);
     let k = a_car(rng, &sheet);
     sheet.cars[k].phase = rng.pick(&[1, 2]);
     sheet.cars[k].stop = 0;
@@ -486,7 +512,7 @@ fn zero_phase_stop(rng: &mut Rng) -> Provoked {
 }
 
 fn zero_present_id(rng: &mut Rng) -> Provoked {
-    let mut bytes = any_small(rng).write();
+    let mut bytes = small(rng).write();
     let (kind, from) = rng.pick(&[(4, 99), (5, 32), (6, 32), (6, 65)]);
     let found: Vec<_> = records(&bytes)
         .into_iter()
@@ -498,7 +524,7 @@ fn zero_present_id(rng: &mut Rng) -> Provoked {
 }
 
 fn stop_not_above(rng: &mut Rng) -> Provoked {
-    let mut sheet = any_small(rng);
+    let mut sheet = small(rng);
     let last = sheet.stops.last().unwrap().id;
     let k = sheet.stops.len();
     let id = if rng.flag() || last == 1 {
@@ -506,14 +532,14 @@ fn stop_not_above(rng: &mut Rng) -> Provoked {
     } else {
         1 + rng.below(last as usize - 1) as u32
     };
-    sheet.stops.push(Stop { id, position: 0.0 });
+    sheet.stops.push(Stop::at(id, 0.0));
     let bytes = sheet.write();
     let at = start(&bytes, 2, k);
     refused("stop id not above the last", bytes, 9, at)
 }
 
 fn repeated_line(rng: &mut Rng) -> Provoked {
-    let mut sheet = any_small(rng);
+    let mut sheet = small(rng);
     let id = sheet.lines[rng.below(sheet.lines.len())].id;
     // Its mask may be wrong as well: 9 comes first.
     sheet.lines.push(Line {
@@ -526,7 +552,7 @@ fn repeated_line(rng: &mut Rng) -> Provoked {
 }
 
 fn repeated_car(rng: &mut Rng) -> Provoked {
-    let mut sheet = any_small(rng);
+    let mut sheet = small(rng);
     let mut car = sheet.cars[a_car(rng, &sheet)].clone();
     if rng.flag() {
         car.speed = f64::NAN;
@@ -539,7 +565,7 @@ fn repeated_car(rng: &mut Rng) -> Provoked {
 }
 
 fn repeated_demand(rng: &mut Rng) -> Provoked {
-    let mut sheet = any_small(rng);
+    let mut sheet = small(rng);
     let demand = sheet.demands[rng.below(sheet.demands.len())].clone();
     sheet.demands.push(demand);
     let bytes = sheet.write();
@@ -559,18 +585,19 @@ fn repeated_closed(rng: &mut Rng) -> Provoked {
 
 /// A record of a lower kind stands behind a closure.
 fn behind_the_closed(rng: &mut Rng) -> Provoked {
-    let mut rows = rows(&with_closed(rng).write());
+    let whole = with_closed(rng).write();
+    let mut rows = rows(&whole);
     let first = rows.iter().position(|row| kind_of(row) == 8).unwrap();
     let copy = rows[rng.below(first)].clone();
     let to = first + 1 + rng.below(rows.len() - first);
     rows.insert(to, copy);
-    let (bytes, starts) = assemble(&rows, rows.len());
+    let (bytes, starts) = assemble(&whole, &rows, rows.len());
     refused("a lower kind behind a closure", bytes, 6, starts[to])
 }
 
 /// One a stop, in any order, and whether a line serves it or not.
 fn every_landing_closed(rng: &mut Rng) -> Provoked {
-    let mut sheet = any_small(rng);
+    let mut sheet = small(rng);
     sheet.closed = sheet.stops.iter().map(|s| s.id).collect();
     if rng.flag() {
         sheet.closed.reverse();
@@ -623,7 +650,7 @@ fn no_such_record(rng: &mut Rng) -> Provoked {
 }
 
 fn mask_past_the_stops(rng: &mut Rng) -> Provoked {
-    let mut sheet = any_small(rng);
+    let mut sheet = small(rng);
     let n = sheet.stops.len();
     let past = 1u64
         << if rng.flag() {
@@ -668,7 +695,8 @@ fn a_double<'a>(
 ) -> (usize, usize, &'a mut f64, f64, f64, bool) {
     const AMOUNT: f64 = 1_000_000_000.0;
     const PLACE: f64 = 1_000_000.0;
-    match rng.below(13) {
+    let sideways = sheet.edition == 2;
+    match rng.below(15) {
         0 => (1, 0, &mut sheet.policy.tick_rate, 1.0, 1_000_000.0, false),
         1 | 2 => {
             sheet.policy.strategy = RSR;
@@ -695,11 +723,16 @@ fn a_double<'a>(
             let k = rng.below(sheet.waiting.len());
             (6, k, &mut sheet.waiting[k].weight, 0.0, AMOUNT, false)
         }
+        13 if sideways => {
+            let k = rng.below(sheet.stops.len());
+            (2, k, &mut sheet.stops[k].across, -PLACE, PLACE, false)
+        }
         slot => {
             let k = a_car(rng, sheet);
             let car = &mut sheet.cars[k];
             match slot {
                 6 => (4, k, &mut car.position, -PLACE, PLACE, false),
+                14 if sideways => (4, k, &mut car.across, -PLACE, PLACE, false),
                 7 | 8 => (4, k, &mut car.speed, 0.0, 1_000.0, true),
                 9 => (4, k, &mut car.capacity, 0.0, AMOUNT, false),
                 10 => (4, k, &mut car.load, 0.0, AMOUNT, false),
@@ -711,7 +744,7 @@ fn a_double<'a>(
 }
 
 fn double_outside(rng: &mut Rng) -> Provoked {
-    let mut sheet = any_small(rng);
+    let mut sheet = small(rng);
     let choice = rng.below(8);
     let (kind, k, value, low, high, speed) = a_double(rng, &mut sheet);
     *value = match choice {
@@ -733,7 +766,7 @@ fn double_outside(rng: &mut Rng) -> Provoked {
 }
 
 fn double_inside(rng: &mut Rng) -> Provoked {
-    let mut sheet = any_small(rng);
+    let mut sheet = small(rng);
     let choice = rng.below(5);
     let (_, _, value, low, high, speed) = a_double(rng, &mut sheet);
     *value = match choice {
@@ -748,7 +781,7 @@ fn double_inside(rng: &mut Rng) -> Provoked {
 }
 
 fn limit_zero(rng: &mut Rng) -> Provoked {
-    let mut sheet = any_small(rng);
+    let mut sheet = small(rng);
     sheet.policy.limit = 0;
     if rng.flag() {
         sheet.policy.strategy = RSR;
@@ -758,13 +791,13 @@ fn limit_zero(rng: &mut Rng) -> Provoked {
 }
 
 fn limit_inside(rng: &mut Rng) -> Provoked {
-    let mut sheet = any_small(rng);
+    let mut sheet = small(rng);
     sheet.policy.limit = rng.pick(&[1, NO_LIMIT, NO_LIMIT - 1]);
     accepted("limit at an end of its range", sheet.write())
 }
 
 fn ticks_outside(rng: &mut Rng) -> Provoked {
-    let mut sheet = any_small(rng);
+    let mut sheet = small(rng);
     let k = a_car(rng, &sheet);
     (sheet.cars[k].transition, sheet.cars[k].open) = rng.pick(&[
         (1 << 31, 0),
@@ -778,7 +811,7 @@ fn ticks_outside(rng: &mut Rng) -> Provoked {
 }
 
 fn ticks_inside(rng: &mut Rng) -> Provoked {
-    let mut sheet = any_small(rng);
+    let mut sheet = small(rng);
     let k = a_car(rng, &sheet);
     (sheet.cars[k].transition, sheet.cars[k].open) =
         rng.pick(&[(0, u32::MAX), (2_147_483_647, 1), (1, u32::MAX - 2)]);
@@ -786,7 +819,7 @@ fn ticks_inside(rng: &mut Rng) -> Provoked {
 }
 
 fn wait_outside(rng: &mut Rng) -> Provoked {
-    let mut sheet = any_small(rng);
+    let mut sheet = small(rng);
     let k = rng.below(sheet.waiting.len());
     sheet.waiting[k].wait = rng.pick(&[(1 << 53) + 1, u64::MAX, 1 << 63]);
     let bytes = sheet.write();
@@ -795,7 +828,7 @@ fn wait_outside(rng: &mut Rng) -> Provoked {
 }
 
 fn wait_inside(rng: &mut Rng) -> Provoked {
-    let mut sheet = any_small(rng);
+    let mut sheet = small(rng);
     let k = rng.below(sheet.waiting.len());
     sheet.waiting[k].wait = 1 << 53;
     accepted("wait ticks of 2^53", sheet.write())
@@ -803,7 +836,7 @@ fn wait_inside(rng: &mut Rng) -> Provoked {
 
 /// What the first release refused by 15.
 fn load_weight(rng: &mut Rng) -> Provoked {
-    let mut sheet = any_small(rng);
+    let mut sheet = small(rng);
     let load = rng.pick(&[-0.0, 5e-324, 1.0, 3.0, below(1e9), 1e9]);
     sheet.policy.strategy = RSR;
     sheet.policy.weights = [1.0, 0.0, 0.0, load, 0.0, 0.0];
@@ -812,11 +845,11 @@ fn load_weight(rng: &mut Rng) -> Provoked {
 
 fn end_of_records(bytes: &[u8]) -> usize {
     let (at, kind) = *records(bytes).last().unwrap();
-    body(at) + BODY_BITS[kind]
+    body(at) + body_bits(edition(bytes), kind)
 }
 
 fn tail_too_long(rng: &mut Rng) -> Provoked {
-    let mut bytes = any_small(rng).write();
+    let mut bytes = small(rng).write();
     let end = end_of_records(&bytes);
     for _ in 0..1 + rng.below(3) {
         bytes.push(0);
@@ -825,7 +858,7 @@ fn tail_too_long(rng: &mut Rng) -> Provoked {
 }
 
 fn tail_with_a_one(rng: &mut Rng) -> Provoked {
-    let mut bytes = any_small(rng).write();
+    let mut bytes = small(rng).write();
     let end = end_of_records(&bytes);
     let room = bytes.len() * 8 - end;
     if room == 0 {
@@ -837,10 +870,10 @@ fn tail_with_a_one(rng: &mut Rng) -> Provoked {
 }
 
 fn fewer_stated_than_there(rng: &mut Rng) -> Provoked {
-    let sheet = any_small(rng);
-    let rows = rows(&sheet.write());
+    let whole = small(rng).write();
+    let rows = rows(&whole);
     let count = 1 + rng.below(rows.len() - 1);
-    let (bytes, starts) = assemble(&rows, count);
+    let (bytes, starts) = assemble(&whole, &rows, count);
     refused(
         "fewer records stated than there are",
         bytes,
@@ -879,7 +912,7 @@ fn count(sheet: &Sheet, kind: usize) -> usize {
     counts[kind]
 }
 
-/// Optional fields to be given bits while absent: kind, record, start, width.
+/// Optional fields to be given bits while absent: kind, record, start in edition 1, width.
 type Pokes = Vec<(usize, usize, usize, usize)>;
 
 /// Spoils record `k` of a kind so that the number's condition holds.
@@ -903,6 +936,9 @@ fn spoil(rng: &mut Rng, sheet: &mut Sheet, kind: usize, k: usize, number: u32, p
                 sheet.stops[k - 1].id
             }
         }
+        (2, _) if sheet.edition == 2 && rng.flag() => {
+            sheet.stops[k].across = rng.pick(&[f64::NAN, -1e7]);
+        }
         (2, _) => sheet.stops[k].position = rng.pick(&[f64::NAN, 1e7]),
         (3, 9) => {
             sheet.lines[k].id = if k == 0 || rng.flag() {
@@ -918,6 +954,7 @@ fn spoil(rng: &mut Rng, sheet: &mut Sheet, kind: usize, k: usize, number: u32, p
         (4, 9) => sheet.cars[k].target = Some(0),
         (4, 10) if rng.flag() => sheet.cars[k].line = no_line,
         (4, 10) => sheet.cars[k].calls |= past,
+        (4, 11) if sheet.edition == 2 && rng.flag() => sheet.cars[k].across = f64::NEG_INFINITY,
         (4, 11) if rng.flag() => sheet.cars[k].load = -1.0,
         (4, 11) => sheet.cars[k].speed = f64::INFINITY,
         (4, _) => sheet.cars[k].transition = u32::MAX,
@@ -956,7 +993,7 @@ fn spoil_often(rng: &mut Rng, sheet: &mut Sheet, kind: usize, k: usize, pokes: &
 fn poked(sheet: &Sheet, pokes: &Pokes) -> Vec<u8> {
     let mut bytes = sheet.write();
     for (kind, k, from, width) in pokes {
-        let at = body(start(&bytes, *kind, *k)) + from;
+        let at = body(start(&bytes, *kind, *k)) + field_at(sheet.edition.into(), *kind, *from);
         bits::set(&mut bytes, at, 1, 0);
         bits::set(&mut bytes, at + 1, *width, 1 << (width - 1));
     }
@@ -1003,7 +1040,7 @@ fn fault_before_the_cut(rng: &mut Rng) -> Provoked {
     spoil(rng, &mut sheet, kind, k, number, &mut pokes);
     let mut bytes = poked(&sheet, &pokes);
     let at = start(&bytes, kind, k);
-    let end = (body(at) + BODY_BITS[kind]).div_ceil(8);
+    let end = (body(at) + body_bits(edition(&bytes), kind)).div_ceil(8);
     let last = records(&bytes).last().unwrap().0;
     if rng.flag() {
         bytes.truncate(end + rng.below(bytes.len() - end));

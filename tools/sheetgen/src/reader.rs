@@ -1,9 +1,9 @@
 //! The refusal of a byte string, by document 01's numbers and order: the head, each record in turn, within
-//! it by rising number, the tail last. Kind 8 is document 02's, and so is that 15 is given no more. Refusal 1 is
-//! the host's and needs no bytes.
+//! it by rising number, the tail last. Kind 8 is document 02's, and so are edition 2 and that 15 is given no more.
+//! Refusal 1 is the host's and needs no bytes.
 
 use crate::bits::get;
-use crate::sheet::{BODY_BITS, EDITION, ETD, HEAD_BITS, KINDS, MOST, RECORD_HEAD_BITS, SCAN};
+use crate::sheet::{EDITIONS, ETD, HEAD_BITS, KINDS, MOST, RECORD_HEAD_BITS, SCAN, body_bits};
 
 #[derive(Clone, Copy, Debug, PartialEq, Eq, PartialOrd, Ord)]
 pub struct Refusal {
@@ -14,6 +14,7 @@ pub struct Refusal {
 /// What the records so far have stated.
 #[derive(Default)]
 struct Seen {
+    edition: u64,
     kind: usize,
     counts: [usize; KINDS + 1],
     stops: Vec<u64>,
@@ -32,7 +33,8 @@ pub fn read(bytes: &[u8]) -> Option<Refusal> {
             offset: 0,
         });
     }
-    if get(bytes, 0, 8) != EDITION {
+    let edition = get(bytes, 0, 8);
+    if !EDITIONS.contains(&edition) {
         return Some(Refusal {
             number: 3,
             offset: 0,
@@ -45,7 +47,10 @@ pub fn read(bytes: &[u8]) -> Option<Refusal> {
             offset: 24,
         });
     }
-    let mut seen = Seen::default();
+    let mut seen = Seen {
+        edition,
+        ..Seen::default()
+    };
     let mut at = HEAD_BITS;
     for _ in 0..count {
         if let Some(number) = record(bytes, end, at, &mut seen) {
@@ -54,7 +59,7 @@ pub fn read(bytes: &[u8]) -> Option<Refusal> {
                 offset: at as u64,
             });
         }
-        at += RECORD_HEAD_BITS + BODY_BITS[seen.kind];
+        at += RECORD_HEAD_BITS + body_bits(edition, seen.kind);
     }
     if end - at > 7 || get(bytes, at, end - at) != 0 {
         return Some(Refusal {
@@ -78,7 +83,7 @@ fn record(bytes: &[u8], end: usize, at: usize, seen: &mut Seen) -> Option<u32> {
     if !(1..=KINDS).contains(&kind) {
         return Some(4);
     }
-    if length != BODY_BITS[kind] {
+    if length != body_bits(seen.edition, kind) {
         return Some(5);
     }
     if kind < seen.kind || (seen.kind == 0 && kind != 1) {
@@ -178,7 +183,8 @@ fn stop(f: Field, seen: &Seen) -> Option<u32> {
     if id == 0 || seen.stops.last().is_some_and(|last| id <= *last) {
         return Some(9);
     }
-    if !position(double(f(32, 64))) {
+    let across = || double(f(96, 64));
+    if !position(double(f(32, 64))) || seen.edition == 2 && !position(across()) {
         return Some(11);
     }
     None
@@ -200,17 +206,18 @@ fn car(f: Field, seen: &Seen) -> Option<u32> {
     const STOP: usize = 67;
     const TARGET: usize = 99;
     const POSITION: usize = 137;
-    const UP: usize = 393;
-    const DOWN: usize = 458;
-    const TRANSITION: usize = 523;
-    const RESTRICTED: usize = 587;
+    const ACROSS: usize = 201;
+    // Edition 2's second coordinate moves what stands behind the position.
+    let by = if seen.edition == 2 { 64 } else { 0 };
+    let (speed_at, up, down) = (201 + by, 393 + by, 458 + by);
+    let (transition, restricted) = (523 + by, 587 + by);
     let phase = f(PHASE, 3);
     let bound = phase == 1 || phase == 2;
     if phase == 7
         || (!bound && f(STOP, 32) != 0)
         || absent_with_bits(f, TARGET, 32)
-        || absent_with_bits(f, UP, 64)
-        || absent_with_bits(f, DOWN, 64)
+        || absent_with_bits(f, up, 64)
+        || absent_with_bits(f, down, 64)
     {
         return Some(8);
     }
@@ -224,24 +231,25 @@ fn car(f: Field, seen: &Seen) -> Option<u32> {
         return Some(9);
     }
     if !seen.lines.contains(&line)
-        || past_the_stops(f(RESTRICTED, 64), seen)
-        || past_the_stops(f(RESTRICTED + 64, 64), seen)
+        || past_the_stops(f(restricted, 64), seen)
+        || past_the_stops(f(restricted + 64, 64), seen)
     {
         return Some(10);
     }
-    let at = |k: usize| double(f(POSITION + 64 * k, 64));
-    let speed = at(1);
+    let at = |k: usize| double(f(speed_at + 64 * k, 64));
+    let speed = at(0);
     let threshold = |from: usize| f(from, 1) == 0 || within(double(f(from + 1, 64)), 0.0, 1_000.0);
-    if !position(at(0))
+    if !position(double(f(POSITION, 64)))
+        || seen.edition == 2 && !position(double(f(ACROSS, 64)))
         || !(speed == 0.0 || within(speed, 1.0 / 1_024.0, 1_000.0))
+        || !amount(at(1))
         || !amount(at(2))
-        || !amount(at(3))
-        || !threshold(UP)
-        || !threshold(DOWN)
+        || !threshold(up)
+        || !threshold(down)
     {
         return Some(11);
     }
-    if 2 * f(TRANSITION, 32) + f(TRANSITION + 32, 32) > 4_294_967_295 {
+    if 2 * f(transition, 32) + f(transition + 32, 32) > 4_294_967_295 {
         return Some(13);
     }
     None

@@ -2,15 +2,45 @@
 
 use crate::bits::{self, Writer};
 
-pub const EDITION: u64 = 1;
+/// The editions of a sheet: the first, and document 02's, in which stops and cars have a second coordinate (F-12).
+pub const EDITIONS: [u64; 2] = [1, 2];
 pub const NO_LIMIT: u16 = 65_535;
 pub const HEAD_BITS: usize = 24;
 /// Kind and length stand before each body.
 pub const RECORD_HEAD_BITS: usize = 22;
-/// Body length by kind; index 0 is unused.
-pub const BODY_BITS: [usize; 9] = [0, 468, 96, 96, 715, 65, 226, 49, 32];
+/// Body length by edition and kind; kind 0 is unused.
+const BODY_BITS: [[usize; 9]; 2] = [
+    [0, 468, 96, 96, 715, 65, 226, 49, 32],
+    [0, 468, 160, 96, 779, 65, 226, 49, 32],
+];
 /// The highest kind.
-pub const KINDS: usize = BODY_BITS.len() - 1;
+pub const KINDS: usize = BODY_BITS[0].len() - 1;
+/// The width of a second coordinate, and where it stands in a stop's body and in a car's: right after the position.
+pub const ACROSS_BITS: usize = 64;
+pub const STOP_ACROSS: usize = 96;
+pub const CAR_ACROSS: usize = 201;
+
+/// The length of a body in an edition; those of other editions are taken for the first's.
+pub fn body_bits(edition: u64, kind: usize) -> usize {
+    BODY_BITS[usize::from(edition == 2)][kind]
+}
+
+/// Where the second coordinate stands in a body of edition 2.
+pub fn across_at(kind: usize) -> Option<usize> {
+    match kind {
+        2 => Some(STOP_ACROSS),
+        4 => Some(CAR_ACROSS),
+        _ => None,
+    }
+}
+
+/// Where a field of edition 1's body stands in an edition's: second coordinates come before what stands behind the position.
+pub fn field_at(edition: u64, kind: usize, from: usize) -> usize {
+    match across_at(kind) {
+        Some(across) if edition == 2 && from >= across => from + ACROSS_BITS,
+        _ => from,
+    }
+}
 /// The most records of kinds 1 to 6; index 0 is unused.
 pub const MOST: [usize; 7] = [0, 1, 64, 8, 32, 512, 512];
 
@@ -31,6 +61,8 @@ pub struct Policy {
 pub struct Stop {
     pub id: u32,
     pub position: f64,
+    /// The second coordinate; 0 in edition 1.
+    pub across: f64,
 }
 
 #[derive(Clone, Debug, PartialEq)]
@@ -55,6 +87,8 @@ pub struct Car {
     /// False: strict.
     pub lenient: bool,
     pub position: f64,
+    /// The second coordinate; 0 in edition 1.
+    pub across: f64,
     pub speed: f64,
     pub capacity: f64,
     pub load: f64,
@@ -90,6 +124,8 @@ pub struct Demand {
 
 #[derive(Clone, Debug, PartialEq)]
 pub struct Sheet {
+    /// 1 or 2.
+    pub edition: u8,
     pub policy: Policy,
     pub stops: Vec<Stop>,
     pub lines: Vec<Line>,
@@ -116,6 +152,7 @@ impl Sheet {
             weights: [0.0; 6],
         };
         Self {
+            edition: 1,
             policy,
             stops: Vec::new(),
             lines: Vec::new(),
@@ -165,10 +202,21 @@ impl Sheet {
         self.closed.iter().copied().filter(|s| bound(*s)).collect()
     }
 
-    /// The sheet's bytes.
+    /// Whether some second coordinate is no zero, of either sign.
+    pub fn runs_sideways(&self) -> bool {
+        let stops = self.stops.iter().map(|s| s.across);
+        let mut all = stops.chain(self.cars.iter().map(|c| c.across));
+        all.any(|across| across != 0.0)
+    }
+
+    /// The sheet's bytes. Edition 1 has no second coordinates to write.
     pub fn write(&self) -> Vec<u8> {
         let mut w = Writer::default();
-        w.put(8, EDITION);
+        let head = |w: &mut Writer, kind: usize| {
+            w.put(6, kind as u64);
+            w.put(16, body_bits(self.edition.into(), kind) as u64);
+        };
+        w.put(8, self.edition.into());
         w.put(16, self.records() as u64);
         head(&mut w, 1);
         let p = &self.policy;
@@ -183,6 +231,9 @@ impl Sheet {
             head(&mut w, 2);
             w.put(32, s.id.into());
             w.double(s.position);
+            if self.edition == 2 {
+                w.double(s.across);
+            }
         }
         for l in &self.lines {
             head(&mut w, 3);
@@ -191,7 +242,7 @@ impl Sheet {
         }
         for c in &self.cars {
             head(&mut w, 4);
-            car_body(&mut w, c);
+            car_body(&mut w, c, self.edition);
         }
         for a in &self.aboard {
             head(&mut w, 5);
@@ -222,13 +273,16 @@ impl Sheet {
     /// The sheet of accepted bytes (reader.rs decides whether they are).
     pub fn of_accepted(bytes: &[u8]) -> Self {
         let mut at = HEAD_BITS;
+        let edition = bits::get(bytes, 0, 8);
         let count = bits::get(bytes, 8, 16);
         let mut sheet = Self::new(ETD);
+        sheet.edition = edition as u8;
         for _ in 0..count {
             let kind = bits::get(bytes, at, 6) as usize;
             let mut f = Fields {
                 bytes,
                 at: at + RECORD_HEAD_BITS,
+                edition,
             };
             match kind {
                 1 => {
@@ -243,6 +297,7 @@ impl Sheet {
                 2 => sheet.stops.push(Stop {
                     id: f.id(),
                     position: f.double(),
+                    across: f.across(),
                 }),
                 3 => sheet.lines.push(Line {
                     id: f.id(),
@@ -267,7 +322,7 @@ impl Sheet {
                 }),
                 _ => sheet.closed.push(f.id()),
             }
-            at += RECORD_HEAD_BITS + BODY_BITS[kind];
+            at += RECORD_HEAD_BITS + body_bits(edition, kind);
         }
         sheet
     }
@@ -276,7 +331,7 @@ impl Sheet {
     pub fn example() -> Self {
         let mut sheet = Self::new(SCAN);
         for (id, position) in [(1, 0.0), (2, 10.0), (3, 20.0)] {
-            sheet.stops.push(Stop { id, position });
+            sheet.stops.push(Stop::at(id, position));
         }
         sheet.lines.push(Line {
             id: 1,
@@ -300,7 +355,23 @@ impl Sheet {
     }
 }
 
+impl Stop {
+    /// A stop with the second coordinate 0.
+    pub fn at(id: u32, position: f64) -> Self {
+        Self {
+            id,
+            position,
+            across: 0.0,
+        }
+    }
+}
+
 impl Car {
+    /// The distance to a stop, over both coordinates.
+    pub fn distance(&self, stop: &Stop) -> f64 {
+        (self.position - stop.position).abs() + (self.across - stop.across).abs()
+    }
+
     /// An idle-listed car in phase idle at 0, capacity 100, empty, up, strict, both lamps lit.
     pub fn parked(line: u32) -> Self {
         Self {
@@ -315,6 +386,7 @@ impl Car {
             sweep_down: false,
             lenient: false,
             position: 0.0,
+            across: 0.0,
             speed: 2.0,
             capacity: 100.0,
             load: 0.0,
@@ -328,12 +400,7 @@ impl Car {
     }
 }
 
-fn head(w: &mut Writer, kind: usize) {
-    w.put(6, kind as u64);
-    w.put(16, BODY_BITS[kind] as u64);
-}
-
-fn car_body(w: &mut Writer, c: &Car) {
+fn car_body(w: &mut Writer, c: &Car, edition: u8) {
     w.put(32, c.id.into());
     w.put(32, c.line.into());
     w.put(3, c.phase.into());
@@ -342,7 +409,11 @@ fn car_body(w: &mut Writer, c: &Car) {
     for flag in [c.idle, c.going_up, c.going_down, c.sweep_down, c.lenient] {
         w.put(1, flag.into());
     }
-    for value in [c.position, c.speed, c.capacity, c.load] {
+    w.double(c.position);
+    if edition == 2 {
+        w.double(c.across);
+    }
+    for value in [c.speed, c.capacity, c.load] {
         w.double(value);
     }
     w.opt(64, c.up_threshold.map(f64::to_bits));
@@ -357,6 +428,7 @@ fn car_body(w: &mut Writer, c: &Car) {
 pub(crate) struct Fields<'a> {
     pub bytes: &'a [u8],
     pub at: usize,
+    pub edition: u64,
 }
 
 impl Fields<'_> {
@@ -376,6 +448,14 @@ impl Fields<'_> {
 
     pub fn double(&mut self) -> f64 {
         f64::from_bits(self.next(64))
+    }
+
+    /// A second coordinate: 0 in edition 1, which has none.
+    pub fn across(&mut self) -> f64 {
+        match self.edition {
+            2 => self.double(),
+            _ => 0.0,
+        }
     }
 
     pub fn opt(&mut self, width: usize) -> Option<u64> {
@@ -401,6 +481,7 @@ impl Fields<'_> {
             sweep_down: self.flag(),
             lenient: self.flag(),
             position: self.double(),
+            across: self.across(),
             speed: self.double(),
             capacity: self.double(),
             load: self.double(),

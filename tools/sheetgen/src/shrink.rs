@@ -107,6 +107,11 @@ impl Accepted<'_> {
     }
 
     fn simplify(&mut self) {
+        self.change(|s| {
+            s.edition = 1;
+            s.stops.iter_mut().for_each(|x| x.across = 0.0);
+            s.cars.iter_mut().for_each(|x| x.across = 0.0);
+        });
         self.change(|s| s.policy.limit = NO_LIMIT);
         for limit in 1..self.best.policy.limit.min(65) {
             if self.best.policy.limit == NO_LIMIT || self.change(|s| s.policy.limit = limit) {
@@ -120,6 +125,7 @@ impl Accepted<'_> {
         }
         for i in 0..self.best.stops.len() {
             self.double(move |s| &mut s.stops[i].position, &[0.0, 1.0, 10.0]);
+            self.double(move |s| &mut s.stops[i].across, &[0.0, 1.0, 10.0]);
         }
         for i in 0..self.best.lines.len() {
             self.mask(move |s| &mut s.lines[i].mask);
@@ -164,6 +170,7 @@ impl Accepted<'_> {
         self.change(|s| s.cars[i].sweep_down = false);
         self.change(|s| s.cars[i].lenient = false);
         self.double(move |s| &mut s.cars[i].position, &[0.0, 1.0, 10.0]);
+        self.double(move |s| &mut s.cars[i].across, &[0.0, 1.0, 10.0]);
         self.double(move |s| &mut s.cars[i].speed, &[2.0, 1.0]);
         self.double(move |s| &mut s.cars[i].capacity, &[100.0, 1.0]);
         self.double(move |s| &mut s.cars[i].load, &[0.0, 1.0]);

@@ -1,17 +1,19 @@
 //! `tools/library`, then `cargo run --release` here. Both readers read the same full sheet (every table full, each id looked up),
-//! in turns; the median of each side's times and their ratio are printed.
+//! in turns, once in each edition; the median of each side's times and their ratio are printed.
 
 use sheetgen::{Aboard, Car, Demand, Line, Sheet, Stop, Waiting};
 use std::hint::black_box;
 use std::time::Instant;
 
-/// 64 stops, 8 lines, 32 cars, 512 aboard, 512 waiting, 64 demands, 64 closed landings: 26,515 bytes.
-fn full() -> Vec<u8> {
+/// 64 stops, 8 lines, 32 cars, 512 aboard, 512 waiting, 64 demands, 64 closed landings: 26,515 bytes, in edition 2 27,283.
+fn full(edition: u8) -> Vec<u8> {
     let mut s = Sheet::new(sheetgen::sheet::SCAN);
+    s.edition = edition;
     s.stops = (0..64)
         .map(|k| Stop {
             id: 7 * k + 5,
             position: f64::from(k),
+            across: f64::from(k % 5),
         })
         .collect();
     s.lines = (0..8)
@@ -24,6 +26,7 @@ fn full() -> Vec<u8> {
         .map(|k| Car {
             id: 11 * k + 2,
             position: f64::from(k),
+            across: f64::from(k % 3),
             ..Car::parked(3 * (k % 8) + 1)
         })
         .collect();
@@ -67,7 +70,13 @@ fn median(mut times: Vec<f64>) -> f64 {
 }
 
 fn main() {
-    let sheet = full();
+    for edition in [1, 2] {
+        time(edition);
+    }
+}
+
+fn time(edition: u8) {
+    let sheet = full(edition);
     assert_eq!(
         (dispatch_bench::read(&sheet), sheetgen::read(&sheet)),
         (Ok(()), None),
@@ -84,7 +93,7 @@ fn main() {
     }
     let (proved, plain) = (median(proved), median(plain));
     println!(
-        "{} bytes: proved {proved:.1} us, plain Rust {plain:.1} us, ratio {:.2}",
+        "edition {edition}, {} bytes: proved {proved:.1} us, plain Rust {plain:.1} us, ratio {:.2}",
         sheet.len(),
         proved / plain
     );

@@ -6,6 +6,7 @@ use sheetgen::{Car, Line, Sheet, Stop};
 
 use super::heights::{self, Heights};
 use super::legend::Legend;
+use super::plan::{Plan, mark_car, mark_stop};
 use super::riders::{Riders, Way};
 use super::svg::{self, Anchor, Svg, short};
 use super::{Chosen, LEGEND, LONG_ID, car_name};
@@ -17,11 +18,14 @@ use crate::value::show_double;
 
 const SHAFT: f64 = 100.0;
 const GAP: f64 = 16.0;
-/// The lines of text above a shaft.
+/// The lines of text above a shaft; in edition 2 there is one more.
 const HEADER: f64 = 96.0;
+const HEADER_LINE: f64 = 12.0;
 const CAR: (f64, f64) = (24.0, 18.0);
 const AXIS: &str = "stop at position";
+const AXIS_2: &str = "stop at position, across";
 const AXIS_WIDTH: f64 = 90.0;
+const AXIS_2_WIDTH: f64 = 128.0;
 
 /// A car's fill by phase; every drawn car also has its phase in words.
 const COLOURS: [&str; 7] = [
@@ -48,6 +52,10 @@ struct Building<'a> {
     columns: Columns,
     /// Where height 0 stands.
     top: f64,
+    /// How high the words above a shaft are.
+    header: f64,
+    /// Both coordinates, where there is a second one.
+    plan: Option<Plan>,
     /// Each waiting rider has words beside the mark.
     in_words: bool,
 }
@@ -61,9 +69,9 @@ struct Columns {
 }
 
 impl Columns {
-    fn new(labels: &[Label], left: f64, in_words: bool) -> Self {
+    fn new(labels: &[Label], left: f64, in_words: bool, axis: f64) -> Self {
         let widest = |width: &dyn Fn(&Label) -> f64| labels.iter().map(width).fold(0.0, f64::max);
-        let names = left + widest(&|l| svg::width("name", &l.name)).max(AXIS_WIDTH);
+        let names = left + widest(&|l| svg::width("name", &l.name)).max(axis);
         let (call, waiting) = (names + 10.0, names + 22.0);
         let width = |l: &Label| match l.more.as_str() {
             "" => l.riders.width(in_words),
@@ -138,8 +146,12 @@ fn labels(sheet: &Sheet, chosen: &Chosen, heights: &Heights) -> Vec<Label> {
         if is_closed && bound > 0 {
             more.push(format!("{bound} aboard for it"));
         }
+        let mut name = format!("{} at {}", stop.id, short(stop.position));
+        if sheet.edition == 2 {
+            name += &format!(", {}", short(stop.across));
+        }
         Label {
-            name: format!("{} at {}", stop.id, short(stop.position)),
+            name,
             has_call,
             riders,
             is_closed,
@@ -168,29 +180,50 @@ pub fn draw(
     let heights = Heights::new(&stops, &cars, height);
     let labels = labels(sheet, chosen, &heights);
     let in_words = labels.iter().all(|label| label.riders.have_room());
-    let building = Building {
+    let (header, axis) = match sheet.edition {
+        2 => (HEADER + HEADER_LINE, AXIS_2_WIDTH),
+        _ => (HEADER, AXIS_WIDTH),
+    };
+    let mut building = Building {
         sheet,
         chosen,
         ramps,
         heights,
         left: at.0,
-        columns: Columns::new(&labels, at.0, in_words),
-        top: at.1 + HEADER + 30.0,
+        columns: Columns::new(&labels, at.0, in_words, axis),
+        top: at.1 + header + 30.0,
+        header,
+        plan: None,
         in_words,
     };
     let right = building.right();
+    building.plan = Plan::of(sheet, right);
     let (x, y) = (building.columns.names, building.top - 30.0);
-    let axis = if labels.is_empty() { "no stop" } else { AXIS };
+    let axis = match (labels.is_empty(), sheet.edition) {
+        (true, _) => "no stop",
+        (_, 2) => AXIS_2,
+        _ => AXIS,
+    };
     svg.text("small", x, y, Anchor::End, axis);
     for label in &labels {
         building.stop(svg, label, right);
     }
     building.shafts(svg);
+    let right = building.planned(svg, right);
     let (edge, bottom) = building.legend(svg, building.bottom() + 30.0, right);
     (right.max(edge), bottom)
 }
 
 impl Building<'_> {
+    /// Draws the plan, where there is one; answers the right edge.
+    fn planned(&self, svg: &mut Svg, right: f64) -> f64 {
+        let Some(plan) = &self.plan else { return right };
+        let y = |position: f64| self.y(position);
+        let edges = (self.top - 24.0, self.bottom());
+        plan.draw(svg, self.sheet, self.chosen, &y, edges);
+        plan.right()
+    }
+
     fn y(&self, position: f64) -> f64 {
         self.top + self.heights.of(position)
     }
@@ -235,7 +268,7 @@ impl Building<'_> {
         let mut x = self.columns.end + GAP;
         for line in &self.sheet.lines {
             let end = x + SHAFT * self.shafts_of(line) as f64;
-            let y = self.top - HEADER - 20.0;
+            let y = self.top - self.header - 20.0;
             let name = format!("line {}", line.id);
             svg.text("name", (x + end) / 2.0, y, Anchor::Middle, &name);
             svg.line("floor", (x + 3.0, y + 5.0), (end - 3.0, y + 5.0));
@@ -308,6 +341,9 @@ impl Building<'_> {
             ("small", bound),
             ("small", load),
         ];
+        if self.sheet.edition == 2 {
+            lines.push(("small", format!("across {}", short(car.across))));
+        }
         lines.push(("small", self.sweep(k)));
         let decision = match self.decided(k) {
             Some(None) => ("name", "stays idle".into()),
@@ -316,7 +352,7 @@ impl Building<'_> {
             None => ("small", String::new()),
         };
         lines.push(decision);
-        let mut y = self.top - HEADER;
+        let mut y = self.top - self.header;
         for (class, text) in lines {
             svg.text(class, middle, y, Anchor::Middle, &text);
             y += 12.0;
@@ -351,7 +387,10 @@ impl Building<'_> {
         let (x, y) = (middle - w / 2.0, self.y(car.position) - h / 2.0);
         let colour = COLOURS.get(usize::from(car.phase)).unwrap_or(&"#fff");
         let class = if car.idle { "car listed" } else { "car" };
-        let tip = format!("car {} at {}", car.id, car.position);
+        let mut tip = format!("car {} at {}", car.id, car.position);
+        if self.sheet.edition == 2 {
+            tip += &format!(", across {}", car.across);
+        }
         svg.tile((x, y), CAR, colour, class, &tip);
         let share = if car.capacity > 0.0 {
             (car.load / car.capacity).clamp(0.0, 1.0)
@@ -423,13 +462,44 @@ impl Building<'_> {
             "Stops in the order of their positions; distances are not to scale."
         };
         legend.sentence(svg, axis);
+        self.both_coordinates(svg, &mut legend);
         self.stop_entries(svg, &mut legend);
         shaft_entries(svg, &mut legend);
-        car_entries(svg, &mut legend);
+        car_entries(svg, &mut legend, self.sheet.edition);
         if let Some(ramps) = self.ramps {
-            legend.sentence(svg, &of_seconds(ramps));
+            legend.sentence(svg, &of_seconds(ramps, self.sheet.edition));
         }
         legend.end()
+    }
+
+    /// What is said of the second coordinate, in edition 2.
+    fn both_coordinates(&self, svg: &mut Svg, legend: &mut Legend) {
+        let words = match &self.plan {
+            _ if self.sheet.edition != 2 => return,
+            None => {
+                "Edition 2: behind a stop's position stands its second coordinate, across; here all of them are 0."
+            }
+            Some(plan) if plan.is_to_scale() => SIDEWAYS,
+            Some(_) => SIDEWAYS_BY_ORDER,
+        };
+        legend.sentence(svg, words);
+        if self.plan.is_some() {
+            legend.entry(svg, "in the plan, a stop", mark_stop);
+            legend.entry(svg, "a car, idle-listed", |svg, x, y| {
+                mark_car(svg, (x, y), true, "");
+            });
+            legend.entry(svg, "another car", |svg, x, y| {
+                mark_car(svg, (x, y), false, "");
+            });
+            legend.entry(
+                svg,
+                "sent to this stop; not the way it runs",
+                |svg, x, y| {
+                    svg.line("sent", (x - 8.0, y), (x, y));
+                    svg.circle("goal", x + 3.0, y, 4.0);
+                },
+            );
+        }
     }
 
     fn stop_entries(&self, svg: &mut Svg, legend: &mut Legend) {
@@ -454,13 +524,20 @@ impl Building<'_> {
     }
 }
 
+const SIDEWAYS: &str = "Edition 2: behind a stop's position stands its second coordinate, across, as the plan has it. A distance is the sum of the differences of both; up, down and on the way are matters of the position alone. Names without room in the plan show under the pointer.";
+const SIDEWAYS_BY_ORDER: &str = "Edition 2: behind a stop's position stands its second coordinate, across; in the plan they stand in order, and their distances are not to scale. A distance is the sum of the differences of both; up, down and on the way are matters of the position alone. Names without room in the plan show under the pointer.";
+
 /// What the seconds at the arrows are of.
-fn of_seconds(ramps: &Ramps) -> String {
+fn of_seconds(ramps: &Ramps, edition: u8) -> String {
     let said = |value: f64| grouped_text(&show_double(value.to_bits()));
     let (up, down) = (said(ramps.acceleration), said(ramps.deceleration));
     let speed = said(ramps.speed);
+    let over = match edition {
+        2 => " over the distance of both coordinates",
+        _ => "",
+    };
     format!(
-        "N s: the seconds of the run from where the car is to the stop, from speed {speed}, by its max speed, acceleration {up} and deceleration {down}. Refused 21: the run is longer than 1,000,000."
+        "N s: the seconds of the run from where the car is to the stop{over}, from speed {speed}, by its max speed, acceleration {up} and deceleration {down}. Refused 21: the run is longer than 1,000,000."
     )
 }
 
@@ -484,7 +561,7 @@ fn shaft_entries(svg: &mut Svg, legend: &mut Legend) {
 }
 
 /// The fills of a car, its frame, lamps and decision.
-fn car_entries(svg: &mut Svg, legend: &mut Legend) {
+fn car_entries(svg: &mut Svg, legend: &mut Legend, edition: u8) {
     legend.next_row();
     for (phase, words) in FILLS {
         legend.entry(svg, words, |svg, x, y| {
@@ -512,11 +589,16 @@ fn car_entries(svg: &mut Svg, legend: &mut Legend) {
         svg.line("arrow", (x, y + 6.0), (x, y));
         svg.triangle("head", (x, y + 1.0), (6.0, 6.0), true);
     });
-    legend.entry(svg, "sent to the stop where it is", |svg, x, y| {
-        svg.circle("arrow", x, y, 4.0);
-    });
+    let there = match edition {
+        2 => "sent to a stop at its height",
+        _ => "sent to the stop where it is",
+    };
+    legend.entry(svg, there, |svg, x, y| svg.circle("arrow", x, y, 4.0));
     legend.sentence(
         svg,
-        "Above a shaft: the car's phase, the stop that it moves to or else whether it is idle-listed, its load of its capacity, its sweep and mode after the pass, the decision.",
+        match edition {
+            2 => "Above a shaft: the car's phase, the stop that it moves to or else whether it is idle-listed, its load of its capacity, its second coordinate, its sweep and mode after the pass, the decision.",
+            _ => "Above a shaft: the car's phase, the stop that it moves to or else whether it is idle-listed, its load of its capacity, its sweep and mode after the pass, the decision.",
+        },
     );
 }

@@ -2,6 +2,7 @@
 
 use dispatch_bench::{CEILING, SENTINEL};
 use sheetgen::Sheet;
+use sheetgen::sheet::SCAN;
 
 use super::legend::Legend;
 use super::reasons::{NoRank, Reasons};
@@ -20,6 +21,8 @@ const COSTS: [&str; 3] = [
     "A cost is the car's rank for the stop. RSR's is a weighted sum and has no unit: travel, the penalty for the wrong direction and the load of a car that is not in phase idle, less the bonuses for a car call and for waits; never below 0.",
     "A cost is the car's rank for the stop. SCAN's is the distance from the car to the stop, as positions count it.",
 ];
+/// SCAN's in edition 2.
+const COST_SIDEWAYS: &str = "A cost is the car's rank for the stop. SCAN's is the distance from the car to the stop, the sum of the differences of both coordinates.";
 const DIGITS: &str = "Here and at the arrows it is rounded; under the pointer stands the cell itself, which counts 1,000,000 for a cost of 1, as the total does.";
 const TIES: &str = "Where several choices have the least total, the bench takes one that sends most cars, then the lowest columns: the lowest for the first car, then for the second, and so on.";
 
@@ -179,7 +182,10 @@ impl<'a> Table<'a> {
         legend.entry(svg, "chosen, the car stays idle", |svg, x, y| {
             svg.rect("unsent", x - 7.0, y - 5.0, 14.0, 10.0);
         });
-        let costs = COSTS.get(usize::from(sheet.policy.strategy));
+        let costs = match (sheet.policy.strategy, sheet.edition) {
+            (SCAN, 2) => Some(&COST_SIDEWAYS),
+            (strategy, _) => COSTS.get(usize::from(strategy)),
+        };
         legend.sentence(svg, &format!("{} {DIGITS}", costs.unwrap_or(&"")));
         legend.sentence(svg, TIES);
         if self.chosen.pass.held > 0 {

@@ -5,6 +5,7 @@ mod heights;
 mod held;
 mod legend;
 mod matrix;
+mod plan;
 mod reasons;
 mod refused;
 mod riders;

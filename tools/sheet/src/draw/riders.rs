@@ -151,11 +151,7 @@ mod tests {
     /// Stops 1, 2 and 3 at 0, 10 and 20, another at 10, and riders who wait at stop 2.
     fn riders(destinations: &[Option<u32>]) -> Riders {
         let mut sheet = Sheet::example();
-        let other = Stop {
-            id: 4,
-            position: 10.0,
-        };
-        sheet.stops.push(other);
+        sheet.stops.push(Stop::at(4, 10.0));
         for (k, destination) in destinations.iter().enumerate() {
             sheet.waiting.push(Waiting {
                 stop: 2,

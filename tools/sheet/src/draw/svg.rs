@@ -105,6 +105,11 @@ impl Svg {
         );
     }
 
+    /// Classes that few drawings have.
+    pub fn style(&mut self, classes: &str) {
+        let _ = writeln!(self.body, "<style>{classes}</style>");
+    }
+
     /// Shapes of a class.
     pub fn group(&mut self, class: &str, shapes: impl FnOnce(&mut Self)) {
         let _ = writeln!(self.body, "<g class=\"{class}\">");
