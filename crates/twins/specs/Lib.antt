@@ -1,1 +1,4 @@
 pub mod Written
+pub mod Twin
+pub mod Views
+pub mod Looks
