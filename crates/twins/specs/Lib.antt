@@ -2,3 +2,4 @@ pub mod Written
 pub mod Twin
 pub mod Views
 pub mod Looks
+pub mod Bodies
