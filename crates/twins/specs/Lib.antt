@@ -3,3 +3,4 @@ pub mod Twin
 pub mod Views
 pub mod Looks
 pub mod Bodies
+pub mod Steps
