@@ -4,3 +4,4 @@ pub mod Views
 pub mod Looks
 pub mod Bodies
 pub mod Steps
+pub mod Twins

@@ -1,0 +1,110 @@
+-- A sheet of edition 2 that is accepted has a twin that is accepted, with the same counts and the same records but for second coordinates. Assumes
+-- nothing.
+use Prim.Native.Nat.{ℕ, zero, suc, _+_, _-_, _*_, _≤_, _<_}
+use mathlib.Core.Path.{_≡_, refl, sym, ap, _∙_, subst}
+use mathlib.Core.Bool.{true, false}
+use mathlib.Core.List.{List, _++_}
+use mathlib.Core.Logic.{inr}
+use native.Mathlib.Omega.{arith}
+use lib.Dec.{eqb}
+use lib.ListN.{length, getD, length-append, List·getD-eq-default}
+use borrow.Author.Tests.{eq-eqb, ne-eqb, le-ltb, lt-ltb}
+use Rattle.laws.specs.Tables.{tab}
+use Rattle.bits.specs.Field.{bitAt, fieldAt}
+use Rattle.components.specs.Codes.{kindOf}
+use Rattle.layout.specs.declared.Counts.{Counts}
+use Rattle.layout.specs.declared.Reading.the-variants.{Accepted}
+use Rattle.layout.specs.Offsets.{headLength, acrossBits, recordLength, lastKind, none, next, endOf}
+use Rattle.layout.specs.Offsets.{stopStart, lineStart, carStart, aboardStart, waitingStart, demandStart, closedStart}
+use Rattle.layout.specs.Table.{closed·stop}
+use Rattle.layout.specs.Records.{from, read, policyOf, stopOf, lineOf, carOf, aboardOf, waitingOf, demandOf, limitOf}
+use Rattle.layout.specs.Refusals.{edition, recordCount, kindAt, refusal2Head, refusal3, refusal6, refusal6Empty, refusal16, tailFits}
+use Rattle.layout.specs.Verdict.{pick, firstOf, recordRefusal, tailVerdict, recordsVerdict, atFirst, verdict}
+use Rattle.accepted.specs.Accepted.{Each, and-next, no-records, at-end, on, Headed, headed, accepted}
+use Rattle.twins.specs.Written.{Holds, Bits, bitsOf, digits, numberOf, packed, packed-bit, packed-length, packed-holds, holds-left, holds-right}
+use Rattle.twins.specs.Written.{holds-field, holds-number, bits-of, digits-bits, append-bits, bits-length, digits-length}
+use Rattle.twins.specs.Twin.{recordOf, recordsOf, twin, under, flatStop, flatCar}
+use Rattle.twins.specs.Views.{policy-same, limit-same, stop-same, line-same, car-same, aboard-same, waiting-same, demand-same, closed-same}
+use Rattle.twins.specs.Looks.{Pair, the-policy, the-stop, the-line, the-car, the-aboard, the-waiting, the-demand, the-closed}
+use Rattle.twins.specs.Steps.{under-next, end-next, record-length, records-bits, kind-same, pair, record-clean}
+
+-- ---- the records that are left
+
+-- t ends with the byte where bit e ends, and has no one bit from there on
+record Ends (t : List ℕ) (e : ℕ) : Type 0 where
+  pub long : e ≤ 8 * length t
+  pub short : 8 * length t < e + 8
+  pub zeros : (i : ℕ) → e ≤ i → bitAt t i ≡ 0
+
+zero-field : (t : List ℕ) (at : ℕ) → ((i : ℕ) → at ≤ i → bitAt t i ≡ 0) → (w : ℕ) → fieldAt t at w ≡ 0
+unfolding fieldAt
+zero-field t at h zero = refl
+zero-field t at h (suc w) = rw (zero-field t at h w, h (at + w) (omega arith)) refl
+
+module _ (s t : List ℕ) where
+  -- the counts that t is accepted with, and the same records
+  record Follows (n : ℕ) (c d : Counts) : Type 0 where
+    pub counted : recordsVerdict t n (under 0 c) ≡ Accepted (under 0 d)
+    pub pairs : Each (Pair s t) d
+
+  wide : (c : Counts) → Each (Pair s t) c → Each (Pair s t) (under 64 c)
+  wide c h =
+      record {
+        across = inr refl;
+        policies = h .policies;
+        stops = h .stops;
+        lines = h .lines;
+        cars = h .cars;
+        aboards = h .aboards;
+        waits = h .waits;
+        demands = h .demands;
+        closures = h .closures;
+      }
+
+  tail-follows : (c : Counts) → 0 < recordCount t → Ends t (endOf (under 0 c)) → tailVerdict t (under 0 c) ≡ Accepted (under 0 c)
+  unfolding tailVerdict firstOf pick refusal6Empty refusal16 tailFits
+  tail-follows c some e =
+      let at = endOf (under 0 c) in
+      let a = e .long in
+      let b = e .short in
+      let z : fieldAt t (endOf (under 0 c) + 0) (8 * length t - endOf (under 0 c)) ≡ 0 =
+        zero-field t (at + 0) (λ i l. e .zeros i (omega arith)) (8 * length t - at) in
+      rw (
+        ne-eqb (recordCount t) 0 (λ q. absurd (omega arith)),
+        le-ltb (8 * length t) at a,
+        lt-ltb (8 * length t - at) 8 (omega arith),
+        z,
+      ) refl
+
+  module _ (some : 0 < recordCount t) (e : ℕ) (ends : Ends t e) where
+    follows : (n : ℕ) (c d : Counts) → Each (Pair s t) c → recordsVerdict s n (under 64 c) ≡ Accepted d
+        → Holds t (endOf (under 0 c)) (recordsOf s n (under 64 c)) → endOf (under 0 c) + length (recordsOf s n (under 64 c)) ≡ e
+        → Follows n c d
+    unfolding recordsVerdict recordsOf refusal6 lastKind
+    follows zero c d h v held l =
+        let here : endOf (under 0 c) ≡ e = omega arith in
+        subst (Follows 0 c) (at-end s (under 64 c) d v)
+        (record { counted = tail-follows c some (subst (Ends t) (sym here) ends); pairs = wide c h })
+    follows (suc n) c d h v held l =
+        let (r, w) = on s n (under 64 c) d v in
+        let m = kindAt s (under 64 c) in
+        let k = kindOf m in
+        let a = recordOf s 64 k (endOf (under 64 c)) in
+        let b = recordsOf s n (next (under 64 c) k) in
+        let long = ends .long in
+        let far = record-length s k (endOf (under 64 c)) in
+        let all : length (a ++ b) ≡ length a + length b = length-append a b in
+        let here = holds-left t (endOf (under 0 c)) a b held in
+        let clear : recordRefusal t (under 0 c) ≡ 0 = record-clean s t c h r here (omega arith) in
+        let then : endOf (under 0 c) + length (recordOf s 64 k (endOf (under 64 c))) ≡ endOf (under 0 (next c k)) =
+          omega (arith, end-next c k (r .known)) in
+        let rest : Holds t (endOf (under 0 (next c k))) (recordsOf s n (under 64 (next c k))) =
+          subst (λ x. Holds t (endOf (under 0 (next c k))) (recordsOf s n x)) (under-next 64 c k)
+          (subst (λ x. Holds t x (recordsOf s n (next (under 64 c) k))) then (holds-right t (endOf (under 0 c)) a b held)) in
+        let f = follows n (next c k) d (and-next (Pair s t) c m (r .in-order) h (pair s t c h r here))
+          (subst (λ x. recordsVerdict s n x ≡ Accepted d) (under-next 64 c k) w) rest
+          (subst (λ x. endOf (under 0 (next c k)) + length (recordsOf s n x) ≡ e) (under-next 64 c k) (omega arith)) in
+        record {
+          counted = rw (eq-eqb (recordRefusal t (under 0 c)) 0 clear, kind-same s t c h r here, under-next 0 c k) (f .counted);
+          pairs = f .pairs;
+        }
