@@ -45,6 +45,7 @@ module _ (s t : List ℕ) where
   -- the counts that t is accepted with, and the same records
   record Follows (n : ℕ) (c d : Counts) : Type 0 where
     pub counted : recordsVerdict t n (under 0 c) ≡ Accepted (under 0 d)
+    pub second : under 64 d ≡ d
     pub pairs : Each (Pair s t) d
 
   wide : (c : Counts) → Each (Pair s t) c → Each (Pair s t) (under 64 c)
@@ -84,7 +85,7 @@ module _ (s t : List ℕ) where
     follows zero c d h v held l =
         let here : endOf (under 0 c) ≡ e = omega arith in
         subst (Follows 0 c) (at-end s (under 64 c) d v)
-        (record { counted = tail-follows c some (subst (Ends t) (sym here) ends); pairs = wide c h })
+        (record { counted = tail-follows c some (subst (Ends t) (sym here) ends); second = refl; pairs = wide c h })
     follows (suc n) c d h v held l =
         let (r, w) = on s n (under 64 c) d v in
         let m = kindAt s (under 64 c) in
@@ -106,5 +107,71 @@ module _ (s t : List ℕ) where
           (subst (λ x. endOf (under 0 (next c k)) + length (recordsOf s n x) ≡ e) (under-next 64 c k) (omega arith)) in
         record {
           counted = rw (eq-eqb (recordRefusal t (under 0 c)) 0 clear, kind-same s t c h r here, under-next 0 c k) (f .counted);
+          second = f .second;
           pairs = f .pairs;
         }
+
+-- ---- the twin
+
+module _ (s : List ℕ) where
+  abbrev its-bits : List ℕ
+  its-bits = recordsOf s (recordCount s) (atFirst s)
+
+  abbrev all-bits : List ℕ
+  all-bits = digits 8 1 ++ (bitsOf s 8 16 ++ its-bits)
+
+  are-bits : Bits all-bits
+  are-bits = append-bits _ _ (digits-bits 8 1) (append-bits _ _ (bits-of s 8 16) (records-bits s (recordCount s) (atFirst s)))
+
+  how-many : length all-bits ≡ headLength + length its-bits
+  how-many = simp length-append (omega (arith, digits-length 8 1, bits-length s 8 16))
+
+  held : Holds (twin s) 0 all-bits
+  unfolding twin
+  held = packed-holds all-bits are-bits
+
+  pub edition-one : edition (twin s) ≡ 1
+  unfolding numberOf digits tab
+  edition-one = holds-number (twin s) 0 (digits 8 1) (holds-left (twin s) 0 (digits 8 1) _ held) 8 (omega (arith, digits-length 8 1))
+
+  past-edition : Holds (twin s) 8 (bitsOf s 8 16 ++ its-bits)
+  past-edition =
+      subst (λ (n : ℕ). Holds (twin s) (0 + n) (bitsOf s 8 16 ++ its-bits)) (digits-length 8 1) (holds-right (twin s) 0 (digits 8 1) _ held)
+
+  count-same : recordCount s ≡ recordCount (twin s)
+  count-same = holds-field s (twin s) 8 8 16 (holds-left (twin s) 8 (bitsOf s 8 16) _ past-edition) 0 16 (omega arith)
+
+  records-held : Holds (twin s) headLength its-bits
+  records-held = subst (λ (n : ℕ). Holds (twin s) (8 + n) its-bits) (bits-length s 8 16) (holds-right (twin s) 8 (bitsOf s 8 16) _ past-edition)
+
+  ends : Ends (twin s) (headLength + length its-bits)
+  unfolding twin
+  ends =
+      let n = how-many in
+      let l = packed-length all-bits in
+      record {
+        long = omega arith;
+        short = omega arith;
+        zeros = λ i h. packed-bit all-bits are-bits i ∙ List·getD-eq-default all-bits 0 (omega arith);
+      }
+
+  module _ (c : Counts) (v : verdict s ≡ Accepted c) (two : edition s ≡ 2) where
+    at-first : atFirst s ≡ none 64
+    at-first = ap (λ e. none (acrossBits e)) two
+
+    followed : Follows s (twin s) (recordCount s) (none 64) c
+    followed =
+        let h = headed s c v in
+        follows s (twin s) (subst (λ n. 0 < n) count-same (h .some)) (headLength + length its-bits) ends (recordCount s) (none 64) c
+        (subst (Each (Pair s (twin s))) at-first (no-records (Pair s (twin s)) s))
+        (subst (λ x. recordsVerdict s (recordCount s) x ≡ Accepted c) at-first (h .rest))
+        (subst (λ x. Holds (twin s) headLength (recordsOf s (recordCount s) x)) at-first records-held)
+        (ap (λ x. headLength + length (recordsOf s (recordCount s) x)) (sym at-first))
+
+    -- "With all second coordinates zero, an accepted edition 2 sheet answers as its edition 1 twin": the twin is accepted, with the same counts
+    pub twin-accepted : verdict (twin s) ≡ Accepted (under 0 c)
+    unfolding verdict firstOf pick refusal2Head refusal3
+    twin-accepted =
+        let e = ends .long in
+        let first : atFirst (twin s) ≡ none 0 = ap (λ n. none (acrossBits n)) edition-one in
+        rw (le-ltb (8 * length (twin s)) headLength (omega arith), edition-one, ← count-same) (followed .counted)
