@@ -1,6 +1,7 @@
 -- The twin of a sheet of edition 2. Document 02, F-12: "With all second coordinates zero, an accepted edition 2 sheet answers as its edition 1 twin": the
 -- same records, written by edition 1's table. Assumes nothing.
-use Prim.Native.Nat.{ℕ, zero, suc, _+_, _-_}
+use Prim.Native.Nat.{ℕ, zero, suc, _+_, _-_, _<_}
+use mathlib.Core.Path.{_≡_}
 use mathlib.Core.List.{List, [], _++_}
 use Rattle.fp.specs.Num as Num
 use Rattle.components.specs.declared.Kind.{Kind}
@@ -11,8 +12,10 @@ use Rattle.components.specs.declared.Car as car
 use Rattle.components.specs.Codes.{kindOf}
 use Rattle.components.specs.Points.{pointOf}
 use Rattle.layout.specs.declared.Counts.{Counts}
-use Rattle.layout.specs.Offsets.{acrossBits, bodyFrom, bodyLength, recordLength, next, endOf}
-use Rattle.layout.specs.Table.{Field, head·edition, head·count, record·kind, record·stated, stop·across, car·across}
+use Rattle.layout.specs.Offsets.{headLength, bodyFrom, bodyLength, recordLength, next, endOf}
+use Rattle.layout.specs.Offsets.{stopStart, lineStart, carStart, aboardStart, waitingStart, demandStart, closedStart}
+use Rattle.layout.specs.Table.{head·edition, head·count, record·kind, record·stated, stop·across, car·across, closed·stop}
+use Rattle.layout.specs.Records.{from, read, policyOf, stopOf, lineOf, carOf, aboardOf, waitingOf, demandOf, limitOf}
 use Rattle.layout.specs.Refusals.{recordCount, kindAt}
 use Rattle.layout.specs.Verdict.{atFirst}
 use Rattle.twins.specs.Written.{bitsOf, digits, packed}
@@ -100,3 +103,15 @@ moved p x =
 
 abbrev pub flatCar : car.Car → car.Car
 flatCar x = moved (flat (x .position)) x
+
+-- t of edition 1 has the records of s, of edition 2 with the counts c: each stop and car with a second coordinate of zero, and all else as it is
+pub record SameRecords (s t : List ℕ) (c : Counts) : Type 0 where
+  pub policy : policyOf (from s headLength) ≡ policyOf (from t headLength)
+  pub limit : limitOf s ≡ limitOf t
+  pub stop : (j : ℕ) → j < c .stops → flatStop (stopOf (c .across) (from s (stopStart c j))) ≡ stopOf 0 (from t (stopStart (under 0 c) j))
+  pub line : (i : ℕ) → i < c .lines → lineOf (from s (lineStart c i)) ≡ lineOf (from t (lineStart (under 0 c) i))
+  pub car : (i : ℕ) → i < c .cars → flatCar (carOf (c .across) (from s (carStart c i))) ≡ carOf 0 (from t (carStart (under 0 c) i))
+  pub aboard : (i : ℕ) → i < c .aboards → aboardOf (from s (aboardStart c i)) ≡ aboardOf (from t (aboardStart (under 0 c) i))
+  pub waiting : (i : ℕ) → i < c .waits → waitingOf (from s (waitingStart c i)) ≡ waitingOf (from t (waitingStart (under 0 c) i))
+  pub demand : (i : ℕ) → i < c .demands → demandOf (from s (demandStart c i)) ≡ demandOf (from t (demandStart (under 0 c) i))
+  pub closed : (i : ℕ) → i < c .closures → read (from s (closedStart c i)) closed·stop ≡ read (from t (closedStart (under 0 c) i)) closed·stop

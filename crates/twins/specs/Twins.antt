@@ -15,15 +15,13 @@ use Rattle.components.specs.Codes.{kindOf}
 use Rattle.layout.specs.declared.Counts.{Counts}
 use Rattle.layout.specs.declared.Reading.the-variants.{Accepted}
 use Rattle.layout.specs.Offsets.{headLength, acrossBits, recordLength, lastKind, none, next, endOf}
-use Rattle.layout.specs.Offsets.{stopStart, lineStart, carStart, aboardStart, waitingStart, demandStart, closedStart}
-use Rattle.layout.specs.Table.{closed·stop}
-use Rattle.layout.specs.Records.{from, read, policyOf, stopOf, lineOf, carOf, aboardOf, waitingOf, demandOf, limitOf}
+use Rattle.layout.specs.Records.{limitOf}
 use Rattle.layout.specs.Refusals.{edition, recordCount, kindAt, refusal2Head, refusal3, refusal6, refusal6Empty, refusal16, tailFits}
 use Rattle.layout.specs.Verdict.{pick, firstOf, recordRefusal, tailVerdict, recordsVerdict, atFirst, verdict}
 use Rattle.accepted.specs.Accepted.{Each, and-next, no-records, at-end, on, Headed, headed, accepted}
 use Rattle.twins.specs.Written.{Holds, Bits, bitsOf, digits, numberOf, packed, packed-bit, packed-length, packed-holds, holds-left, holds-right}
 use Rattle.twins.specs.Written.{holds-field, holds-number, bits-of, digits-bits, append-bits, bits-length, digits-length}
-use Rattle.twins.specs.Twin.{recordOf, recordsOf, twin, under, flatStop, flatCar}
+use Rattle.twins.specs.Twin.{recordOf, recordsOf, twin, under, SameRecords}
 use Rattle.twins.specs.Views.{policy-same, limit-same, stop-same, line-same, car-same, aboard-same, waiting-same, demand-same, closed-same}
 use Rattle.twins.specs.Looks.{Pair, the-policy, the-stop, the-line, the-car, the-aboard, the-waiting, the-demand, the-closed}
 use Rattle.twins.specs.Steps.{under-next, end-next, record-length, records-bits, kind-same, pair, record-clean}
@@ -111,6 +109,22 @@ module _ (s t : List ℕ) where
           pairs = f .pairs;
         }
 
+module _ (s t : List ℕ) (c : Counts) (h : Each (Pair s t) c) (one : c .policies ≡ 1) where
+  by-pairs : SameRecords s t (under 64 c)
+  unfolding limitOf
+  by-pairs =
+      record {
+        policy = policy-same _ _ (the-policy s t c h (omega arith));
+        limit = limit-same _ _ (the-policy s t c h (omega arith));
+        stop = λ j l. stop-same _ _ (the-stop s t c h j l);
+        line = λ i l. line-same _ _ (the-line s t c h i l);
+        car = λ i l. car-same _ _ (the-car s t c h i l);
+        aboard = λ i l. aboard-same _ _ (the-aboard s t c h i l);
+        waiting = λ i l. waiting-same _ _ (the-waiting s t c h i l);
+        demand = λ i l. demand-same _ _ (the-demand s t c h i l);
+        closed = λ i l. closed-same _ _ (the-closed s t c h i l);
+      }
+
 -- ---- the twin
 
 module _ (s : List ℕ) where
@@ -173,5 +187,8 @@ module _ (s : List ℕ) where
     unfolding verdict firstOf pick refusal2Head refusal3
     twin-accepted =
         let e = ends .long in
-        let first : atFirst (twin s) ≡ none 0 = ap (λ n. none (acrossBits n)) edition-one in
         rw (le-ltb (8 * length (twin s)) headLength (omega arith), edition-one, ← count-same) (followed .counted)
+
+    -- and it has the same records
+    pub twin-records : SameRecords s (twin s) c
+    twin-records = subst (SameRecords s (twin s)) (followed .second) (by-pairs s (twin s) c (followed .pairs) (accepted s c v .one-policy))
