@@ -5,3 +5,4 @@ pub mod Looks
 pub mod Bodies
 pub mod Steps
 pub mod Twins
+pub mod Worked
