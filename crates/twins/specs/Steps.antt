@@ -22,7 +22,7 @@ use Rattle.layout.specs.VerdictLaws.{Clean}
 use Rattle.accepted.specs.Accepted.{Each}
 use Rattle.twins.specs.Written.{Holds, Bits, bitsOf, digits, numberOf, holds-left, holds-right, holds-field, holds-number, bits-of, digits-bits}
 use Rattle.twins.specs.Written.{append-bits, bits-length, digits-length}
-use Rattle.twins.specs.Twin.{acrossFrom, bodyOf, recordOf, recordsOf, under}
+use Rattle.twins.specs.Twin.{acrossFrom, lengthOf, bodyOf, recordOf, recordsOf, under}
 use Rattle.twins.specs.Views.{Same, same-by}
 use Rattle.twins.specs.Looks.{Pair}
 use Rattle.twins.specs.Bodies.{body-clean}
@@ -40,19 +40,8 @@ across-inside Demand = (omega arith, omega arith)
 across-inside Closed = (omega arith, omega arith)
 across-inside Unknown = (omega arith, omega arith)
 
-none-across : (k : Kind) → acrossIn 0 k ≡ 0
-none-across Policy = refl
-none-across Stop = refl
-none-across Line = refl
-none-across Car = refl
-none-across Aboard = refl
-none-across Waiting = refl
-none-across Demand = refl
-none-across Closed = refl
-none-across Unknown = refl
-
 -- a body's length is a number of 16 bits
-length-digits : (k : Kind) → numberOf (λ i. getD (digits 16 (bodyLength k)) i 0) 16 ≡ bodyLength k
+length-digits : (k : Kind) → numberOf (λ i. getD (digits 16 (lengthOf k)) i 0) 16 ≡ bodyLength k + acrossIn 0 k
 unfolding numberOf digits tab
 length-digits Policy = refl
 length-digits Stop = refl
@@ -101,21 +90,12 @@ end-next c Unknown h = never (sym h)
 
 pub record-length : (s : List ℕ) (k : Kind) (at : ℕ) → length (recordOf s 64 k at) ≡ recordLength 0 k
 unfolding recordOf bodyOf
-record-length s k at =
-    let (p, q) = across-inside k in
-    simp length-append (omega (
-      arith,
-      bits-length s at 6,
-      digits-length 16 (bodyLength k),
-      bits-length s (at + bodyFrom) (acrossFrom k - bodyFrom),
-      bits-length s (at + acrossFrom k + 64) (recordLength 0 k - acrossFrom k),
-    ))
+record-length s k at = let (p, q) = across-inside k in simp (length-append, bits-length, digits-length) (omega arith)
 
 record-bits : (s : List ℕ) (w : ℕ) (k : Kind) (at : ℕ) → Bits (recordOf s w k at)
 unfolding recordOf bodyOf
 record-bits s w k at =
-    append-bits _ _ (bits-of s at 6) (append-bits _ _ (digits-bits 16 (bodyLength k))
-    (append-bits _ _ (bits-of s (at + bodyFrom) (acrossFrom k - bodyFrom)) (bits-of s (at + acrossFrom k + w) (recordLength 0 k - acrossFrom k))))
+    append-bits _ _ (bits-of _ _ _) (append-bits _ _ (digits-bits _ _) (append-bits _ _ (bits-of _ _ _) (bits-of _ _ _)))
 
 no-bits : Bits []
 no-bits = record { two = λ i. omega arith }
@@ -133,18 +113,18 @@ module _ (s t : List ℕ) (k : Kind) (at b : ℕ) (h : Holds t b (recordOf s 64 
   unfolding recordOf
   its-kind = holds-field s t b at 6 (holds-left t b (bitsOf s at 6) _ h) 0 6 (omega arith)
 
-  past-kind : Holds t (b + 6) (digits 16 (bodyLength k) ++ bodyOf s 64 k at)
+  past-kind : Holds t (b + 6) (digits 16 (lengthOf k) ++ bodyOf s 64 k at)
   unfolding recordOf
-  past-kind = subst (λ (n : ℕ). Holds t (b + n) (digits 16 (bodyLength k) ++ bodyOf s 64 k at)) (bits-length s at 6) (holds-right t b (bitsOf s at 6) _ h)
+  past-kind = subst (λ (n : ℕ). Holds t (b + n) (digits 16 (lengthOf k) ++ bodyOf s 64 k at)) (bits-length s at 6) (holds-right t b (bitsOf s at 6) _ h)
 
-  pub its-length : fieldAt t (b + 6) 16 ≡ bodyLength k
+  pub its-length : fieldAt t (b + 6) 16 ≡ bodyLength k + acrossIn 0 k
   its-length =
-      holds-number t (b + 6) (digits 16 (bodyLength k)) (holds-left t (b + 6) (digits 16 (bodyLength k)) _ past-kind) 16
-      (omega (arith, digits-length 16 (bodyLength k))) ∙ length-digits k
+      holds-number t (b + 6) (digits 16 (lengthOf k)) (holds-left t (b + 6) (digits 16 (lengthOf k)) _ past-kind) 16
+      (omega (arith, digits-length 16 (lengthOf k))) ∙ length-digits k
 
   its-body : Holds t (b + 6 + 16) (bodyOf s 64 k at)
-  its-body = subst (λ (n : ℕ). Holds t (b + 6 + n) (bodyOf s 64 k at)) (digits-length 16 (bodyLength k))
-      (holds-right t (b + 6) (digits 16 (bodyLength k)) _ past-kind)
+  its-body = subst (λ (n : ℕ). Holds t (b + 6 + n) (bodyOf s 64 k at)) (digits-length 16 (lengthOf k))
+      (holds-right t (b + 6) (digits 16 (lengthOf k)) _ past-kind)
 
   abbrev front : ℕ
   front = acrossFrom k - bodyFrom
@@ -191,17 +171,15 @@ module _ (s t : List ℕ) (c : Counts) (h : Each (Pair s t) c) (r : Clean s (und
     pub pair : Pair s t c its
     pair = its-fields s t its (endOf (under 64 c)) (endOf (under 0 c)) held
 
-    stated : lengthAt t (under 0 c) ≡ bodyLength its
+    stated : lengthAt t (under 0 c) ≡ bodyLength its + acrossIn 0 its
     stated = its-length s t its (endOf (under 64 c)) (endOf (under 0 c)) held
 
     pub record-clean : endOf (under 0 c) + recordLength 0 its ≤ 8 * length t → recordRefusal t (under 0 c) ≡ 0
     unfolding recordRefusal firstOf pick refusal2 refusal5 refusal6 lastKind
     record-clean l =
-        let n = none-across its in
         let e = stated in
         let q2 : refusal2 t (under 0 c) ≡ false = le-ltb (8 * length t) (endOf (under 0 c) + 22 + lengthAt t (under 0 c)) (omega arith) in
-        let q5 : eqb (lengthAt t (under 0 c)) (bodyLength its + acrossIn 0 its) ≡ true =
-          eq-eqb (lengthAt t (under 0 c)) (bodyLength its + acrossIn 0 its) (omega arith) in
+        let q5 : eqb (lengthAt t (under 0 c)) (bodyLength its + acrossIn 0 its) ≡ true = eq-eqb _ _ stated in
         let q7 : refusal7 (under 0 c) its ≡ false = room-same c its 0 64 ∙ r .has-room in
         let q8 = body-clean s t c h (from s (endOf (under 64 c))) (from t (endOf (under 0 c))) its pair (r .body) in
         rw (q2, kind-same, r .known, q5, r .in-order, q7) q8

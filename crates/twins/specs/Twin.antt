@@ -12,7 +12,7 @@ use Rattle.components.specs.declared.Car as car
 use Rattle.components.specs.Codes.{kindOf}
 use Rattle.components.specs.Points.{pointOf}
 use Rattle.layout.specs.declared.Counts.{Counts}
-use Rattle.layout.specs.Offsets.{headLength, bodyFrom, bodyLength, recordLength, next, endOf}
+use Rattle.layout.specs.Offsets.{headLength, bodyFrom, bodyLength, acrossBits, acrossIn, recordLength, next, endOf}
 use Rattle.layout.specs.Offsets.{stopStart, lineStart, carStart, aboardStart, waitingStart, demandStart, closedStart}
 use Rattle.layout.specs.Table.{head·edition, head·count, record·kind, record·stated, stop·across, car·across, closed·stop}
 use Rattle.layout.specs.Records.{from, read, policyOf, stopOf, lineOf, carOf, aboardOf, waitingOf, demandOf, limitOf}
@@ -20,7 +20,7 @@ use Rattle.layout.specs.Refusals.{recordCount, kindAt}
 use Rattle.layout.specs.Verdict.{atFirst}
 use Rattle.twins.specs.Written.{bitsOf, digits, packed}
 
--- ---- its bytes
+-- ---- what is written
 
 -- where a record's second coordinate starts, "after the position"; a kind that has none ends there
 abbrev pub acrossFrom : Kind → ℕ
@@ -38,9 +38,13 @@ acrossFrom Unknown = recordLength 0 Unknown
 unfoldable pub bodyOf : List ℕ → ℕ → Kind → ℕ → List ℕ
 bodyOf s w k at = bitsOf s (at + bodyFrom) (acrossFrom k - bodyFrom) ++ bitsOf s (at + acrossFrom k + w) (recordLength 0 k - acrossFrom k)
 
--- that record in edition 1: "kind 6 bits, body length in bits 16 bits, body"
+-- the length of that body
+abbrev pub lengthOf : Kind → ℕ
+lengthOf k = bodyLength k + acrossIn (acrossBits 1) k
+
+-- the record in edition 1: "kind 6 bits, body length in bits 16 bits, body"
 unfoldable pub recordOf : List ℕ → ℕ → Kind → ℕ → List ℕ
-recordOf s w k at = bitsOf s at (record·kind .width) ++ (digits (record·stated .width) (bodyLength k) ++ bodyOf s w k at)
+recordOf s w k at = bitsOf s at (record·kind .width) ++ (digits (record·stated .width) (lengthOf k) ++ bodyOf s w k at)
 
 -- n records after those counted
 unfoldable pub recordsOf : List ℕ → ℕ → Counts → List ℕ
@@ -48,9 +52,12 @@ recordsOf s zero c = []
 recordsOf s (suc n) c = recordOf s (c .across) (kindOf (kindAt s c)) (endOf c) ++ recordsOf s n (next c (kindOf (kindAt s c)))
 
 -- "Head: edition 8 bits (1), record count 16 bits.", and all records
+abbrev pub twinBits : List ℕ → List ℕ
+twinBits s = digits (head·edition .width) 1 ++ (bitsOf s (head·count .start) (head·count .width) ++ recordsOf s (recordCount s) (atFirst s))
+
+-- its bytes: "0 to 7 zero bits up to the byte's end, then nothing"
 unfoldable pub twin : List ℕ → List ℕ
-twin s =
-    packed (digits (head·edition .width) 1 ++ (bitsOf s (head·count .start) (head·count .width) ++ recordsOf s (recordCount s) (atFirst s)))
+twin s = packed (twinBits s)
 
 -- ---- what its records are
 

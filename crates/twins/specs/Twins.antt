@@ -21,7 +21,7 @@ use Rattle.layout.specs.Verdict.{pick, firstOf, recordRefusal, tailVerdict, rec
 use Rattle.accepted.specs.Accepted.{Each, and-next, no-records, at-end, on, Headed, headed, accepted}
 use Rattle.twins.specs.Written.{Holds, Bits, bitsOf, digits, numberOf, packed, packed-bit, packed-length, packed-holds, holds-left, holds-right}
 use Rattle.twins.specs.Written.{holds-field, holds-number, bits-of, digits-bits, append-bits, bits-length, digits-length}
-use Rattle.twins.specs.Twin.{recordOf, recordsOf, twin, under, SameRecords}
+use Rattle.twins.specs.Twin.{recordOf, recordsOf, twinBits, twin, under, SameRecords}
 use Rattle.twins.specs.Views.{policy-same, limit-same, stop-same, line-same, car-same, aboard-same, waiting-same, demand-same, closed-same}
 use Rattle.twins.specs.Looks.{Pair, the-policy, the-stop, the-line, the-car, the-aboard, the-waiting, the-demand, the-closed}
 use Rattle.twins.specs.Steps.{under-next, end-next, record-length, records-bits, kind-same, pair, record-clean}
@@ -131,18 +131,15 @@ module _ (s : List ℕ) where
   abbrev its-bits : List ℕ
   its-bits = recordsOf s (recordCount s) (atFirst s)
 
-  abbrev all-bits : List ℕ
-  all-bits = digits 8 1 ++ (bitsOf s 8 16 ++ its-bits)
-
-  are-bits : Bits all-bits
+  are-bits : Bits (twinBits s)
   are-bits = append-bits _ _ (digits-bits 8 1) (append-bits _ _ (bits-of s 8 16) (records-bits s (recordCount s) (atFirst s)))
 
-  how-many : length all-bits ≡ headLength + length its-bits
+  how-many : length (twinBits s) ≡ headLength + length its-bits
   how-many = simp length-append (omega (arith, digits-length 8 1, bits-length s 8 16))
 
-  held : Holds (twin s) 0 all-bits
+  held : Holds (twin s) 0 (twinBits s)
   unfolding twin
-  held = packed-holds all-bits are-bits
+  held = packed-holds (twinBits s) are-bits
 
   pub edition-one : edition (twin s) ≡ 1
   unfolding numberOf digits tab
@@ -162,11 +159,11 @@ module _ (s : List ℕ) where
   unfolding twin
   ends =
       let n = how-many in
-      let l = packed-length all-bits in
+      let l = packed-length (twinBits s) in
       record {
         long = omega arith;
         short = omega arith;
-        zeros = λ i h. packed-bit all-bits are-bits i ∙ List·getD-eq-default all-bits 0 (omega arith);
+        zeros = λ i h. packed-bit (twinBits s) are-bits i ∙ List·getD-eq-default (twinBits s) 0 (omega arith);
       }
 
   module _ (c : Counts) (v : verdict s ≡ Accepted c) (two : edition s ≡ 2) where
