@@ -1,11 +1,10 @@
 -- No condition of refusals 8 to 14 holds of a record of edition 1 where none holds of the record of edition 2 with the same fields. Assumes nothing.
 use Prim.Native.Nat.{ℕ}
 use mathlib.Core.Path.{_≡_, refl, sym, ap, _∙_}
-use mathlib.Core.Bool.{Bool, true, false, not, _&&_, _||_}
+use mathlib.Core.Bool.{Bool, true, false, _&&_, _||_}
 use mathlib.Core.List.{List}
 use native.Mathlib.Omega.{arith}
 use lib.Dec.{eqb}
-use lib.Ieee.{ofBits, binary64}
 use borrow.Author.Tests.{not-false}
 use Rattle.laws.specs.Bools.{both-left, both-right}
 use Rattle.fp.specs.Num as Num
@@ -17,10 +16,10 @@ use Rattle.components.specs.declared.Strategy.{Strategy}
 use Rattle.components.specs.declared.Strategy.the-variants.{Etd, Rsr, Scan}
 use Rattle.components.specs.declared.Strategy.the-variants as strategy
 use Rattle.components.specs.Codes.{strategyCode}
-use Rattle.components.specs.Points.{pointOf, isPlaced, along-inside}
+use Rattle.components.specs.Points.{isPlaced, along-inside}
 use Rattle.layout.specs.declared.Counts.{Counts}
-use Rattle.layout.specs.Table.{past, line·id, car·id, car·line, car·position, car·across, car·speed, car·capacity, car·load, car·bypassUp, car·bypassDown}
-use Rattle.layout.specs.Table.{stop·position, stop·across, aboard·car, waiting·stop, demand·stop, closed·stop}
+use Rattle.layout.specs.Table.{past, line·id, car·id, car·line, car·position, car·across, car·speed, car·capacity, car·load}
+use Rattle.layout.specs.Table.{car·bypassUp, car·bypassDown, stop·position, stop·across, aboard·car, waiting·stop, demand·stop, closed·stop}
 use Rattle.layout.specs.Records.{Fields, read, double, point}
 use Rattle.layout.specs.Refusals.{strategyAt, unusedWeights, refusal8Policy, refusal11Policy, refusal12, refusal9Stop, refusal11Stop, refusal9Line}
 use Rattle.layout.specs.Refusals.{refusal10Line, refusal8Car, refusal9Car, refusal10Car, refusal11Car, refusal13, refusal8Aboard, refusal9Aboard}
@@ -62,8 +61,8 @@ module _ (s t : List ℕ) (c : Counts) (h : Each (Pair s t) c) (f g : Fields) wh
       let a = pick-none (refusal9Stop s (under 64 c) f) 9 _ (omega arith) z in
       let b = pick-none (refusal11Stop (under 64 c) f) 11 0 (omega arith) (a .1) in
       let p : isPosition (double g stop·position) ≡ true =
-        sym (ap (λ (x : Fields). isPosition (double x stop·position)) (e .view-same))
-        ∙ along-inside (point f stop·position (stop·across 64)) (not-false _ (b .0)) in
+      sym (ap (λ (x : Fields). isPosition (double x stop·position)) (e .view-same))
+      ∙ along-inside (point f stop·position (stop·across 64)) (not-false _ (b .0)) in
       let q : refusal9Stop t (under 0 c) g ≡ false = sym (ap (refusal9Stop t (under 0 c)) (e .view-same)) ∙ rw (← last-same s t c h) (a .0) in
       rw (q, p, e .no-bits (stop·across 0 .start), zero-inside) refl
 
@@ -100,7 +99,7 @@ module _ (s t : List ℕ) (c : Counts) (h : Each (Pair s t) c) (f g : Fields) wh
       let q10 : refusal10Car t (under 0 c) g ≡ false = sym (l10 ∙ ap (refusal10Car t (under 0 c)) (e .view-same)) ∙ a10 .0 in
       let q13 : refusal13 (under 0 c) g ≡ false = sym (ap (refusal13 (under 0 c)) (e .view-same)) ∙ a13 .0 in
       let p : isPosition (double g car·position) ≡ true =
-        sym (ap (λ (y : Fields). isPosition (double y car·position)) (e .view-same)) ∙ along-inside here (both-left (isPlaced here) _ inside) in
+      sym (ap (λ (y : Fields). isPosition (double y car·position)) (e .view-same)) ∙ along-inside here (both-left (isPlaced here) _ inside) in
       let o : others 0 g ≡ true = sym (ap (others 0) (e .view-same)) ∙ both-right (isPlaced here) _ inside in
       let q11 : refusal11Car (under 0 c) g ≡ false = rw (p, e .no-bits (car·across 0 .start), zero-inside, o) refl in
       rw (q8, q9, q10, q11, q13) refl
@@ -121,14 +120,14 @@ module _ (s t : List ℕ) (c : Counts) (h : Each (Pair s t) c) (f g : Fields) wh
   unfolding firstOf refusal9Demand refusal10Demand
   demand-body e =
       let a : bodyRefusal s (under 64 c) kind.Demand f ≡ bodyRefusal t (under 0 c) kind.Demand f =
-        rw (demands-same s t c h (read f demand·stop), stops-same s t c h (read f demand·stop)) in
+      rw (demands-same s t c h (read f demand·stop), stops-same s t c h (read f demand·stop)) in
       a ∙ ap (bodyRefusal t (under 0 c) kind.Demand) (e .view-same)
 
   closed-body : Same kind.Closed f g → bodyRefusal s (under 64 c) kind.Closed f ≡ bodyRefusal t (under 0 c) kind.Closed g
   unfolding firstOf refusal9Closed refusal10Closed
   closed-body e =
       let a : bodyRefusal s (under 64 c) kind.Closed f ≡ bodyRefusal t (under 0 c) kind.Closed f =
-        rw (closures-same s t c h (read f closed·stop), stops-same s t c h (read f closed·stop)) in
+      rw (closures-same s t c h (read f closed·stop), stops-same s t c h (read f closed·stop)) in
       a ∙ ap (bodyRefusal t (under 0 c) kind.Closed) (e .view-same)
 
   pub body-clean : (k : Kind) → Same k f g → bodyRefusal s (under 64 c) k f ≡ 0 → bodyRefusal t (under 0 c) k g ≡ 0

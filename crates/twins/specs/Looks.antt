@@ -14,7 +14,7 @@ use Rattle.components.specs.declared.Kind.the-variants as kind
 use Rattle.layout.specs.declared.Counts.{Counts}
 use Rattle.layout.specs.Offsets.{headLength, recordLength, stopsFrom, linesFrom, carsFrom, demandsFrom, closuresFrom, endOf}
 use Rattle.layout.specs.Offsets.{stopStart, lineStart, carStart, aboardStart, waitingStart, demandStart, closedStart}
-use Rattle.layout.specs.Table.{first, stop·id}
+use Rattle.layout.specs.Table.{first}
 use Rattle.layout.specs.Records.{Fields, from, read}
 use Rattle.layout.specs.Refusals.{seen, hasStop, hasLine, hasCar, hasDemand, hasClosed, lastStop}
 use Rattle.accepted.specs.Accepted.{Each}

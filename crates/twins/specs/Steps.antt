@@ -1,7 +1,7 @@
 -- One record of a twin: what stands in it, how long it is, and that it is not refused. Assumes nothing.
 use Prim.Native.Nat.{ℕ, zero, suc, _+_, _-_, _*_, _≤_}
-use mathlib.Core.Path.{_≡_, refl, sym, ap, _∙_, subst}
-use mathlib.Core.Bool.{true, false, not}
+use mathlib.Core.Path.{_≡_, refl, sym, _∙_, subst}
+use mathlib.Core.Bool.{true, false}
 use mathlib.Core.List.{List, [], _++_}
 use native.Mathlib.Omega.{arith}
 use lib.Dec.{eqb}
@@ -115,7 +115,8 @@ module _ (s t : List ℕ) (k : Kind) (at b : ℕ) (h : Holds t b (recordOf s 64 
 
   past-kind : Holds t (b + 6) (digits 16 (lengthOf k) ++ bodyOf s 64 k at)
   unfolding recordOf
-  past-kind = subst (λ (n : ℕ). Holds t (b + n) (digits 16 (lengthOf k) ++ bodyOf s 64 k at)) (bits-length s at 6) (holds-right t b (bitsOf s at 6) _ h)
+  past-kind =
+      subst (λ (n : ℕ). Holds t (b + n) (digits 16 (lengthOf k) ++ bodyOf s 64 k at)) (bits-length s at 6) (holds-right t b (bitsOf s at 6) _ h)
 
   pub its-length : fieldAt t (b + 6) 16 ≡ bodyLength k + acrossIn 0 k
   its-length =

@@ -1,5 +1,5 @@
--- The twin of a sheet of edition 2. Document 02, F-12: "With all second coordinates zero, an accepted edition 2 sheet answers as its edition 1 twin": the
--- same records, written by edition 1's table. Assumes nothing.
+-- The twin of a sheet of edition 2: the same records, written by edition 1's table. Document 02, F-12: "With all second coordinates zero, an accepted
+-- edition 2 sheet answers as its edition 1 twin". Assumes nothing.
 use Prim.Native.Nat.{ℕ, zero, suc, _+_, _-_, _<_}
 use mathlib.Core.Path.{_≡_}
 use mathlib.Core.List.{List, [], _++_}

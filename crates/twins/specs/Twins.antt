@@ -2,24 +2,22 @@
 -- nothing.
 use Prim.Native.Nat.{ℕ, zero, suc, _+_, _-_, _*_, _≤_, _<_}
 use mathlib.Core.Path.{_≡_, refl, sym, ap, _∙_, subst}
-use mathlib.Core.Bool.{true, false}
 use mathlib.Core.List.{List, _++_}
 use mathlib.Core.Logic.{inr}
 use native.Mathlib.Omega.{arith}
-use lib.Dec.{eqb}
-use lib.ListN.{length, getD, length-append, List·getD-eq-default}
+use lib.ListN.{length, length-append, List·getD-eq-default}
 use borrow.Author.Tests.{eq-eqb, ne-eqb, le-ltb, lt-ltb}
 use Rattle.laws.specs.Tables.{tab}
 use Rattle.bits.specs.Field.{bitAt, fieldAt}
 use Rattle.components.specs.Codes.{kindOf}
 use Rattle.layout.specs.declared.Counts.{Counts}
 use Rattle.layout.specs.declared.Reading.the-variants.{Accepted}
-use Rattle.layout.specs.Offsets.{headLength, acrossBits, recordLength, lastKind, none, next, endOf}
+use Rattle.layout.specs.Offsets.{headLength, acrossBits, lastKind, none, next, endOf}
 use Rattle.layout.specs.Records.{limitOf}
 use Rattle.layout.specs.Refusals.{edition, recordCount, kindAt, refusal2Head, refusal3, refusal6, refusal6Empty, refusal16, tailFits}
 use Rattle.layout.specs.Verdict.{pick, firstOf, recordRefusal, tailVerdict, recordsVerdict, atFirst, verdict}
-use Rattle.accepted.specs.Accepted.{Each, and-next, no-records, at-end, on, Headed, headed, accepted}
-use Rattle.twins.specs.Written.{Holds, Bits, bitsOf, digits, numberOf, packed, packed-bit, packed-length, packed-holds, holds-left, holds-right}
+use Rattle.accepted.specs.Accepted.{Each, and-next, no-records, at-end, on, headed, accepted}
+use Rattle.twins.specs.Written.{Holds, Bits, bitsOf, digits, numberOf, packed-bit, packed-length, packed-holds, holds-left, holds-right}
 use Rattle.twins.specs.Written.{holds-field, holds-number, bits-of, digits-bits, append-bits, bits-length, digits-length}
 use Rattle.twins.specs.Twin.{recordOf, recordsOf, twinBits, twin, under, SameRecords}
 use Rattle.twins.specs.Views.{policy-same, limit-same, stop-same, line-same, car-same, aboard-same, waiting-same, demand-same, closed-same}
@@ -67,7 +65,7 @@ module _ (s t : List ℕ) where
       let a = e .long in
       let b = e .short in
       let z : fieldAt t (endOf (under 0 c) + 0) (8 * length t - endOf (under 0 c)) ≡ 0 =
-        zero-field t (at + 0) (λ i l. e .zeros i (omega arith)) (8 * length t - at) in
+      zero-field t (at + 0) (λ i l. e .zeros i (omega arith)) (8 * length t - at) in
       rw (
         ne-eqb (recordCount t) 0 (λ q. absurd (omega arith)),
         le-ltb (8 * length t) at a,
@@ -96,13 +94,13 @@ module _ (s t : List ℕ) where
         let here = holds-left t (endOf (under 0 c)) a b held in
         let clear : recordRefusal t (under 0 c) ≡ 0 = record-clean s t c h r here (omega arith) in
         let then : endOf (under 0 c) + length (recordOf s 64 k (endOf (under 64 c))) ≡ endOf (under 0 (next c k)) =
-          omega (arith, end-next c k (r .known)) in
+        omega (arith, end-next c k (r .known)) in
         let rest : Holds t (endOf (under 0 (next c k))) (recordsOf s n (under 64 (next c k))) =
-          subst (λ x. Holds t (endOf (under 0 (next c k))) (recordsOf s n x)) (under-next 64 c k)
-          (subst (λ x. Holds t x (recordsOf s n (next (under 64 c) k))) then (holds-right t (endOf (under 0 c)) a b held)) in
+        subst (λ x. Holds t (endOf (under 0 (next c k))) (recordsOf s n x)) (under-next 64 c k)
+        (subst (λ x. Holds t x (recordsOf s n (next (under 64 c) k))) then (holds-right t (endOf (under 0 c)) a b held)) in
         let f = follows n (next c k) d (and-next (Pair s t) c m (r .in-order) h (pair s t c h r here))
-          (subst (λ x. recordsVerdict s n x ≡ Accepted d) (under-next 64 c k) w) rest
-          (subst (λ x. endOf (under 0 (next c k)) + length (recordsOf s n x) ≡ e) (under-next 64 c k) (omega arith)) in
+        (subst (λ x. recordsVerdict s n x ≡ Accepted d) (under-next 64 c k) w) rest
+        (subst (λ x. endOf (under 0 (next c k)) + length (recordsOf s n x) ≡ e) (under-next 64 c k) (omega arith)) in
         record {
           counted = rw (eq-eqb (recordRefusal t (under 0 c)) 0 clear, kind-same s t c h r here, under-next 0 c k) (f .counted);
           second = f .second;

@@ -40,7 +40,7 @@ same-by k f g a b n = record {
       (λ e. a o v (leb-true bodyFrom o (both-left (leb bodyFrom o) _ e)) (leb-true (o + v) (acrossFrom k) (both-right (leb bodyFrom o) _ e)))
       (λ e. b o v (leb-true (acrossFrom k) o (both-left (leb (acrossFrom k) o) _ e))
       (leb-true (o + v) (recordLength 0 k) (both-right (leb (acrossFrom k) o) _ e)) ∙ ap (λ (x : ℕ). g x v) (sym (add-zero o)));
-  }
+}
   where
     by-test : (p q : Bool) (x y x′ y′ : ℕ) → (p ≡ true → x ≡ y) → (q ≡ true → x′ ≡ y′) → cond p x (cond q x′ 0) ≡ cond p y (cond q y′ 0)
     by-test true q x y x′ y′ h h′ = h refl
@@ -61,7 +61,8 @@ module _ (f g : Fields) where
   unfolding stopOf
   stop-same h =
       ap (λ x. flatStop (stopOf 0 x)) (h .view-same)
-      ∙ ap (λ n. record { id = read g stop·id; position = pointOf (double g stop·position) (ofBits binary64 n) }) (sym (h .no-bits (stop·across 0 .start)))
+      ∙ ap (λ n. record { id = read g stop·id; position = pointOf (double g stop·position) (ofBits binary64 n) })
+      (sym (h .no-bits (stop·across 0 .start)))
 
   pub line-same : Same kind.Line f g → lineOf f ≡ lineOf g
   unfolding lineOf

@@ -21,5 +21,6 @@ unfoldable pub small : ℕ → ℕ → List ℕ
 small e across = sheet e 4 (scan ++ stop e across ++ line 1 1 ++ car e across)
 
 pub small-twin : twin (small 2 0x8000_0000_0000_0000) ≡ small 1 0
-unfolding reading tab bitsOf digits numberOf packed bodyOf recordOf recordsOf twin number widths bytes written body of sheet policy scan line stop car small
+unfolding reading tab bitsOf digits numberOf packed bodyOf recordOf recordsOf twin number widths bytes written body of sheet policy scan line stop car
+    small
 small-twin = refl

@@ -1,9 +1,9 @@
 -- Bytes from bits. Document 01: "Fields are packed bits, most significant first". Assumes nothing.
 use Prim.Native.Nat.{ℕ, zero, suc, _+_, _-_, _*_, _/_, _%_, _^_, _≤_, _<_}
-use mathlib.Core.Path.{_≡_, refl, sym, ap, ap₂, _∙_, subst}
-use mathlib.Core.List.{List, [], _∷_, _++_}
+use mathlib.Core.Path.{_≡_, refl, ap, _∙_, subst}
+use mathlib.Core.List.{List, _++_}
 use mathlib.Core.Logic.{⊎-elim}
-use native.Mathlib.Nat.{pow-suc, pow-zero, zero-div, add-assoc, zero-add}
+use native.Mathlib.Nat.{pow-zero, zero-div, zero-add}
 use native.Mathlib.Omega.{arith}
 use lib.ListN.{length, getD, length-append, List·getD-append, List·getD-eq-default}
 use lib.Seq.{getD-append-add}
@@ -85,8 +85,8 @@ module _ (t : List ℕ) (at : ℕ) (l m : List ℕ) (h : Holds t at (l ++ m)) wh
   pub holds-right : Holds t (at + length l) m
   holds-right = record {
     bit = λ i b.
-      let e : at + length l + i ≡ at + (length l + i) = omega arith in
-      ap (bitAt t) e ∙ h .bit (length l + i) (simp length-append (omega arith)) ∙ getD-append-add l m i 0;
+        let e : at + length l + i ≡ at + (length l + i) = omega arith in
+        ap (bitAt t) e ∙ h .bit (length l + i) (simp length-append (omega arith)) ∙ getD-append-add l m i 0;
   }
 
 -- fields inside of bits of s
@@ -98,7 +98,7 @@ holds-field s t at b n h o (suc w) l =
     let q : at + o + w ≡ at + (o + w) = omega arith in
     let f : ℕ → ℕ = λ i. bitAt s (b + i) in
     let e : bitAt t (at + (o + w)) ≡ bitAt s (b + (o + w)) =
-      h .bit (o + w) (omega (arith, length-tab f n)) ∙ getD-tab₀ f n (o + w) 0 (omega arith) in
+    h .bit (o + w) (omega (arith, length-tab f n)) ∙ getD-tab₀ f n (o + w) 0 (omega arith) in
     rw (p, q, e, holds-field s t at b n h o w (omega arith)) refl
 
 -- the number at the front
@@ -113,9 +113,9 @@ tab-bits : (f : ℕ → ℕ) (n : ℕ) → ((i : ℕ) → f i < 2) → Bits (tab
 tab-bits f n h =
     record {
       two = λ i. ⊎-elim
-      (λ (l : i < n). rw (getD-tab₀ f n i 0 l) (h i))
-      (λ (l : n ≤ i). let e : getD (tab f n) i 0 ≡ 0 = List·getD-eq-default (tab f n) 0 (omega (arith, length-tab f n)) in omega arith)
-      (less? i n);
+          (λ (l : i < n). rw (getD-tab₀ f n i 0 l) (h i))
+          (λ (l : n ≤ i). let e : getD (tab f n) i 0 ≡ 0 = List·getD-eq-default (tab f n) 0 (omega (arith, length-tab f n)) in omega arith)
+          (less? i n);
     }
 
 pub bits-of : (s : List ℕ) (at n : ℕ) → Bits (bitsOf s at n)
@@ -131,11 +131,11 @@ pub append-bits : (l m : List ℕ) → Bits l → Bits m → Bits (l ++ m)
 append-bits l m a b =
     record {
       two = λ i. ⊎-elim
-      (λ (h : i < length l). rw (List·getD-append l m 0 i h) (a .two i))
-      (λ (h : length l ≤ i).
-      let e : length l + (i - length l) ≡ i = omega arith in
-      subst (λ k. getD (l ++ m) k 0 < 2) e (rw (getD-append-add l m (i - length l) 0) (b .two (i - length l))))
-      (less? i (length l));
+          (λ (h : i < length l). rw (List·getD-append l m 0 i h) (a .two i))
+          (λ (h : length l ≤ i).
+          let e : length l + (i - length l) ≡ i = omega arith in
+          subst (λ k. getD (l ++ m) k 0 < 2) e (rw (getD-append-add l m (i - length l) 0) (b .two (i - length l))))
+          (less? i (length l));
     }
 
 pub bits-length : (s : List ℕ) (at n : ℕ) → length (bitsOf s at n) ≡ n
