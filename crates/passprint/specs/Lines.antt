@@ -5,8 +5,8 @@ use Prim.Native.Nat.{ℕ}
 use mathlib.Core.Bool.{cond}
 use mathlib.Core.List.{List, [], _∷_, _++_}
 use lib.Dec.{eqb}
-use Rattle.laws.specs.Folds.{fold}
 use Rattle.text.specs.Text.{decimal}
+use Rattle.text.specs.Lines.{linesOf}
 use Rattle.components.specs.declared.Direction.{Direction}
 use Rattle.components.specs.declared.Direction.the-variants.{Up, Down}
 use Rattle.components.specs.declared.Mode.{Mode}
@@ -117,10 +117,6 @@ sweepLine car w = sweepWord ++ (decimal car ++ sweepEnd w)
 -- `refused N at OFFSET`
 unfoldable pub refusalLine : ℕ → ℕ → List ℕ
 refusalLine number offset = refusedWord ++ (decimal number ++ (atWord ++ (decimal offset ++ lineEnd)))
-
--- n lines, one after the other
-abbrev pub linesOf : (ℕ → List ℕ) → ℕ → List ℕ
-linesOf line n = fold (λ (text : List ℕ) (r : ℕ). text ++ line r) [] n
 
 module _ (s : Sheet) where
   -- the id of the idle car of row r
