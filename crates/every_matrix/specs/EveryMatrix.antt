@@ -2,22 +2,18 @@
 -- six base-3 digits, row by row. A line holds the six digits, the two columns and the total". Assumes nothing.
 use Prim.Native.Nat.{ℕ, _/_, _%_}
 use mathlib.Core.List.{List, [], _∷_, _++_}
-use lib.ListN.{getD}
 use Rattle.assignment_problem.specs.Choice.{cellAt}
 use Rattle.assignment_problem.specs.Recursion.{leastTotal, columnOf}
 use Rattle.text.specs.Text.{decimal}
-use Rattle.text.specs.Lines.{linesOf}
+use Rattle.text.specs.Lines.{lineEnd, linesOf}
 
 -- the cells of matrix k, row by row: the six digits of k in base 3
 unfoldable pub matrixOf : ℕ → List ℕ
 matrixOf k = k / 243 % 3 ∷ k / 81 % 3 ∷ k / 27 % 3 ∷ k / 9 % 3 ∷ k / 3 % 3 ∷ k % 3 ∷ []
 
--- " ", "\n"
+-- " "
 abbrev pub blank : List ℕ
 blank = 32 ∷ []
-
-abbrev pub lineEnd : List ℕ
-lineEnd = 10 ∷ []
 
 -- the cells, one after the other
 abbrev pub cellsText : List ℕ → List ℕ

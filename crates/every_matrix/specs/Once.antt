@@ -3,7 +3,7 @@
 --   number-of matrix-number                 matrix k has the digits of k in base 3, so that later lines have larger matrices
 --   every-matrix only-one                   each matrix of cells 0 to 2 has one line
 --   first-line last-line                    the first and the last line
-use Prim.Native.Nat.{ℕ, _+_, _*_, _≤_, _<_, _/_, _%_}
+use Prim.Native.Nat.{ℕ, _+_, _*_, _<_, _/_, _%_}
 use mathlib.Core.Path.{_≡_, refl, sym, ap, _∙_}
 use mathlib.Core.List.{List, [], _∷_}
 use native.Mathlib.Nat.{div-div-eq-div-mul, div-add-mod}

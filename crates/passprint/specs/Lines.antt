@@ -6,7 +6,7 @@ use mathlib.Core.Bool.{cond}
 use mathlib.Core.List.{List, [], _∷_, _++_}
 use lib.Dec.{eqb}
 use Rattle.text.specs.Text.{decimal}
-use Rattle.text.specs.Lines.{linesOf}
+use Rattle.text.specs.Lines.{lineEnd, linesOf}
 use Rattle.components.specs.declared.Direction.{Direction}
 use Rattle.components.specs.declared.Direction.the-variants.{Up, Down}
 use Rattle.components.specs.declared.Mode.{Mode}
@@ -77,10 +77,6 @@ refusedWord = 114 ∷ 101 ∷ 102 ∷ 117 ∷ 115 ∷ 101 ∷ 100 ∷ 32 ∷ []
 -- " at "
 abbrev pub atWord : List ℕ
 atWord = 32 ∷ 97 ∷ 116 ∷ 32 ∷ []
-
--- "\n"
-abbrev pub lineEnd : List ℕ
-lineEnd = 10 ∷ []
 
 -- ` held H`
 unfoldable pub heldEnd : ℕ → List ℕ

@@ -7,7 +7,7 @@ use Prim.Native.Nat.{ℕ, zero, suc, _+_, _-_, _*_, _≤_, _<_}
 use native.Mathlib.Nat.{mul-le-mul-right}
 use native.Mathlib.Omega.{arith}
 use native.Mathlib.Numerals.{add-one}
-use lib.Dec.{eqb, ltb}
+use lib.Dec.{eqb}
 use lib.ListN.{length, getD, set, length-set}
 use lib.Seq.{getD-set-same, getD-set-other}
 use borrow.Author.Tests.{eq-eqb, ne-eqb}
@@ -17,7 +17,6 @@ use Rattle.assignment_problem.specs.Choice.{cellAt, sentinel, standing}
 use Rattle.assignment_problem.specs.Recursion.{none, some, before, better, front, isIn, scan, best, columnsOf, candidateTotal, chosen, leastTotal}
 use Rattle.assignment_problem.specs.Recursion.{Candidate as Found}
 use Rattle.assignment_problem.specs.Chosen.{chosen-length}
-use Rattle.plain_matcher.specs.declared.Columns.{Columns}
 use Rattle.plain_matcher.specs.declared.Plain.the-variants.{Chosen}
 use Rattle.plain_matcher.specs.declared.Choice.{Choice}
 use Rattle.plain_matcher.specs.declared.Candidate.{Candidate}

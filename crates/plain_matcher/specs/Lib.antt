@@ -1,4 +1,5 @@
--- The plain matcher's promise, that it chooses as the fast one does, and what its recursion holds.
+-- The plain matcher's promise, what its recursion holds, and that it chooses as the fast one does.
 pub mod Promise
 pub mod Held
+pub mod Fits
 pub mod AsTheFast

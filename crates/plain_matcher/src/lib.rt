@@ -1,11 +1,10 @@
 // The plain matcher: the choice of a matrix of up to 4 cars and 5 columns, by trying all of them (request F-13).
 ghost use mathlib.Core.Path.{_≡_};
-ghost use mathlib.Core.Bool.{_&&_};
 ghost use mathlib.Core.List.{_++_};
 ghost use Prim.Native.Nat.{_+_, _*_, _≤_, _<_};
 ghost use lib.ListN.{length, drop};
 ghost use Rattle.laws.specs.Tables.{tab};
-ghost use Rattle.assignment_problem.specs.Choice.{sentinel, cellAt};
+ghost use Rattle.assignment_problem.specs.Choice.{sentinel};
 ghost use Rattle.assignment_problem.specs.Recursion.{before};
 ghost use Rattle.plain_matcher.specs.Promise.{columnAt, Small, chosenOf, plainOf, lentPlain, placesLeft};
 ghost use Rattle.plain_matcher.specs.Held.{betterOf, frontOf, standingOf, Room, Rest, HoldsBest};

@@ -1,7 +1,7 @@
 -- Lines, put into a buffer one after the other. Assumes nothing.
 use Prim.Native.Nat.{ℕ, zero, suc, _+_, _*_, _≤_, _<_}
-use mathlib.Core.Path.{_≡_, refl, sym, ap, _∙_, subst}
-use mathlib.Core.List.{List, [], _++_, append-assoc, append-nil}
+use mathlib.Core.Path.{_≡_, sym, ap, _∙_, subst}
+use mathlib.Core.List.{List, [], _∷_, _++_, append-assoc, append-nil}
 use mathlib.Core.Logic.{⊎-elim}
 use native.Mathlib.Nat.{suc-mul}
 use native.Mathlib.Omega.{arith}
@@ -11,6 +11,10 @@ use Rattle.laws.specs.Bools.{same?}
 use Rattle.laws.specs.Folds.{fold, fold-next}
 use Rattle.io.specs.Counts.{Counts as Counted}
 use Rattle.text.specs.Text.{Put, size, then, nothing}
+
+-- "\n"
+abbrev pub lineEnd : List ℕ
+lineEnd = 10 ∷ []
 
 -- n lines, one after the other
 abbrev pub linesOf : (ℕ → List ℕ) → ℕ → List ℕ

@@ -1,27 +1,26 @@
 -- every_matrix::line_of meets its contract.
 use borrow.Author.Needs.{needs}
-use mathlib.Core.Path.{_∙_}
 use Rattle.every_matrix.specs.Laws.{characters}
 use Rattle.every_matrix.proofs.line_of.Statement.{statement}
 use Rattle.every_matrix.proofs.line_of.Tie as tie
 
 digit-requires : tie.Need-digit-requires
-digit-requires c κs = c .pre .cell 0
+digit-requires c κs = c .pre .digit 0
 
 digit-requires-2 : tie.Need-digit-requires-2
-digit-requires-2 c κs = c .before .pre .cell 1
+digit-requires-2 c κs = c .before .pre .digit 1
 
 digit-requires-3 : tie.Need-digit-requires-3
-digit-requires-3 c κs = c .before .before .pre .cell 2
+digit-requires-3 c κs = c .before .before .pre .digit 2
 
 digit-requires-4 : tie.Need-digit-requires-4
-digit-requires-4 c κs = c .before .before .before .pre .cell 3
+digit-requires-4 c κs = c .before .before .before .pre .digit 3
 
 digit-requires-5 : tie.Need-digit-requires-5
-digit-requires-5 c κs = c .before .before .before .before .pre .cell 4
+digit-requires-5 c κs = c .before .before .before .before .pre .digit 4
 
 digit-requires-6 : tie.Need-digit-requires-6
-digit-requires-6 c κs = c .before .before .before .before .before .pre .cell 5
+digit-requires-6 c κs = c .before .before .before .before .before .pre .digit 5
 
 returns : tie.Need-returns
 returns c =

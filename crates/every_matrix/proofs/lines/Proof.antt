@@ -1,5 +1,4 @@
 -- every_matrix::lines meets its contract.
-use borrow.Author.Needs.{needs}
 use native.Mathlib.Omega.{arith}
 use Rattle.text.specs.Lines.{counted}
 use Rattle.every_matrix.proofs.lines.Statement.{statement}

@@ -1,11 +1,10 @@
 -- every_matrix::put_lines meets its contract.
 use borrow.Author.Needs.{needs}
 use native.Mathlib.Omega.{arith}
-use mathlib.Core.Path.{_≡_, refl, sym, ap, _∙_}
-use mathlib.Core.List.{List}
+use mathlib.Core.Path.{_≡_, ap}
 use Prim.Native.Nat.{ℕ, _-_, _≤_}
 use lib.ListN.{length}
-use Rattle.text.specs.Text.{Put, size}
+use Rattle.text.specs.Text.{size}
 use Rattle.text.specs.Lines.{linesOf, Putting, putting-start, putting-next, put-as}
 use Rattle.every_matrix.specs.EveryMatrix.{lineOf, everyMatrix}
 use Rattle.every_matrix.specs.Laws.{line-length}

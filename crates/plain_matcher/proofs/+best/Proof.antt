@@ -7,8 +7,7 @@ use Prim.Native.Nat.{ℕ, _+_, _-_, _*_, _≤_, _<_}
 use lib.ListN.{length}
 use borrow.Fn.Kinds.{In}
 use borrow.Fn.PlainCycle.{Measures, is, falls, and}
-use Rattle.plain_matcher.specs.declared.Candidate.{Candidate}
-use Rattle.plain_matcher.specs.Held.{Upto, betterOf, low-room, best-none, upto-none, upto-skip, upto-take, upto-end, rest-more, cell-in, not-true, not-false}
+use Rattle.plain_matcher.specs.Held.{Upto, low-room, best-none, upto-none, upto-skip, upto-take, upto-end, rest-more, cell-in, not-true, not-false}
 use Rattle.plain_matcher.proofs.best.Reads as best
 use Rattle.plain_matcher.proofs.best.Kinds as kinds
 use Rattle.plain_matcher.proofs.+best.Lts-best as lts

@@ -1,8 +1,8 @@
 -- plain_matcher::assign meets its contract.
 use borrow.Author.Needs.{needs}
 use native.Mathlib.Omega.{arith}
-use mathlib.Core.Path.{_≡_, sym, _∙_}
-use Rattle.plain_matcher.specs.AsTheFast.{small, many-cars, many-columns, few-columns, wrong-count, large-cell, all-fits, small-product}
+use mathlib.Core.Path.{sym, _∙_}
+use Rattle.plain_matcher.specs.Fits.{small, many-cars, many-columns, few-columns, wrong-count, large-cell, all-fits, small-product}
 use Rattle.plain_matcher.proofs.assign.Statement.{statement}
 use Rattle.plain_matcher.proofs.assign.Tie as tie
 

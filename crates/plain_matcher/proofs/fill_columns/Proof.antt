@@ -1,11 +1,9 @@
 -- plain_matcher::fill_columns meets its contract.
 use borrow.Author.Needs.{needs}
 use native.Mathlib.Omega.{arith}
-use mathlib.Core.Path.{_≡_, sym, ap, _∙_}
+use mathlib.Core.Path.{sym, _∙_}
 use lib.ListN.{length}
-use Rattle.laws.specs.Tables.{tab-length}
-use Rattle.plain_matcher.specs.Promise.{columnAt}
-use Rattle.plain_matcher.specs.AsTheFast.{few-places, enough-places, chosen-few, left-by}
+use Rattle.plain_matcher.specs.Fits.{few-places, enough-places, chosen-few, left-by}
 use Rattle.plain_matcher.proofs.fill_columns.Statement.{statement}
 use Rattle.plain_matcher.proofs.fill_columns.Tie as tie
 

@@ -1,6 +1,6 @@
 -- plain_matcher::is_before meets its contract.
-use mathlib.Core.Path.{_≡_, refl, sym}
-use mathlib.Core.Bool.{Bool, or-false}
+use mathlib.Core.Path.{_≡_, sym}
+use mathlib.Core.Bool.{or-false}
 use Prim.Native.Nat.{ℕ}
 use native.Mathlib.Omega.{arith}
 use lib.Dec.{ltb}
