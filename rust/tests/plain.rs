@@ -57,7 +57,13 @@ fn as_the_fast_one() {
 #[test]
 fn worked_matrices() {
     for (cars, columns, cells, chosen, total) in [
-        (2, 2, &[1, CEILING, 2, SENTINEL][..], &[1, 0][..], CEILING + 2),
+        (
+            2,
+            2,
+            &[1, CEILING, 2, SENTINEL][..],
+            &[1, 0][..],
+            CEILING + 2,
+        ),
         (2, 3, &[2, 0, 1, 1, 0, 2], &[1, 0], 1),
         (3, 3, &[4, 1, 3, 2, 0, 5, 3, 2, 2], &[1, 0, 2], 5),
         (0, 5, &[], &[], 0),
