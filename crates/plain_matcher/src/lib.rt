@@ -85,16 +85,20 @@ fn front(x: u64, j: u32, rest: Candidate) -> Candidate
 {
     match rest {
         Candidate::None => Candidate::None,
-        Candidate::Some(b) => Candidate::Some(Choice {
-            columns: Columns {
-                first: j,
-                second: b.columns.first,
-                third: b.columns.second,
-                fourth: b.columns.third,
-            },
-            total: x + b.total,
-            standing: standing(x) + b.standing,
-        }),
+        Candidate::Some(b) => {
+            let total = x + b.total;
+            let left = standing(x) + b.standing;
+            Candidate::Some(Choice {
+                columns: Columns {
+                    first: j,
+                    second: b.columns.first,
+                    third: b.columns.second,
+                    fourth: b.columns.third,
+                },
+                total,
+                standing: left,
+            })
+        }
     }
 }
 
