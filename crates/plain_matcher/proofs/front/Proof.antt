@@ -36,7 +36,8 @@ add-left c =
 returns-2 : tie.Need-returns-2
 returns-2 c =
     let a = c .before .before .before .before .before .before .args in
-    rw (c .before .before .before .before .rest .given .1) (in-front (a .x) (a .j) _ _ (c .before .standing .ensures))
+    let r = c .before .before .before .before .rest .given in
+    rw (r .1) (in-front (a .x) (a .j) _ (r .0 .0) (c .before .standing .ensures))
 
 pub front-spec : {M : Type 1} → statement M
 front-spec = tie.close (tie.spec (λ c. search needs) (λ c. search needs) add-total (λ c κs. search needs) add-left (λ c. search needs) returns-2)
