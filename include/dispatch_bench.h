@@ -38,7 +38,8 @@ uint32_t dispatch_bench_choose(size_t cars, size_t columns, const uint64_t *cell
      1         fewer than DISPATCH_BENCH_PLAIN_CARS places are lent, however many cars there are
      22        more cars or columns, fewer columns than cars, cell_count not cars * columns, or a cell above DISPATCH_BENCH_SENTINEL
    They are tested in this order. */
-uint32_t dispatch_bench_choose_plain(size_t cars, size_t columns, const uint64_t *cells, size_t cell_count, uint32_t *chosen, size_t places, uint64_t *total);
+uint32_t dispatch_bench_choose_plain(size_t cars, size_t columns, const uint64_t *cells, size_t cell_count, uint32_t *chosen, size_t places,
+                                     uint64_t *total);
 
 /* The refusals, by the numbers of documents 01 and 02. Those of a store of weights are 1, 2, 7, 8, 11, 17 and 18; 19 and 20 are given by
    dispatch_bench_grade alone, 21 by dispatch_bench_travel_time alone, 22 by dispatch_bench_choose_plain alone. */
