@@ -1,5 +1,5 @@
-/* Any bytes as a small matrix, through dispatch_bench_choose_plain: the first four say its shape, the sort of its cells and what is lent, the others are
-   the cells. Every answer is held to the header, and where there is a choice to that of the fast matcher, dispatch_bench_choose. */
+/* Any bytes as a small matrix, through dispatch_bench_choose_plain: the first four say its shape, the sort of its cells and what is lent, the others
+   are the cells. Every answer is held to the header, and where there is a choice to that of the fast matcher, dispatch_bench_choose. */
 #include <stdio.h>
 #include <stdlib.h>
 #include <string.h>

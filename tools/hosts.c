@@ -1,5 +1,6 @@
 /* dispatch_bench_weights, dispatch_bench_grade, dispatch_bench_travel_time and dispatch_bench_choose_plain as a host in C calls them: each number
-   with its offset, and what is left in every place. The argument is document 01's example, which is graded. Ends with 0 where all is as the header says; what is not is said on standard error. */
+   with its offset, and what is left in every place. The argument is document 01's example, which is graded. Ends with 0 where all is as the header
+   says; what is not is said on standard error. */
 #include <inttypes.h>
 #include <math.h>
 #include <stdio.h>
@@ -270,7 +271,8 @@ static void times_are_refused(void) {
 #define KEPT_TOTAL UINT64_C(0xa5a5a5a5a5a5a5)
 
 /* The call with so many places, of which 6 stand there: the number, the columns and the total where it is 0, and what else stands there. */
-static void choose_plain(const char *name, const size_t *shape, const uint64_t *cells, size_t places, uint32_t number, const uint32_t *columns, uint64_t total) {
+static void choose_plain(const char *name, const size_t *shape, const uint64_t *cells, size_t places, uint32_t number, const uint32_t *columns,
+                         uint64_t total) {
     uint32_t chosen[6];
     uint64_t found = KEPT_TOTAL;
     for (size_t i = 0; i < 6; i++) {

@@ -1,13 +1,14 @@
 // The proved matchers, the plain one and the fast one, beside the solver: every matrix of a shape with cells of a few values. Prints how many were
-// compared; ends with 1 at the first that differs. `selftest` puts wrong choices in the solver's stead, each of which must be told from the matchers'.
+// compared; ends with 1 at the first that differs. `selftest` puts wrong choices in the solver's stead, which must each be told from the matchers'.
 //   rustc -O -L FOLDER -l static=dispatch_bench -o compare compare.rs && ./compare few|all|selftest
 use solver::{SENTINEL, choice, every_choice};
 
 mod solver;
 
+// Cars, columns, the cells and how many, the places and how many, the total.
 unsafe extern "C" {
-    fn dispatch_bench_choose(cars: usize, columns: usize, cells: *const u64, cell_count: usize, chosen: *mut u32, places: usize, total: *mut u64) -> u32;
-    fn dispatch_bench_choose_plain(cars: usize, columns: usize, cells: *const u64, cell_count: usize, chosen: *mut u32, places: usize, total: *mut u64) -> u32;
+    fn dispatch_bench_choose(_: usize, _: usize, _: *const u64, _: usize, _: *mut u32, _: usize, _: *mut u64) -> u32;
+    fn dispatch_bench_choose_plain(_: usize, _: usize, _: *const u64, _: usize, _: *mut u32, _: usize, _: *mut u64) -> u32;
 }
 
 type Matcher = unsafe extern "C" fn(usize, usize, *const u64, usize, *mut u32, usize, *mut u64) -> u32;

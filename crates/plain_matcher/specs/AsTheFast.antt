@@ -43,7 +43,7 @@ not-refused cars columns cells h =
       ltb-false 4 cars (neither-left (ltb 4 cars) _ h),
       ltb-false 5 columns (neither-left (ltb 5 columns) _ a),
       ltb-false columns cars (neither-left (ltb columns cars) _ b),
-      eqb-true (length cells) (cars * columns) (not-false (eqb (length cells) (cars * columns)) (neither-left (not (eqb (length cells) (cars * columns))) _ c)),
+      eqb-true (length cells) (cars * columns) (not-false _ (neither-left (not (eqb (length cells) (cars * columns))) _ c)),
       neither-right (not (eqb (length cells) (cars * columns))) _ c,
     )
 
@@ -54,7 +54,8 @@ unfolding lentPlain plainOf chosenOf
 chooses cars columns cells places = go (ltb places 4) refl (refused22 cars columns cells) refl
   where
     go : (a : Bool) → ltb places 4 ≡ a → (b : Bool) → refused22 cars columns cells ≡ b
-        → plainNumber (cond a (Refused 1) (cond b (Refused 22) (chosenOf cars columns cells))) ≡ 0 → (4 ≤ places) × (refused22 cars columns cells ≡ false)
+        → plainNumber (cond a (Refused 1) (cond b (Refused 22) (chosenOf cars columns cells))) ≡ 0
+        → (4 ≤ places) × (refused22 cars columns cells ≡ false)
     go true e b f h = absurd (omega arith)
     go false e true f h = absurd (omega arith)
     go false e false f h = (ltb-false places 4 e, f)
@@ -65,7 +66,8 @@ module _ (cars columns : ℕ) (cells places : List ℕ) (h : plainNumber (lentPl
   fast =
       let g = chooses cars columns cells (length places) h in
       let f = not-refused cars columns cells (g .1) in
-      (all-fit cars columns cells (length places) (omega (arith, f .0)) (omega (arith, f .1)) (f .2) (f .3) (omega (arith, g .0, f .0)) (f .4), f .0, f .2)
+      let a : cars ≤ length places = omega (arith, g .0, f .0) in
+      (all-fit cars columns cells (length places) (omega (arith, f .0)) (omega (arith, f .1)) (f .2) (f .3) a (f .4), f .0, f .2)
 
   pub same-total : Least (plainTotal (lentPlain cars columns cells (length places)) 0) ≡ matching cars columns cells (length places)
   unfolding lentPlain plainOf chosenOf matching

@@ -234,7 +234,9 @@ cell-in {cells} {columns} {i} {left} r j ne lj = (
 
 columns-inj : (a : Choice) (x : Found) → Some a ≡ held x → (a .columns ≡ fourOf (columnsOf x)) × (a .total ≡ candidateTotal x)
 columns-inj a none e = absurd (let z : _≡_ {A = ℕ} 0 1 = cc in omega arith)
-columns-inj a (some t x l) e = let f : a ≡ record { columns = fourOf l; total = t; standing = x } = cc in (ap (λ (z : Choice). z .columns) f, ap (λ (z : Choice). z .total) f)
+columns-inj a (some t x l) e =
+    let f : a ≡ record { columns = fourOf l; total = t; standing = x } = cc in
+    (ap (λ (z : Choice). z .columns) f, ap (λ (z : Choice). z .total) f)
 
 module _ {cars columns : ℕ} {cells : List ℕ} (s : Small cars columns cells) where
   pub choice-some : {a : Choice} → Some a ≡ held (best (cellAt cells columns) (standing (cellAt cells columns)) columns cars 0 [])

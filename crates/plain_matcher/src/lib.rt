@@ -200,8 +200,8 @@ fn put_columns(columns: Columns, cars: usize, places: &mut [u32])
 
 // The same for a host, who lends places: the columns of the choice stand first in them; where fewer than 4 are lent it is 1. A refusal leaves them.
 pub fn fill_columns(cars: usize, columns: usize, cells: &[u64], places: &mut [u32]) -> Plain
-    ensures { λ r. ⌜ (r ≡ lentPlain cars columns (now (cells .entry)) (length (now (places .entry))))
-        × (now (places .exit) ≡ placesLeft cars (lentPlain cars columns (now (cells .entry)) (length (now (places .entry)))) (now (places .entry))) ⌝ }
+    ensures { λ r. let p = lentPlain cars columns (now (cells .entry)) (length (now (places .entry))) in
+        ⌜ (r ≡ p) × (now (places .exit) ≡ placesLeft cars p (now (places .entry))) ⌝ }
 {
     if places.len() < 4 {
         return Plain::Refused(1);
