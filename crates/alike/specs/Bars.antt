@@ -46,8 +46,13 @@ module _ (s : Sheet) (stop : ℕ → Stop) (line : ℕ → Line) (car : ℕ → 
   cell-grows : (i j : ℕ) → i < s .cars → j < s .stops → cell s noLimit i j ≤ cell t noLimit i j
   unfolding cell viableOf
   cell-grows i j li lj =
-      rw (kept-viable s i j, kept-viable t i j, ← same-rank s stop line car aboard waiting demand closed h i j li lj,
-      ← same-pending s stop line car aboard waiting demand closed h j lj, ← same-line s stop line car aboard waiting demand closed h i j li)
+      rw (
+        kept-viable s i j,
+        kept-viable t i j,
+        ← same-rank s stop line car aboard waiting demand closed h i j li lj,
+        ← same-pending s stop line car aboard waiting demand closed h j lj,
+        ← same-line s stop line car aboard waiting demand closed h i j li,
+      )
       (by (pending s j) (has (s .car i .restricted) j) (has (car i .restricted) j) (lineServesOf s (s .car i) j) (more i j li lj))
     where
       by : (p b d l : Bool) → (b ≡ true → d ≡ true)
@@ -62,8 +67,11 @@ module _ (s : Sheet) (stop : ℕ → Stop) (line : ℕ → Line) (car : ℕ → 
   matrix-grows : (r c : ℕ) → r < idleCars s → matrix s noLimit r c ≤ matrix t noLimit r c
   unfolding matrix
   matrix-grows r c lr =
-      rw (← same-row s stop line car aboard waiting demand closed h r, ← same-column s stop line car aboard waiting demand closed h c,
-      ← same-stops s stop line car aboard waiting demand closed h)
+      rw (
+        ← same-row s stop line car aboard waiting demand closed h r,
+        ← same-column s stop line car aboard waiting demand closed h c,
+        ← same-stops s stop line car aboard waiting demand closed h,
+      )
       (⊎-elim
       (λ (l : c < pendingStops s).
       rw (lt-ltb c (pendingStops s) l)
