@@ -130,15 +130,16 @@ module _ (s : List ℕ) where
   its-bits = recordsOf s (recordCount s) (atFirst s)
 
   are-bits : Bits (twinBits s)
-  are-bits = append-bits _ _ (digits-bits 8 1) (append-bits _ _ (bits-of s 8 16) (records-bits s (recordCount s) (atFirst s)))
+  are-bits = append-bits _ _ (digits-bits _ _) (append-bits _ _ (bits-of _ _ _) (records-bits _ _ _))
 
   how-many : length (twinBits s) ≡ headLength + length its-bits
-  how-many = simp length-append (omega (arith, digits-length 8 1, bits-length s 8 16))
+  how-many = simp (length-append, digits-length, bits-length) (omega arith)
 
   held : Holds (twin s) 0 (twinBits s)
   unfolding twin
   held = packed-holds (twinBits s) are-bits
 
+  -- a twin is of edition 1
   pub edition-one : edition (twin s) ≡ 1
   unfolding numberOf digits tab
   edition-one = holds-number (twin s) 0 (digits 8 1) (holds-left (twin s) 0 (digits 8 1) _ held) 8 (omega (arith, digits-length 8 1))
