@@ -55,7 +55,7 @@ pub record Read (s : List ℕ) (c : Counts) (k : Kind) : Type 0 where
   pub has-room : refusal7 c k ≡ false
   pub body : bodyRefusal s c k (from s (endOf c)) ≡ 0
 
--- P of each record with the counts before it: those of its kind that stand before, and all of the lower kinds
+-- P holds of each record that was counted, with the counts before it: those of its kind that stand before, and all of the lower kinds
 pub record Each (P : Counts → Kind → Type 0) (c : Counts) : Type 0 where
   -- of an edition
   pub across : (c .across ≡ 0) ⊎ (c .across ≡ 64)
@@ -69,6 +69,7 @@ pub record Each (P : Counts → Kind → Type 0) (c : Counts) : Type 0 where
   pub closures : (i : ℕ) → i < c .closures
       → P (counts (c .across) (c .policies) (c .stops) (c .lines) (c .cars) (c .aboards) (c .waits) (c .demands) i) Closed
 
+-- each was read
 abbrev pub Records : List ℕ → Counts → Type 0
 Records s c = Each (Read s) c
 
