@@ -1,0 +1,1 @@
+// Bars added to a sheet: specs/.
