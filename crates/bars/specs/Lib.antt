@@ -1,3 +1,4 @@
 pub mod Agree
 pub mod Clear
 pub mod SameCounts
+pub mod SameRecords
