@@ -77,9 +77,24 @@ halves f n xs {first} {second} l e d g =
     let front : take 64 (first ++ drop 64 xs) ≡ first = take-at first (drop 64 xs) 64 size in
     let back : drop 64 (first ++ drop 64 xs) ≡ drop 64 xs = drop-at first (drop 64 xs) 64 size in
     let whole : take 64 (drop 64 xs) ≡ drop 64 xs = take-all 64 (drop 64 xs) (omega arith) in
-    let none : drop 64 (drop 64 xs) ≡ [] = drop-of-length-le (drop 64 xs) (omega arith) in
+    let none : drop 64 (drop 64 xs) ≡ [] = drop-of-length-le (drop 64 xs) {i = 64} (omega arith) in
     let after : second ≡ tab (λ j. f j .across) n ++ drop n (drop 64 xs) = rw (back, whole) at g in
     rw (front, back, none, d, after) (ap (λ (z : List Float). (tab (λ j. f j .along) n ++ drop n (take 64 xs)) ++ z) (append-nil _))
+
+-- the second half, and the whole, once the first is filled
+pub halves-length : (xs first : List Float) → length first ≡ length (take 64 xs) → length xs ≡ 128
+    → length (take 64 (drop 64 (first ++ drop 64 xs))) ≡ 64
+halves-length xs first d e =
+    let low : length (take 64 xs) ≡ 64 = simp length-take (omega arith) in
+    simp (length-take, length-drop, length-append) (omega arith)
+
+pub halves-same : (xs first second : List Float) → length first ≡ length (take 64 xs)
+    → length second ≡ length (take 64 (drop 64 (first ++ drop 64 xs))) → length xs ≡ 128
+    → length (take 64 (first ++ drop 64 xs) ++ (second ++ drop 64 (drop 64 (first ++ drop 64 xs)))) ≡ length xs
+halves-same xs first second d g e =
+    let low : length (take 64 xs) ≡ 64 = simp length-take (omega arith) in
+    let high = halves-length xs first d e in
+    simp (length-append, length-take, length-drop) (omega arith)
 
 pub holds-stops : (s : Sheet) (ids : List ℕ) (xs : List Float) (r : List ℕ) (q : List Float) → ids ≡ tab (stopId s) (s .stops) ++ r
     → xs ≡ coordinates (stopAt s) (s .stops) q → s .stops ≤ 64 → length q ≡ 128 → HoldsStops s ids xs (s .stops)

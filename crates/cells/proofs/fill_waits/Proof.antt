@@ -27,7 +27,7 @@ returns c =
     let fourth = c .before .before .fill64 in
     let stops : first .last .1 .1 .1 .1 .1 .0 ≡ tab (λ i. read (from b (at .result + recordLength 0 Waiting * i)) waiting·stop) n ++ drop n (a .wstop .now) = first .ensures .1 in
     let destinations : second .last .1 .1 .1 .1 .1 .0 ≡ tab (λ i. read (from b (at .result + recordLength 0 Waiting * i)) waiting·destination) n ++ drop n (a .wdest .now) = second .ensures .1 in
-    let weights : third .last .1 .1 .1 .1 .1 .0 ≡ tab (λ i. double (from b (at .result + recordLength 0 Waiting * i)) waiting·weight) n ++ drop n (a .wweight .now) = third .ensures .1 in
+    let weights : third .last .1 .1 .1 .1 .1 .1 .0 ≡ tab (λ i. double (from b (at .result + recordLength 0 Waiting * i)) waiting·weight) n ++ drop n (a .wweight .now) = third .ensures .1 in
     let waits : fourth .last .1 .1 .1 .1 .1 .0 ≡ tab (λ i. read (from b (at .result + recordLength 0 Waiting * i)) waiting·wait) n ++ drop n (a .wwait .now) = fourth .ensures .1 in (
       (first .ensures .0, stops ∙ ap (λ (x : ℕ). tab (λ i. read (from b (x + recordLength 0 Waiting * i)) waiting·stop) n ++ drop n (a .wstop .now)) (at .ensures)),
       (

@@ -1,4 +1,5 @@
 -- replay_ranks::rank_of meets its contract.
+use Rattle.accepted.specs.Accepted.{accepted}
 use Rattle.cells.specs.Begun.{stops-seen}
 use Rattle.layout.specs.Records.{sheetOf}
 use borrow.Author.Needs.{needs}
@@ -14,8 +15,11 @@ unfolding sheetOf
 rank-by-requires c κs =
     let a = c .before .before .before .before .before .before .before .before .args in
     let p = c .before .before .before .before .before .before .before .before .pre in
-    let seen = c .before .before .before .before .see-stops .ensures in
-    ((p .0, p .1, p .2, seen .0 .0, seen .1 .0 .0), stops-seen (sheetOf (a .s .now) (a .c)) _ _ (seen .0 .1) (seen .1 .0 .1) (seen .1 .1))
+    let seen = c .before .before .before .before .see-stops .ensures in (
+      (p .0, p .1, p .2, seen .0 .0, seen .1 .0 .0),
+      stops-seen (sheetOf (a .s .now) (a .c)) _ _ (seen .0 .1) (seen .1 .0 .1) (seen .1 .1)
+          (accepted (a .s .now) (a .c) (p .0) .small .stops) refl,
+    )
 
 pub rank-of-spec : {M : Type 1} → statement M
 rank-of-spec =

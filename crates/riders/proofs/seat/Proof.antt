@@ -11,21 +11,25 @@ returns : tie.Need-returns
 returns c =
     let rides = eq-eqb _ _ (c .before .before .before .before .if1 .taken) in
     let index = c .before .before .before .stop-index .ensures in
-    let known = lt-ltb _ _ (c .before .before .if2 .taken) in
-    (record { counted = simp (rides, ← index, known); stored = simp (rides, ← index, known) refl }, record {
-      counted = simp (rides, ← index, known);
-      stored = simp (rides, ← index, known, side-of) refl;
-    })
+    let known = lt-ltb _ _ (c .before .before .if2 .taken) in (
+      record { counted = simp (rides, ← index, known); stored = simp (rides, ← index, known) refl },
+      record {
+        counted = simp (rides, ← index, known);
+        stored = simp (rides, ← index, known, side-of) refl;
+      },
+    )
 
 returns-2 : tie.Need-returns-2
 returns-2 c =
     let rides = eq-eqb _ _ (c .before .before .if1 .taken) in
     let index = c .before .stop-index .ensures in
-    let unknown = le-ltb _ _ (c .if2 .left) in
-    (record { counted = simp (rides, ← index, unknown) (omega arith); stored = simp (rides, ← index, unknown) refl }, record {
-      counted = simp (rides, ← index, unknown) (omega arith);
-      stored = simp (rides, ← index, unknown) refl;
-    })
+    let unknown = le-ltb _ _ (c .if2 .left) in (
+      record { counted = simp (rides, ← index, unknown) (omega arith); stored = simp (rides, ← index, unknown) refl },
+      record {
+        counted = simp (rides, ← index, unknown) (omega arith);
+        stored = simp (rides, ← index, unknown) refl;
+      },
+    )
 
 returns-3 : tie.Need-returns-3
 returns-3 c =
