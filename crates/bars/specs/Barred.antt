@@ -10,6 +10,7 @@ use native.Mathlib.Omega.{arith}
 use lib.Dec.{eqb}
 use borrow.Author.Tests.{eqb-true, eq-eqb}
 use Rattle.laws.specs.Bools.{bit, same?}
+use Rattle.scale.specs.Scale.{sentinel}
 use Rattle.bits.specs.Field.{bitAt, fieldAt}
 use Rattle.mask.specs.Mask.{has, built}
 use Rattle.mask.specs.MaskLaws.{has-built}
@@ -32,11 +33,11 @@ use Rattle.layout.specs.Verdict.{verdict}
 use Rattle.layout.specs.VerdictLaws.{before-all}
 use Rattle.accepted.specs.Accepted.{accepted}
 use Rattle.assignment.specs.Candidates.{noLimit}
-use Rattle.assignment.specs.Cells.{answeredTotal}
+use Rattle.assignment.specs.Cells.{cell, answeredTotal}
 use Rattle.alike.specs.Alike.{Alike, LikeStop, other}
-use Rattle.alike.specs.Bars.{total-grows}
-use Rattle.bars.specs.Agree.{barBit, AgreeButBars, field-same}
-use Rattle.bars.specs.Clear.{fits, clear-before, clear-after, clear-front, clear-calls}
+use Rattle.alike.specs.Bars as bars
+use Rattle.bars.specs.Agree.{barBit, AgreeButBars, OneBar, one-agrees, field-same}
+use Rattle.bars.specs.Clear.{fits, bars-apart, clear-before, clear-after, clear-front, clear-calls}
 use Rattle.bars.specs.SameCounts.{counts-same}
 use Rattle.bars.specs.SameRecords.{SameFields, policy-same, stop-same, line-same, aboard-same, waiting-same, demand-same, place-same, car-like}
 
@@ -52,8 +53,13 @@ unfolding fieldAt built bitAt
 field-built s at zero = refl
 field-built s at (suc w) = ap₂ (λ (x y : ℕ). x * 2 + y) (field-built s at w) (sym (bit-is (bitAt s (at + w)) (omega arith)))
 
-pub has-bit : (s : List ℕ) (at j : ℕ) → j < 64 → has (fieldAt s at 64) j ≡ eqb (bitAt s (at + j)) 1
+has-bit : (s : List ℕ) (at j : ℕ) → j < 64 → has (fieldAt s at 64) j ≡ eqb (bitAt s (at + j)) 1
 has-bit s at j l = ap (λ (m : ℕ). has m j) (field-built s at 64) ∙ has-built (λ k. eqb (bitAt s (at + k)) 1) j l
+
+-- stop k is barred to car i
+bar : (c : Counts) (s : List ℕ) (i k : ℕ) → k < 64 → has (sheetOf s c .car i .restricted) k ≡ eqb (bitAt s (barBit c i k)) 1
+unfolding sheetOf carOf
+bar c s i k l = has-bit s (carStart c i + past (c .across) car·restricted .start) k l
 
 module _ (first second : List ℕ) (c : Counts) (agree : AgreeButBars first second c) where
   -- ---- records with no bar
@@ -84,6 +90,10 @@ module _ (first second : List ℕ) (c : Counts) (agree : AgreeButBars first seco
 
   -- ---- the sheets are alike but in bars
 
+  -- the first sheet with the second one's records
+  abbrev twin : Sheet
+  twin = let t = sheetOf second c in other (sheetOf first c) (t .stop) (t .line) (t .car) (t .aboard) (t .waiting) (t .demand) (t .closed)
+
   alike : let t = sheetOf second c in
       Alike (sheetOf first c) (t .stop) (t .line) (t .car) (t .aboard) (t .waiting) (t .demand) (t .closed)
   unfolding sheetOf
@@ -100,8 +110,7 @@ module _ (first second : List ℕ) (c : Counts) (agree : AgreeButBars first seco
         apart = λ j k lj lk. ap₂ distance (ap (λ (x : Stop). x .position) (a-stop j lj)) (ap (λ (x : Stop). x .position) (a-stop k lk));
       }
 
-  other-sheet : c .policies ≡ 1
-      → (let t = sheetOf second c in other (sheetOf first c) (t .stop) (t .line) (t .car) (t .aboard) (t .waiting) (t .demand) (t .closed)) ≡ sheetOf second c
+  other-sheet : c .policies ≡ 1 → twin ≡ sheetOf second c
   unfolding sheetOf
   other-sheet one =
       let e = policy-same (from first headLength) (from second headLength) (before headLength 490 (omega arith)) in
@@ -125,11 +134,60 @@ module _ (first second : List ℕ) (c : Counts) (agree : AgreeButBars first seco
 
   -- ---- the bars
 
-  bar : (s : List ℕ) (i k : ℕ) → k < 64 → has (sheetOf s c .car i .restricted) k ≡ eqb (bitAt s (barBit c i k)) 1
-  unfolding sheetOf carOf
-  bar s i k l = has-bit s (carStart c i + past (c .across) car·restricted .start) k l
-
   more : (i k : ℕ) → i < c .cars → k < 64 → has (sheetOf first c .car i .restricted) k ≡ true → has (sheetOf second c .car i .restricted) k ≡ true
   more i k li lk e =
-      bar second i k lk
-      ∙ eq-eqb (bitAt second (barBit c i k)) 1 (agree .kept i k li lk (eqb-true (bitAt first (barBit c i k)) 1 (sym (bar first i k lk) ∙ e)))
+      bar c second i k lk
+      ∙ eq-eqb (bitAt second (barBit c i k)) 1 (agree .kept i k li lk (eqb-true (bitAt first (barBit c i k)) 1 (sym (bar c first i k lk) ∙ e)))
+
+  -- ---- without a candidate limit
+
+  grown : c .stops ≤ 64 → answeredTotal (sheetOf first c) noLimit ≤ answeredTotal twin noLimit
+  unfolding sheetOf
+  grown l =
+      let t = sheetOf second c in
+      bars.total-grows (sheetOf first c) (t .stop) (t .line) (t .car) (t .aboard) (t .waiting) (t .demand) (t .closed) alike
+      (λ i j li lj. more i j li (omega arith))
+
+  pub total-grows : (d : Counts) → verdict first ≡ Accepted c → verdict second ≡ Accepted d
+      → answeredTotal (sheetOf first c) noLimit ≤ answeredTotal (sheetOf second d) noLimit
+  total-grows d p q =
+      let a = accepted first c p in
+      subst (λ (e : Counts). answeredTotal (sheetOf first c) noLimit ≤ answeredTotal (sheetOf second e) noLimit) (counts-same first second c agree d p q)
+      (subst (λ (t : Sheet). answeredTotal (sheetOf first c) noLimit ≤ answeredTotal t noLimit) (other-sheet (a .one-policy))
+      (grown (a .small .stops)))
+
+  -- a cell whose own bar is the same
+  unbarred : (a b : ℕ) → a < c .cars → b < c .stops → b < 64 → bitAt first (barBit c a b) ≡ bitAt second (barBit c a b)
+      → cell (sheetOf first c) noLimit a b ≡ cell twin noLimit a b
+  unfolding sheetOf
+  unbarred a b la lb l e =
+      let t = sheetOf second c in
+      bars.cell-same (sheetOf first c) (t .stop) (t .line) (t .car) (t .aboard) (t .waiting) (t .demand) (t .closed) alike a b la lb
+      (bar c first a b l ∙ ap (λ (n : ℕ). eqb n 1) e ∙ sym (bar c second a b l))
+
+  pub cell-same : (d : Counts) → verdict first ≡ Accepted c → verdict second ≡ Accepted d
+      → (a b : ℕ) → a < c .cars → b < c .stops → bitAt first (barBit c a b) ≡ bitAt second (barBit c a b)
+      → cell (sheetOf first c) noLimit a b ≡ cell (sheetOf second d) noLimit a b
+  cell-same d p q a b la lb e =
+      let s = accepted first c p in
+      let few = s .small .stops in
+      unbarred a b la lb (omega arith) e
+      ∙ ap (λ (t : Sheet). cell t noLimit a b) (other-sheet (s .one-policy))
+      ∙ ap (λ (x : Counts). cell (sheetOf second x) noLimit a b) (counts-same first second c agree d p q)
+
+-- ---- one more bar
+
+-- "without a limit one more bar changes one cell, to the sentinel"
+module _ (first second : List ℕ) (c d : Counts) (i k : ℕ) (one : OneBar first second c i k) (p : verdict first ≡ Accepted c) (q : verdict second ≡ Accepted d) where
+  agree : AgreeButBars first second c
+  agree = one-agrees first second c i k one
+
+  pub to-sentinel : cell (sheetOf second d) noLimit i k ≡ sentinel
+  to-sentinel =
+      subst (λ (x : Counts). cell (sheetOf second x) noLimit i k ≡ sentinel) (counts-same first second c agree d p q)
+      (bars.cell-barred (sheetOf second c) noLimit i k (bar c second i k (one .a-stop) ∙ eq-eqb (bitAt second (barBit c i k)) 1 (one .set)))
+
+  pub others-same : (a b : ℕ) → a < c .cars → b < c .stops → (a ≢ i) ⊎ (b ≢ k) → cell (sheetOf first c) noLimit a b ≡ cell (sheetOf second d) noLimit a b
+  others-same a b la lb e =
+      let few = accepted first c p .small .stops in
+      cell-same first second c agree d p q a b la lb (one .elsewhere (barBit c a b) (bars-apart c a b i k (omega arith) (one .a-stop) e))

@@ -1,7 +1,7 @@
 -- Which bits of a sheet are no bars: all but the cars' restricted masks. Assumes nothing.
 use Prim.Native.Nat.{ℕ, suc, _+_, _*_, _≤_, _<_}
 use mathlib.Core.Path.{_≡_, ap, ap₂}
-use mathlib.Core.Logic.{_⊎_, inl, inr, ⊎-elim}
+use mathlib.Core.Logic.{_⊎_, inl, inr, ⊎-elim, _≢_}
 use native.Mathlib.Nat.{mul-suc, mul-le-mul-left}
 use native.Mathlib.Omega.{arith}
 use Rattle.laws.specs.Bools.{less?}
@@ -14,6 +14,20 @@ use Rattle.bars.specs.Agree.{barBit, Clear}
 -- a record of a bits with index i ends where the next one starts
 pub fits : (a i n : ℕ) → i < n → a * i + a ≤ a * n
 fits a i n l = omega (arith, mul-suc a i, mul-le-mul-left {m = suc i} {n = n} a l)
+
+-- each pair of a car and a stop has a bit of its own
+pub bars-apart : (c : Counts) (a b i k : ℕ) → b < 64 → k < 64 → (a ≢ i) ⊎ (b ≢ k) → barBit c a b ≢ barBit c i k
+bars-apart c a b i k lb lk ne e =
+    ⊎-elim
+    (λ (l : a < i). absurd (omega (arith, fits (recordLength (c .across) kind.Car) a i l)))
+    (λ (l : i ≤ a).
+    ⊎-elim
+    (λ (m : i < a). absurd (omega (arith, fits (recordLength (c .across) kind.Car) i a m)))
+    (λ (m : a ≤ i).
+    let q : a ≡ i = omega arith in
+    ⊎-elim (λ (n : a ≢ i). absurd (n q)) (λ (n : b ≢ k). absurd (n (omega (arith, ap (λ (x : ℕ). recordLength (c .across) kind.Car * x) q)))) ne)
+    (less? i a))
+    (less? a i)
 
 -- what stands before the cars, and the start of the first car
 pub clear-before : (c : Counts) (at w : ℕ) → at + w ≤ carsFrom c + bodyFrom → Clear c at w
