@@ -1,10 +1,9 @@
 -- A sheet with more bars, without a candidate limit: every cell is the same or the sentinel, so the least total is no lower. Assumes nothing.
 use Prim.Native.Nat.{ℕ, _≤_, _<_}
 use native.Mathlib.Omega.{arith}
-use mathlib.Core.Path.{_≡_, refl, sym, ap, _∙_}
+use mathlib.Core.Path.{_≡_, refl, sym, _∙_}
 use mathlib.Core.Bool.{true, false, and-false}
 use mathlib.Core.Logic.{⊎-elim}
-use lib.Dec.{ltb}
 use borrow.Author.Tests.{lt-ltb, le-ltb}
 use Rattle.laws.specs.Bools.{which, less?, not-both, contrary}
 use Rattle.scale.specs.Scale.{sentinel}
@@ -16,7 +15,6 @@ use Rattle.components.specs.declared.Aboard.{Aboard}
 use Rattle.components.specs.declared.Waiting.{Waiting}
 use Rattle.components.specs.declared.Demand.{Demand}
 use Rattle.components.specs.Sheet.{Sheet}
-use Rattle.assignment_problem.specs.Recursion.{leastTotal}
 use Rattle.assignment_problem.specs.Chosen.{leastTotal-mono}
 use Rattle.assignment.specs.Pending.{pending, idleCars, rowCar, pendingStops, columnStop, columns}
 use Rattle.assignment.specs.Candidates.{noLimit, viableOf, keptOf}
@@ -40,8 +38,14 @@ module _ (s : Sheet) (stop : ℕ → Stop) (line : ℕ → Line) (car : ℕ → 
   unfolding viableOf
   cell-same i j li lj e =
       let t = other s stop line car aboard waiting demand closed in
-      rw (unlimited s i j, unlimited t i j, e, same-rank s stop line car aboard waiting demand closed h i j li lj,
-      same-pending s stop line car aboard waiting demand closed h j lj, same-line s stop line car aboard waiting demand closed h i j li)
+      rw (
+        unlimited s i j,
+        unlimited t i j,
+        e,
+        same-rank s stop line car aboard waiting demand closed h i j li lj,
+        same-pending s stop line car aboard waiting demand closed h j lj,
+        same-line s stop line car aboard waiting demand closed h i j li,
+      )
 
 module _ (s : Sheet) (stop : ℕ → Stop) (line : ℕ → Line) (car : ℕ → Car) (aboard : ℕ → Aboard) (waiting : ℕ → Waiting)
     (demand : ℕ → Demand) (closed : ℕ → ℕ) (h : Alike s stop line car aboard waiting demand closed)
@@ -61,8 +65,11 @@ module _ (s : Sheet) (stop : ℕ → Stop) (line : ℕ → Line) (car : ℕ → 
   matrix-grows : (r c : ℕ) → r < idleCars s → matrix s noLimit r c ≤ matrix t noLimit r c
   unfolding matrix
   matrix-grows r c lr =
-      rw (← same-row s stop line car aboard waiting demand closed h r, ← same-column s stop line car aboard waiting demand closed h c,
-      ← same-stops s stop line car aboard waiting demand closed h)
+      rw (
+        ← same-row s stop line car aboard waiting demand closed h r,
+        ← same-column s stop line car aboard waiting demand closed h c,
+        ← same-stops s stop line car aboard waiting demand closed h,
+      )
       (⊎-elim
       (λ (l : c < pendingStops s).
       rw (lt-ltb c (pendingStops s) l)

@@ -3,9 +3,9 @@
 --                    perhaps more
 --   OneBar           one bit of one car's mask is 0 in the first and 1 in the second, and every other bit is the same
 use Prim.Native.Nat.{ℕ, zero, suc, _+_, _*_, _≤_, _<_}
-use mathlib.Core.Path.{_≡_, refl, sym, ap, ap₂, _∙_, subst}
+use mathlib.Core.Path.{_≡_, refl, sym, ap, ap₂, _∙_}
 use mathlib.Core.List.{List}
-use mathlib.Core.Logic.{_⊎_, inl, inr, ⊎-elim, _≢_}
+use mathlib.Core.Logic.{_⊎_, ⊎-elim, _≢_}
 use native.Mathlib.Omega.{arith}
 use Rattle.laws.specs.Bools.{same?}
 use Rattle.bits.specs.Field.{bitAt, fieldAt}

@@ -2,39 +2,32 @@
 -- One more bar changes one cell, to the sentinel. Assumes nothing.
 use Prim.Native.Nat.{ℕ, zero, suc, _+_, _*_, _≤_, _<_}
 use mathlib.Core.Path.{_≡_, refl, sym, ap, ap₂, _∙_, subst}
-use mathlib.Core.Bool.{Bool, true, false}
+use mathlib.Core.Bool.{true}
 use mathlib.Core.List.{List}
-use mathlib.Core.Logic.{_⊎_, inl, inr, ⊎-elim, _≢_}
-use native.Mathlib.Nat.{mul-zero, add-zero}
+use mathlib.Core.Logic.{_⊎_, _≢_}
 use native.Mathlib.Omega.{arith}
 use lib.Dec.{eqb}
 use borrow.Author.Tests.{eqb-true, eq-eqb}
-use Rattle.laws.specs.Bools.{bit, same?}
+use Rattle.laws.specs.Bools.{bit}
 use Rattle.scale.specs.Scale.{sentinel}
 use Rattle.bits.specs.Field.{bitAt, fieldAt}
 use Rattle.mask.specs.Mask.{has, built}
 use Rattle.mask.specs.MaskLaws.{has-built}
 use Rattle.components.specs.Sheet.{Sheet}
 use Rattle.components.specs.declared.Stop.{Stop}
-use Rattle.components.specs.declared.Line.{Line}
-use Rattle.components.specs.declared.Car.{Car}
-use Rattle.components.specs.declared.Aboard.{Aboard}
-use Rattle.components.specs.declared.Waiting.{Waiting}
-use Rattle.components.specs.declared.Demand.{Demand}
 use Rattle.components.specs.Points.{distance}
 use Rattle.components.specs.declared.Kind.the-variants as kind
 use Rattle.layout.specs.declared.Counts.{Counts}
 use Rattle.layout.specs.declared.Reading.the-variants.{Accepted}
-use Rattle.layout.specs.Table.{past, car·restricted, car·calls, closed·stop}
+use Rattle.layout.specs.Table.{past, policy·limit, car·restricted, car·calls, closed·stop}
 use Rattle.layout.specs.Offsets.{headLength, stopStart, lineStart, carStart, aboardStart, waitingStart, demandStart, closedStart, carsFrom, aboardsFrom}
 use Rattle.layout.specs.Offsets.{recordLength}
-use Rattle.layout.specs.Records.{from, read, policyOf, stopOf, lineOf, carOf, aboardOf, waitingOf, demandOf, sheetOf}
+use Rattle.layout.specs.Records.{from, read, stopOf, lineOf, carOf, aboardOf, waitingOf, demandOf, sheetOf, limitOf}
 use Rattle.layout.specs.Verdict.{verdict}
-use Rattle.layout.specs.VerdictLaws.{before-all}
 use Rattle.accepted.specs.Accepted.{accepted}
 use Rattle.assignment.specs.Candidates.{noLimit}
 use Rattle.assignment.specs.Cells.{cell, answeredTotal}
-use Rattle.alike.specs.Alike.{Alike, LikeStop, other}
+use Rattle.alike.specs.Alike.{Alike, other}
 use Rattle.alike.specs.Bars as bars
 use Rattle.bars.specs.Agree.{barBit, AgreeButBars, OneBar, one-agrees, field-same}
 use Rattle.bars.specs.Clear.{fits, bars-apart, clear-before, clear-after, clear-front, clear-calls}
@@ -131,6 +124,10 @@ module _ (first second : List ℕ) (c : Counts) (agree : AgreeButBars first seco
         closures = c .closures;
         closed = λ j. read (from second (closedStart c j)) closed·stop;
       }
+
+  pub limit-same : c .policies ≡ 1 → limitOf first ≡ limitOf second
+  unfolding limitOf
+  limit-same one = before headLength 490 (omega arith) (policy·limit .start) (policy·limit .width) (omega arith)
 
   -- ---- the bars
 

@@ -19,7 +19,7 @@ use Rattle.layout.specs.Refusals.{recordCount, kindAt, refusal6}
 use Rattle.layout.specs.Verdict.{recordsVerdict, atFirst, verdict}
 use Rattle.layout.specs.VerdictLaws.{Clean}
 use Rattle.accepted.specs.Accepted.{Last, last, on, headed, at-end}
-use Rattle.bars.specs.Agree.{AgreeButBars, Clear, barBit, field-same}
+use Rattle.bars.specs.Agree.{AgreeButBars, Clear, field-same}
 use Rattle.bars.specs.Clear.{fits, clear-before}
 
 -- ---- what was read first

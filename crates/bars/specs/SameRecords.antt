@@ -5,10 +5,8 @@ use mathlib.Core.Bool.{Bool, cond}
 use native.Mathlib.Omega.{arith}
 use lib.Dec.{eqb}
 use lib.Ieee.{ofBits, binary64}
-use Rattle.components.specs.declared.Point.{Point}
-use Rattle.components.specs.declared.Threshold.{Threshold}
 use Rattle.components.specs.declared.Threshold.the-variants as threshold
-use Rattle.components.specs.declared.Kind.the-variants.{Policy, Stop, Line, Car, Aboard, Waiting, Demand, Closed}
+use Rattle.components.specs.declared.Kind.the-variants.{Policy, Stop, Line, Aboard, Waiting, Demand}
 use Rattle.components.specs.Codes.{phaseOf, directionOf, modeOf}
 use Rattle.layout.specs.Offsets.{recordLength}
 use Rattle.layout.specs.Records.{Fields, read, flag, policyOf, stopOf, lineOf, carOf, aboardOf, waitingOf, demandOf}
