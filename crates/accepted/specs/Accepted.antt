@@ -83,7 +83,7 @@ peel x v rest m h l =
     (λ (e : ltb 0 x ≡ false). (let z = ltb-false 0 x e in omega arith, subst (λ b. cond b v rest ≤ m) e h))
     (which (ltb 0 x))
 
-record Last (c : Counts) (m : ℕ) : Type 0 where
+pub record Last (c : Counts) (m : ℕ) : Type 0 where
   pub stops : m < 2 → c .stops ≡ 0
   pub lines : m < 3 → c .lines ≡ 0
   pub cars : m < 4 → c .cars ≡ 0
@@ -92,7 +92,7 @@ record Last (c : Counts) (m : ℕ) : Type 0 where
   pub demands : m < 7 → c .demands ≡ 0
   pub closures : m < 8 → c .closures ≡ 0
 
-last : (c : Counts) (m : ℕ) → lastKind c ≤ m → Last c m
+pub last : (c : Counts) (m : ℕ) → lastKind c ≤ m → Last c m
 unfolding lastKind
 last c m h =
     let x : m < 8 → _ = λ l. peel (c .closures) 8 _ m h l in
