@@ -3,6 +3,7 @@ use Prim.Native.Nat.{ℕ}
 use mathlib.Core.Path.{_≡_}
 use mathlib.Core.List.{List}
 use Rattle.laws.specs.Tables.{tab, tabs}
+use Rattle.dispatch.specs.Useful.{onPath}
 use Rattle.dispatch.specs.Waits.{fairnessBonus, withBonus, sumAt, waitTicksSum, waitTicksSquaredSum}
 use Rattle.etd.specs.Etd.{intervenes, doorCost, extraDelay, isAhead, directionBonus, weighted, travelTime, interveningStops, riderDelay, computeCost}
 use Rattle.etd.specs.Etd.{etdRank}
@@ -24,6 +25,6 @@ pub record Passes (s : Sheet) (limit n m : ℕ) (cells : List ℕ) (total : ℕ)
   pub swept : tab (λ i. sweepCode (sweepAfter s i)) (s .cars) ≡ sweeps
 
 unfoldable pub pass : ℕ
-unfolding everything tabs fairnessBonus withBonus sumAt waitTicksSum waitTicksSquaredSum intervenes doorCost extraDelay isAhead directionBonus
+unfolding everything tabs onPath fairnessBonus withBonus sumAt waitTicksSum waitTicksSquaredSum intervenes doorCost extraDelay isAhead directionBonus
     weighted finiteRank travelTime interveningStops riderDelay computeCost etdRank withPenalty withCoincidentCall withLoad rsrCostOf rsrRank
 pass = 0
