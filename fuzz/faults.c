@@ -9,6 +9,8 @@ uint32_t __real_dispatch_bench_read(const uint8_t *, size_t, uint64_t *);
 uint32_t __wrap_dispatch_bench_read(const uint8_t *, size_t, uint64_t *);
 uint32_t __real_dispatch_bench_choose(size_t, size_t, const uint64_t *, size_t, uint32_t *, size_t, uint64_t *);
 uint32_t __wrap_dispatch_bench_choose(size_t, size_t, const uint64_t *, size_t, uint32_t *, size_t, uint64_t *);
+uint32_t __real_dispatch_bench_choose_plain(size_t, size_t, const uint64_t *, size_t, uint32_t *, size_t, uint64_t *);
+uint32_t __wrap_dispatch_bench_choose_plain(size_t, size_t, const uint64_t *, size_t, uint32_t *, size_t, uint64_t *);
 uint32_t __real_dispatch_bench_pass(const uint8_t *, size_t, uint32_t *, size_t, uint64_t *, size_t, uint8_t *, size_t, uint64_t *, uint64_t *, uint64_t *,
                                     uint64_t *, uint64_t *, uint64_t *);
 uint32_t __wrap_dispatch_bench_pass(const uint8_t *, size_t, uint32_t *, size_t, uint64_t *, size_t, uint8_t *, size_t, uint64_t *, uint64_t *, uint64_t *,
@@ -137,6 +139,64 @@ uint32_t __wrap_dispatch_bench_choose(size_t cars, size_t columns, const uint64_
     }
     *total += is("choose_total") && answer == 1;
     return answer;
+}
+
+/* Two cars exchange their columns where both ways cost the same: the last of equals. */
+static void last_of_equals(size_t columns, const uint64_t *cells, uint32_t *chosen) {
+    uint32_t first = chosen[0], second = chosen[1];
+    if (cells[first] + cells[columns + second] == cells[second] + cells[columns + first]) {
+        chosen[0] = second;
+        chosen[1] = first;
+    }
+}
+
+/* The faults of a choice of a small matrix; held is what stood in its first place. */
+static void spoil_plain(size_t cars, size_t columns, const uint64_t *cells, uint32_t *chosen, size_t places, uint64_t *total, uint8_t held) {
+    if (is("plain_last") && cars > 1) {
+        last_of_equals(columns, cells, chosen);
+    }
+    if (is("plain_taken") && cars > 1) {
+        chosen[1] = chosen[0];
+    }
+    if (is("plain_standing")) {
+        leave_standing(cars, columns, cells, chosen);
+    }
+    if (is("plain_past") && cars < places) {
+        chosen[cars] = 0;
+    }
+    *total = is("plain_first_total") && cars > 0 ? cells[chosen[0]] : *total;
+    *total += is("plain_held") && held == 0xa5;
+}
+
+uint32_t __wrap_dispatch_bench_choose_plain(size_t cars, size_t columns, const uint64_t *cells, size_t cell_count, uint32_t *chosen, size_t places,
+                                            uint64_t *total) {
+    uint8_t held = *(const uint8_t *)total;
+    if (is("plain_four_refused") && cars == 4 && columns == 5) {
+        return DISPATCH_BENCH_NOT_SMALL;
+    }
+    if (is("plain_few") && places == 3) {
+        return DISPATCH_BENCH_NOT_SMALL;
+    }
+    size_t given = is("plain_any_count") ? cars * columns : cell_count;
+    uint32_t number = __real_dispatch_bench_choose_plain(cars, columns, cells, given < cell_count ? given : cell_count, chosen, places, total);
+    if (number == 0) {
+        spoil_plain(cars, columns, cells, chosen, places, total, held);
+    } else {
+        if (is("plain_refusal_writes") && places > 0) {
+            chosen[0] = 0;
+        }
+        *total ^= is("plain_refusal_writes_total");
+    }
+    if (is("plain_reads_past")) {
+        *(volatile uint64_t *)total += ((const volatile uint64_t *)cells)[cell_count] & 0;
+    }
+    if (is("plain_writes_before")) {
+        total[-1] ^= 1;
+    }
+    if (is("plain_writes_cells") && cell_count > 0) {
+        ((uint64_t *)(uintptr_t)cells)[0] ^= 1;
+    }
+    return is("plain_number") && number == DISPATCH_BENCH_NOT_SMALL ? 21 : number;
 }
 
 /* The faults of RSR's load term: each cell with a rank is another. */

@@ -32,11 +32,20 @@ uint32_t dispatch_bench_read(const uint8_t *sheet, size_t length, uint64_t *offs
    DISPATCH_BENCH_SENTINEL, or fewer places than cars. */
 uint32_t dispatch_bench_choose(size_t cars, size_t columns, const uint64_t *cells, size_t cell_count, uint32_t *chosen, size_t places, uint64_t *total);
 
+/* The same choice of a small matrix, of at most DISPATCH_BENCH_PLAIN_CARS cars and DISPATCH_BENCH_PLAIN_COLUMNS columns, by the plain matcher, which
+   gives the first car each free column and passes the remaining cars to itself. 0: the columns stand first in chosen, what stands past them is left,
+   and *total is their total; dispatch_bench_choose answers the same. Otherwise, and nothing is written:
+     1         fewer than DISPATCH_BENCH_PLAIN_CARS places are lent, however many cars there are
+     22        more cars or columns, fewer columns than cars, cell_count not cars * columns, or a cell above DISPATCH_BENCH_SENTINEL
+   They are tested in this order. */
+uint32_t dispatch_bench_choose_plain(size_t cars, size_t columns, const uint64_t *cells, size_t cell_count, uint32_t *chosen, size_t places,
+                                     uint64_t *total);
+
 /* The refusals, by the numbers of documents 01 and 02. Those of a store of weights are 1, 2, 7, 8, 11, 17 and 18; 19 and 20 are given by
-   dispatch_bench_grade alone, 21 by dispatch_bench_travel_time alone. */
+   dispatch_bench_grade alone, 21 by dispatch_bench_travel_time alone, 22 by dispatch_bench_choose_plain alone. */
 enum dispatch_bench_refusal {
     DISPATCH_BENCH_ACCEPTED = 0,
-    DISPATCH_BENCH_SHORT_BUFFER = 1,    /* a lent buffer is too short (dispatch_bench_pass, _pending, _weights, _grade) */
+    DISPATCH_BENCH_SHORT_BUFFER = 1,    /* a lent buffer is too short (dispatch_bench_pass, _pending, _weights, _grade, _choose_plain) */
     DISPATCH_BENCH_PAST_END = 2,        /* what is stated passes the last byte */
     DISPATCH_BENCH_EDITION = 3,         /* an edition that is not 1 or 2 */
     DISPATCH_BENCH_UNKNOWN_KIND = 4,    /* a kind that is not 1 to 8 */
@@ -56,7 +65,8 @@ enum dispatch_bench_refusal {
     DISPATCH_BENCH_NO_WEIGHT = 18,      /* a slot without a record for the day */
     DISPATCH_BENCH_COLUMNS = 19,        /* not one column for each idle car, or one that repeats or lies outside the matrix */
     DISPATCH_BENCH_PRICES = 20,         /* not one price for each car and column, or one beyond DISPATCH_BENCH_MOST_PRICE either way */
-    DISPATCH_BENCH_OUTSIDE = 21         /* an input of a travel time outside of its domain */
+    DISPATCH_BENCH_OUTSIDE = 21,        /* an input of a travel time outside of its domain */
+    DISPATCH_BENCH_NOT_SMALL = 22       /* a matrix that the plain matcher does not take */
 };
 
 /* The least lengths of the buffers that a pass is lent; a grader is lent a matrix alone. */
@@ -72,6 +82,10 @@ enum dispatch_bench_refusal {
 
 /* The bits of a record of a store of weights: an offset divided by them is the record's number, from 0. */
 #define DISPATCH_BENCH_WEIGHT_BITS 120
+
+/* The most cars of a matrix for the plain matcher, and so the least places for its columns; and the most columns. */
+#define DISPATCH_BENCH_PLAIN_CARS 4
+#define DISPATCH_BENCH_PLAIN_COLUMNS 5
 
 /* The cell of a pair without a rank, and the largest cell. */
 #define DISPATCH_BENCH_SENTINEL UINT64_C(281474976710656)

@@ -1,5 +1,6 @@
-/* dispatch_bench_weights, dispatch_bench_grade and dispatch_bench_travel_time as a host in C calls them: each number with its offset, and what is
-   left in every place. The argument is document 01's example, which is graded. Ends with 0 where all is as the header says; what is not is said on standard error. */
+/* dispatch_bench_weights, dispatch_bench_grade, dispatch_bench_travel_time and dispatch_bench_choose_plain as a host in C calls them: each number
+   with its offset, and what is left in every place. The argument is document 01's example, which is graded. Ends with 0 where all is as the header
+   says; what is not is said on standard error. */
 #include <inttypes.h>
 #include <math.h>
 #include <stdio.h>
@@ -266,6 +267,47 @@ static void times_are_refused(void) {
     }
 }
 
+#define KEPT_COLUMN UINT32_C(0xdeadbeef)
+#define KEPT_TOTAL UINT64_C(0xa5a5a5a5a5a5a5)
+
+/* The call with so many places, of which 6 stand there: the number, the columns and the total where it is 0, and what else stands there. */
+static void choose_plain(const char *name, const size_t *shape, const uint64_t *cells, size_t places, uint32_t number, const uint32_t *columns,
+                         uint64_t total) {
+    uint32_t chosen[6];
+    uint64_t found = KEPT_TOTAL;
+    for (size_t i = 0; i < 6; i++) {
+        chosen[i] = KEPT_COLUMN;
+    }
+    uint32_t answer = dispatch_bench_choose_plain(shape[0], shape[1], cells, shape[2], chosen, places, &found);
+    if (answer != number || found != (number == 0 ? total : KEPT_TOTAL)) {
+        fprintf(stderr, "%s: answers %" PRIu32 ", total %" PRIu64 "\n", name, answer, found);
+        wrong++;
+    }
+    for (size_t i = 0; i < 6; i++) {
+        if (chosen[i] != (number == 0 && i < shape[0] ? columns[i] : KEPT_COLUMN)) {
+            say(name, "another column, or a place is written that is not the answer's");
+        }
+    }
+}
+
+static void small_matrices(void) {
+    const uint64_t top = DISPATCH_BENCH_CEILING, none = DISPATCH_BENCH_SENTINEL;
+    const uint64_t worked[] = {4, 1, 3, 2, 0, 5, 3, 2, 2}, equal[] = {1, top, 2, none}, above[] = {0, none + 1}, zeros[30] = {0};
+    choose_plain("worked", (size_t[]){3, 3, 9}, worked, 4, DISPATCH_BENCH_ACCEPTED, (uint32_t[]){1, 0, 2}, 5);
+    choose_plain("more places", (size_t[]){3, 3, 9}, worked, 6, DISPATCH_BENCH_ACCEPTED, (uint32_t[]){1, 0, 2}, 5);
+    choose_plain("both are sent", (size_t[]){2, 2, 4}, equal, 4, DISPATCH_BENCH_ACCEPTED, (uint32_t[]){1, 0}, top + 2);
+    choose_plain("the largest", (size_t[]){4, 5, 20}, zeros, 4, DISPATCH_BENCH_ACCEPTED, (uint32_t[]){0, 1, 2, 3}, 0);
+    choose_plain("no car", (size_t[]){0, 5, 0}, zeros, 4, DISPATCH_BENCH_ACCEPTED, NULL, 0);
+    choose_plain("three places for one car", (size_t[]){1, 1, 1}, zeros, 3, DISPATCH_BENCH_SHORT_BUFFER, NULL, 0);
+    choose_plain("three places for too many", (size_t[]){5, 5, 25}, zeros, 3, DISPATCH_BENCH_SHORT_BUFFER, NULL, 0);
+    choose_plain("five cars", (size_t[]){5, 5, 25}, zeros, 5, DISPATCH_BENCH_NOT_SMALL, NULL, 0);
+    choose_plain("six columns", (size_t[]){4, 6, 24}, zeros, 4, DISPATCH_BENCH_NOT_SMALL, NULL, 0);
+    choose_plain("fewer columns than cars", (size_t[]){3, 2, 6}, zeros, 4, DISPATCH_BENCH_NOT_SMALL, NULL, 0);
+    choose_plain("a cell too few", (size_t[]){3, 3, 8}, worked, 4, DISPATCH_BENCH_NOT_SMALL, NULL, 0);
+    choose_plain("a cell too many", (size_t[]){2, 4, 9}, worked, 4, DISPATCH_BENCH_NOT_SMALL, NULL, 0);
+    choose_plain("a cell above", (size_t[]){1, 2, 2}, above, 4, DISPATCH_BENCH_NOT_SMALL, NULL, 0);
+}
+
 int main(int count, char **words) {
     FILE *file = count == 2 ? fopen(words[1], "rb") : NULL;
     if (file == NULL) {
@@ -281,5 +323,6 @@ int main(int count, char **words) {
     grades_are_refused();
     times_are_given();
     times_are_refused();
+    small_matrices();
     return wrong != 0;
 }

@@ -1,5 +1,5 @@
 //! The dispatch bench for Rust hosts: one group pass of lift dispatch over a binary sheet, the weights of a policy from a store, the grade of
-//! a choice that a site made, and the seconds of a run with ramps.
+//! a choice that a site made, the seconds of a run with ramps, and the choice of a matrix of cells.
 //!
 //! Every function of the linked library is proved to meet its contract; this crate is what a Rust host needs around it and is not proved. Each
 //! function ends on every input, with an answer or a refusal, and none panics. There is no state, so any number of threads may call at once;
@@ -26,6 +26,7 @@ mod library;
 mod lines;
 mod pass;
 mod pending;
+mod plain;
 mod records;
 mod refusal;
 mod rules;
@@ -38,6 +39,7 @@ pub use pass::{
     Buffers, Decision, Pass, Summary, Sweep, SweepDirection, SweepMode, pass, pass_into,
 };
 pub use pending::{STOPS, pending, pending_into};
+pub use plain::{NotSmall, PLAIN_CARS, PLAIN_COLUMNS, choose_plain};
 pub use records::{Car, cars};
 pub use refusal::Refusal;
 pub use travel::{LEAST_RATE, MOST_INPUT, OutsideDomain, Run, travel_time};

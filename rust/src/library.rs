@@ -18,6 +18,15 @@ unsafe extern "C" {
         places: usize,
         total: *mut u64,
     ) -> u32;
+    fn dispatch_bench_choose_plain(
+        cars: usize,
+        columns: usize,
+        cells: *const u64,
+        cell_count: usize,
+        chosen: *mut u32,
+        places: usize,
+        total: *mut u64,
+    ) -> u32;
     fn dispatch_bench_pass(
         sheet: *const u8,
         length: usize,
@@ -120,6 +129,28 @@ pub fn choose(
         )
     };
     answer == 1
+}
+
+/// 0 where the columns of a small matrix's choice stand first in `chosen` and `total` is their total, or the refusal's number.
+pub fn choose_plain(
+    cars: usize,
+    columns: usize,
+    cells: &[u64],
+    chosen: &mut [u32],
+    total: &mut u64,
+) -> u32 {
+    // SAFETY: both slices are lent as their addresses and lengths, and the total as the address of one `u64`; see above.
+    unsafe {
+        dispatch_bench_choose_plain(
+            cars,
+            columns,
+            cells.as_ptr(),
+            cells.len(),
+            chosen.as_mut_ptr(),
+            chosen.len(),
+            total,
+        )
+    }
 }
 
 /// 0 for a pass, or the refusal's number.

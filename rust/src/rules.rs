@@ -105,8 +105,9 @@ pub const RULES: [Rule; 16] = [
 /// The number of the first of them.
 const FIRST_OF_CALLS: u32 = 19;
 
-/// The refusals of what is handed over beside a sheet, or without one: 19 and 20 of what a site sent to be graded, 21 of a run's inputs.
-const CALL_RULES: [Rule; 3] = [
+/// The refusals of what is handed over beside a sheet, or without one: 19 and 20 of what a site sent to be graded, 21 of a run's inputs, 22 of a
+/// matrix for the plain matcher.
+const CALL_RULES: [Rule; 4] = [
     Rule {
         says: "What a site sent has not one column for each idle car, or a column repeats or lies outside of the matrix.",
         remedy: "Have the site send a column of its own for each idle car, in record order; columns count from 0, the pending stops first.",
@@ -118,6 +119,10 @@ const CALL_RULES: [Rule; 3] = [
     Rule {
         says: "An input of a travel time is not a number or beyond 1,000,000 either way, or its top speed or a rate is above 0 and below 1/1,024.",
         remedy: "Give a distance, a speed and rates inside of the domain; a top speed or rate of 0 stands for a car that does not run, in no time.",
+    },
+    Rule {
+        says: "A matrix for the plain matcher has more than 4 cars or 5 columns, fewer columns than cars, not cars × columns cells, or a cell above 281,474,976,710,656.",
+        remedy: "Give a small matrix with its cells row by row and at least one column a car; the fast matcher takes up to 32 cars and 64 columns.",
     },
 ];
 
@@ -180,7 +185,7 @@ pub const STORE_RULES: [(u32, Rule); 7] = [
     ),
 ];
 
-/// The rule of a refusal of a sheet, of what is sent with it to be graded, or of a run's inputs.
+/// The rule of a refusal of a sheet, of what is sent with it to be graded, of a run's inputs, or of a small matrix.
 pub fn rule(number: u32) -> Option<&'static Rule> {
     let place = |first: u32| number.checked_sub(first).map(|place| place as usize);
     let of_call = place(FIRST_OF_CALLS).and_then(|place| CALL_RULES.get(place));

@@ -107,7 +107,7 @@ fn the_domain() {
 fn numbers_and_sentences() {
     let header = include_str!("../../include/dispatch_bench.h");
     for said in [
-        format!("DISPATCH_BENCH_OUTSIDE = {} ", OutsideDomain::NUMBER),
+        format!("DISPATCH_BENCH_OUTSIDE = {},", OutsideDomain::NUMBER),
         format!("#define DISPATCH_BENCH_MOST_INPUT {MOST_INPUT:?}\n"),
         format!("#define DISPATCH_BENCH_LEAST_RATE {LEAST_RATE:?}\n"),
     ] {

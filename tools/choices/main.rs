@@ -1,10 +1,13 @@
-// Writes the list that the program replay_choices reads: matrices with their choices, by a solver of another kind than the matcher's, least-cost
-// flow by the Bellman-Ford method over pairs of a cell and whether it is the sentinel, and for the lowest columns the whole problem solved again
-// with one car more held to a column. On the small matrices it is held to a search of every choice.
-//   rustc -O -o choices main.rs && ./choices > crates/replay_choices/stdin
+// Writes the list that the program replay_choices reads, matrices with their choices by the solver, which on the small matrices is held to a search
+// of every choice; and the lines of the program every_matrix by the same solver.
+//   rustc -O -o choices main.rs
+//   ./choices list > crates/replay_choices/stdin
+//   ./choices every > crates/every_matrix/stdout
 use std::io::Write;
 
-const SENTINEL: u64 = 1 << 48;
+use solver::{SENTINEL, choice, every_choice};
+
+mod solver;
 
 fn random(s: u64) -> u64 {
     let a = s ^ (s << 13);
@@ -64,127 +67,6 @@ fn pairs_of_cars(n: usize, m: usize, seed: u64) -> Vec<u64> {
     cells
 }
 
-// A total and how many cars are left standing with it, at the sentinel: the total decides, and among equals the number.
-type Cost = (i128, i128);
-
-fn cost(x: u64) -> Cost {
-    (x as i128, (x == SENTINEL) as i128)
-}
-
-fn add(a: Cost, b: Cost) -> Cost {
-    (a.0 + b.0, a.1 + b.1)
-}
-
-fn less(a: Cost, b: Cost) -> Cost {
-    (a.0 - b.0, a.1 - b.1)
-}
-
-// The least cost of the rows from `first` on over the columns that are not taken, by augmenting along shortest paths, one row after the other.
-fn least(n: usize, m: usize, cells: &[u64], first: usize, taken: &[bool]) -> Cost {
-    let mut row_of: Vec<Option<usize>> = vec![None; m];
-    let mut col_of: Vec<Option<usize>> = vec![None; n];
-    for start in first..n {
-        // distances to rows and columns from the new row, over cells forth and matched cells back
-        let mut to_row: Vec<Option<Cost>> = vec![None; n];
-        let mut to_col: Vec<Option<Cost>> = vec![None; m];
-        let mut from: Vec<usize> = vec![0; m];
-        to_row[start] = Some((0, 0));
-        loop {
-            let mut changed = false;
-            for i in first..n {
-                let Some(d) = to_row[i] else { continue };
-                for j in 0..m {
-                    if taken[j] || col_of[i] == Some(j) {
-                        continue;
-                    }
-                    let e = add(d, cost(cells[i * m + j]));
-                    if to_col[j].map_or(true, |old| e < old) {
-                        to_col[j] = Some(e);
-                        from[j] = i;
-                        changed = true;
-                    }
-                }
-            }
-            for j in 0..m {
-                if let (Some(d), Some(i)) = (to_col[j], row_of[j]) {
-                    let e = less(d, cost(cells[i * m + j]));
-                    if to_row[i].map_or(true, |old| e < old) {
-                        to_row[i] = Some(e);
-                        changed = true;
-                    }
-                }
-            }
-            if !changed {
-                break;
-            }
-        }
-        let mut j = (0..m).filter(|&j| row_of[j].is_none() && to_col[j].is_some()).min_by_key(|&j| to_col[j].unwrap()).expect("a free column");
-        loop {
-            let i = from[j];
-            let before = col_of[i];
-            row_of[j] = Some(i);
-            col_of[i] = Some(j);
-            match before {
-                Some(b) => j = b,
-                None => break,
-            }
-        }
-    }
-    (first..n).map(|i| cost(cells[i * m + col_of[i].unwrap()])).fold((0, 0), add)
-}
-
-// The choice: its total and columns; none where the matcher must refuse.
-fn choice(n: usize, m: usize, cells: &[u64], places: usize) -> Option<(u64, Vec<usize>)> {
-    if n > 32 || m > 64 || m < n || cells.len() != n * m || places < n || cells.iter().any(|&x| x > SENTINEL) {
-        return None;
-    }
-    let mut taken = vec![false; m];
-    let total = least(n, m, cells, 0, &taken).0 as u64;
-    let mut rest = least(n, m, cells, 0, &taken);
-    let mut columns = Vec::new();
-    for i in 0..n {
-        for j in 0..m {
-            let x = cost(cells[i * m + j]);
-            if taken[j] || x.0 > rest.0 {
-                continue;
-            }
-            taken[j] = true;
-            if add(x, least(n, m, cells, i + 1, &taken)) == rest {
-                rest = less(rest, x);
-                columns.push(j);
-                break;
-            }
-            taken[j] = false;
-        }
-    }
-    Some((total, columns))
-}
-
-// The first of every choice, in the order of its columns, that has the least total and leaves fewest cars standing with it.
-fn every_choice(n: usize, m: usize, cells: &[u64]) -> (u64, Vec<usize>) {
-    fn go(n: usize, m: usize, cells: &[u64], columns: &mut Vec<usize>, best: &mut Option<((u64, usize), Vec<usize>)>) {
-        if columns.len() == n {
-            let chosen: Vec<u64> = (0..n).map(|i| cells[i * m + columns[i]]).collect();
-            let found = (chosen.iter().sum(), chosen.iter().filter(|&&x| x == SENTINEL).count());
-            if best.as_ref().map_or(true, |b| found < b.0) {
-                *best = Some((found, columns.clone()));
-            }
-            return;
-        }
-        for j in 0..m {
-            if !columns.contains(&j) {
-                columns.push(j);
-                go(n, m, cells, columns, best);
-                columns.pop();
-            }
-        }
-    }
-    let mut best = None;
-    go(n, m, cells, &mut Vec::new(), &mut best);
-    let (found, columns) = best.expect("a choice");
-    (found.0, columns)
-}
-
 // One case: crates/replay_choices/src/main.rt says how it is stored.
 fn store(n: usize, m: usize, cells: &[u64], places: usize) {
     let answer = choice(n, m, cells, places);
@@ -217,11 +99,30 @@ fn of_kind(n: usize, m: usize, kind: u64, seed: u64) -> Vec<u64> {
         .collect()
 }
 
-fn main() {
+// A line for each matrix of 2 cars and 3 columns with cells 0 to 2: its cells, the columns, the total.
+fn every_matrix() {
     for code in 0..729 {
-        let cells: Vec<u64> = (0..6).map(|k| code / 3u64.pow(k) % 3).collect();
-        store(2, 3, &cells, 2);
+        let cells: Vec<u64> = (0..6).rev().map(|k| code / 3u64.pow(k) % 3).collect();
+        let found = choice(2, 3, &cells, 2).expect("a choice");
+        assert_eq!(found, every_choice(2, 3, &cells));
+        let digits: String = cells.iter().map(u64::to_string).collect();
+        println!("{digits} {} {} {}", found.1[0], found.1[1], found.0);
     }
+}
+
+fn main() {
+    match std::env::args().nth(1).as_deref() {
+        Some("list") => list(),
+        Some("every") => every_matrix(),
+        _ => {
+            eprintln!("usage: choices list | every");
+            std::process::exit(2);
+        }
+    }
+}
+
+// Every matrix of 2 cars and 3 columns with cells 0 to 2 is a line of every_matrix, and not stored here once more.
+fn list() {
     for (n, m, values) in [(1, 1, 2), (1, 5, 2), (2, 2, 3), (2, 5, 3), (3, 3, 3), (3, 4, 2), (3, 5, 4), (4, 4, 3), (4, 5, 2), (4, 5, 9)] {
         for seed in 1..101 {
             let mut s = seed + 88172645463325252;

@@ -55,19 +55,23 @@ pub record Read (s : List ℕ) (c : Counts) (k : Kind) : Type 0 where
   pub has-room : refusal7 c k ≡ false
   pub body : bodyRefusal s c k (from s (endOf c)) ≡ 0
 
--- each record with the counts before it: those of its kind that stand before, and all of the lower kinds
-pub record Records (s : List ℕ) (c : Counts) : Type 0 where
+-- P holds of each record that was counted, with the counts before it: those of its kind that stand before, and all of the lower kinds
+pub record Each (P : Counts → Kind → Type 0) (c : Counts) : Type 0 where
   -- of an edition
   pub across : (c .across ≡ 0) ⊎ (c .across ≡ 64)
-  pub policies : (i : ℕ) → i < c .policies → Read s (counts (c .across) i 0 0 0 0 0 0 0) Policy
-  pub stops : (i : ℕ) → i < c .stops → Read s (counts (c .across) (c .policies) i 0 0 0 0 0 0) Stop
-  pub lines : (i : ℕ) → i < c .lines → Read s (counts (c .across) (c .policies) (c .stops) i 0 0 0 0 0) Line
-  pub cars : (i : ℕ) → i < c .cars → Read s (counts (c .across) (c .policies) (c .stops) (c .lines) i 0 0 0 0) Car
-  pub aboards : (i : ℕ) → i < c .aboards → Read s (counts (c .across) (c .policies) (c .stops) (c .lines) (c .cars) i 0 0 0) Aboard
-  pub waits : (i : ℕ) → i < c .waits → Read s (counts (c .across) (c .policies) (c .stops) (c .lines) (c .cars) (c .aboards) i 0 0) Waiting
-  pub demands : (i : ℕ) → i < c .demands → Read s (counts (c .across) (c .policies) (c .stops) (c .lines) (c .cars) (c .aboards) (c .waits) i 0) Demand
+  pub policies : (i : ℕ) → i < c .policies → P (counts (c .across) i 0 0 0 0 0 0 0) Policy
+  pub stops : (i : ℕ) → i < c .stops → P (counts (c .across) (c .policies) i 0 0 0 0 0 0) Stop
+  pub lines : (i : ℕ) → i < c .lines → P (counts (c .across) (c .policies) (c .stops) i 0 0 0 0 0) Line
+  pub cars : (i : ℕ) → i < c .cars → P (counts (c .across) (c .policies) (c .stops) (c .lines) i 0 0 0 0) Car
+  pub aboards : (i : ℕ) → i < c .aboards → P (counts (c .across) (c .policies) (c .stops) (c .lines) (c .cars) i 0 0 0) Aboard
+  pub waits : (i : ℕ) → i < c .waits → P (counts (c .across) (c .policies) (c .stops) (c .lines) (c .cars) (c .aboards) i 0 0) Waiting
+  pub demands : (i : ℕ) → i < c .demands → P (counts (c .across) (c .policies) (c .stops) (c .lines) (c .cars) (c .aboards) (c .waits) i 0) Demand
   pub closures : (i : ℕ) → i < c .closures
-      → Read s (counts (c .across) (c .policies) (c .stops) (c .lines) (c .cars) (c .aboards) (c .waits) (c .demands) i) Closed
+      → P (counts (c .across) (c .policies) (c .stops) (c .lines) (c .cars) (c .aboards) (c .waits) (c .demands) i) Closed
+
+-- each was read
+abbrev pub Records : List ℕ → Counts → Type 0
+Records s c = Each (Read s) c
 
 -- ---- one record more
 
@@ -122,10 +126,9 @@ agree-counts : {q p s l k a w d x p′ s′ l′ k′ a′ w′ d′ x′ : ℕ}
     → counts q p s l k a w d x ≡ counts q p′ s′ l′ k′ a′ w′ d′ x′
 agree-counts e1 e2 e3 e4 e5 e6 e7 e8 = cc
 
-module _ (s : List ℕ) (c : Counts) (m : ℕ) (h : Records s c) (e : Last c m) where
-  with-policy : m ≡ 1 → Read s c Policy → Records s (next c Policy)
+module _ (P : Counts → Kind → Type 0) (c : Counts) (m : ℕ) (h : Each P c) (e : Last c m) where
+  with-policy : m ≡ 1 → P c Policy → Each P (next c Policy)
   with-policy q r =
-      let a = leb-false 1 (c .policies) (r .has-room) in
       let s0 = e .stops (omega arith) in
       let l0 = e .lines (omega arith) in
       let k0 = e .cars (omega arith) in
@@ -135,7 +138,7 @@ module _ (s : List ℕ) (c : Counts) (m : ℕ) (h : Records s c) (e : Last c m) 
       let x0 = e .closures (omega arith) in
       record {
         across = h .across;
-        policies = grown (h .policies) (subst (λ x. Read s x Policy) (agree-counts refl s0 l0 k0 a0 w0 d0 x0) r);
+        policies = grown (h .policies) (subst (λ x. P x Policy) (agree-counts refl s0 l0 k0 a0 w0 d0 x0) r);
         stops = λ i l. absurd (gone s0 l);
         lines = λ i l. absurd (gone l0 l);
         cars = λ i l. absurd (gone k0 l);
@@ -145,7 +148,7 @@ module _ (s : List ℕ) (c : Counts) (m : ℕ) (h : Records s c) (e : Last c m) 
         closures = λ i l. absurd (gone x0 l);
       }
 
-  with-stop : m ≡ 2 → Read s c Stop → Records s (next c Stop)
+  with-stop : m ≡ 2 → P c Stop → Each P (next c Stop)
   with-stop q r =
       let l0 = e .lines (omega arith) in
       let k0 = e .cars (omega arith) in
@@ -156,7 +159,7 @@ module _ (s : List ℕ) (c : Counts) (m : ℕ) (h : Records s c) (e : Last c m) 
       record {
         across = h .across;
         policies = h .policies;
-        stops = grown (h .stops) (subst (λ x. Read s x Stop) (agree-counts refl refl l0 k0 a0 w0 d0 x0) r);
+        stops = grown (h .stops) (subst (λ x. P x Stop) (agree-counts refl refl l0 k0 a0 w0 d0 x0) r);
         lines = λ i l. absurd (gone l0 l);
         cars = λ i l. absurd (gone k0 l);
         aboards = λ i l. absurd (gone a0 l);
@@ -165,7 +168,7 @@ module _ (s : List ℕ) (c : Counts) (m : ℕ) (h : Records s c) (e : Last c m) 
         closures = λ i l. absurd (gone x0 l);
       }
 
-  with-line : m ≡ 3 → Read s c Line → Records s (next c Line)
+  with-line : m ≡ 3 → P c Line → Each P (next c Line)
   with-line q r =
       let k0 = e .cars (omega arith) in
       let a0 = e .aboards (omega arith) in
@@ -176,7 +179,7 @@ module _ (s : List ℕ) (c : Counts) (m : ℕ) (h : Records s c) (e : Last c m) 
         across = h .across;
         policies = h .policies;
         stops = h .stops;
-        lines = grown (h .lines) (subst (λ x. Read s x Line) (agree-counts refl refl refl k0 a0 w0 d0 x0) r);
+        lines = grown (h .lines) (subst (λ x. P x Line) (agree-counts refl refl refl k0 a0 w0 d0 x0) r);
         cars = λ i l. absurd (gone k0 l);
         aboards = λ i l. absurd (gone a0 l);
         waits = λ i l. absurd (gone w0 l);
@@ -184,7 +187,7 @@ module _ (s : List ℕ) (c : Counts) (m : ℕ) (h : Records s c) (e : Last c m) 
         closures = λ i l. absurd (gone x0 l);
       }
 
-  with-car : m ≡ 4 → Read s c Car → Records s (next c Car)
+  with-car : m ≡ 4 → P c Car → Each P (next c Car)
   with-car q r =
       let a0 = e .aboards (omega arith) in
       let w0 = e .waits (omega arith) in
@@ -195,14 +198,14 @@ module _ (s : List ℕ) (c : Counts) (m : ℕ) (h : Records s c) (e : Last c m) 
         policies = h .policies;
         stops = h .stops;
         lines = h .lines;
-        cars = grown (h .cars) (subst (λ x. Read s x Car) (agree-counts refl refl refl refl a0 w0 d0 x0) r);
+        cars = grown (h .cars) (subst (λ x. P x Car) (agree-counts refl refl refl refl a0 w0 d0 x0) r);
         aboards = λ i l. absurd (gone a0 l);
         waits = λ i l. absurd (gone w0 l);
         demands = λ i l. absurd (gone d0 l);
         closures = λ i l. absurd (gone x0 l);
       }
 
-  with-aboard : m ≡ 5 → Read s c Aboard → Records s (next c Aboard)
+  with-aboard : m ≡ 5 → P c Aboard → Each P (next c Aboard)
   with-aboard q r =
       let w0 = e .waits (omega arith) in
       let d0 = e .demands (omega arith) in
@@ -213,13 +216,13 @@ module _ (s : List ℕ) (c : Counts) (m : ℕ) (h : Records s c) (e : Last c m) 
         stops = h .stops;
         lines = h .lines;
         cars = h .cars;
-        aboards = grown (h .aboards) (subst (λ x. Read s x Aboard) (agree-counts refl refl refl refl refl w0 d0 x0) r);
+        aboards = grown (h .aboards) (subst (λ x. P x Aboard) (agree-counts refl refl refl refl refl w0 d0 x0) r);
         waits = λ i l. absurd (gone w0 l);
         demands = λ i l. absurd (gone d0 l);
         closures = λ i l. absurd (gone x0 l);
       }
 
-  with-waiting : m ≡ 6 → Read s c Waiting → Records s (next c Waiting)
+  with-waiting : m ≡ 6 → P c Waiting → Each P (next c Waiting)
   with-waiting q r =
       let d0 = e .demands (omega arith) in
       let x0 = e .closures (omega arith) in
@@ -230,12 +233,12 @@ module _ (s : List ℕ) (c : Counts) (m : ℕ) (h : Records s c) (e : Last c m) 
         lines = h .lines;
         cars = h .cars;
         aboards = h .aboards;
-        waits = grown (h .waits) (subst (λ x. Read s x Waiting) (agree-counts refl refl refl refl refl refl d0 x0) r);
+        waits = grown (h .waits) (subst (λ x. P x Waiting) (agree-counts refl refl refl refl refl refl d0 x0) r);
         demands = λ i l. absurd (gone d0 l);
         closures = λ i l. absurd (gone x0 l);
       }
 
-  with-demand : m ≡ 7 → Read s c Demand → Records s (next c Demand)
+  with-demand : m ≡ 7 → P c Demand → Each P (next c Demand)
   with-demand q r =
       let x0 = e .closures (omega arith) in
       record {
@@ -246,11 +249,11 @@ module _ (s : List ℕ) (c : Counts) (m : ℕ) (h : Records s c) (e : Last c m) 
         cars = h .cars;
         aboards = h .aboards;
         waits = h .waits;
-        demands = grown (h .demands) (subst (λ x. Read s x Demand) (agree-counts refl refl refl refl refl refl refl x0) r);
+        demands = grown (h .demands) (subst (λ x. P x Demand) (agree-counts refl refl refl refl refl refl refl x0) r);
         closures = λ i l. absurd (gone x0 l);
       }
 
-  with-closed : Read s c Closed → Records s (next c Closed)
+  with-closed : P c Closed → Each P (next c Closed)
   with-closed r =
       record {
         across = h .across;
@@ -264,16 +267,18 @@ module _ (s : List ℕ) (c : Counts) (m : ℕ) (h : Records s c) (e : Last c m) 
         closures = grown (h .closures) r;
       }
 
-pub one-more : (s : List ℕ) (c : Counts) → Records s c → Clean s c → Records s (next c (kindOf (kindAt s c)))
+-- one record more, in order
+pub and-next : (P : Counts → Kind → Type 0) (c : Counts) (m : ℕ) → refusal6 c m ≡ false → Each P c → P c (kindOf m) → Each P (next c (kindOf m))
 unfolding refusal6
-one-more s c h r =
-    let m = kindAt s c in
-    let e = last c m (ltb-false m (lastKind c) (neither-left (ltb m (lastKind c)) _ (r .in-order))) in
-    by-kind (λ k. Read s c k → Records s (next c k)) m
-    (λ q. with-policy s c m h e q) (λ q. with-stop s c m h e q) (λ q. with-line s c m h e q) (λ q. with-car s c m h e q)
-    (λ q. with-aboard s c m h e q) (λ q. with-waiting s c m h e q) (λ q. with-demand s c m h e q)
-    (λ q. with-closed s c m h e) (λ _. h)
-    (record { has-room = r .has-room; body = r .body })
+and-next P c m o h =
+    let e = last c m (ltb-false m (lastKind c) (neither-left (ltb m (lastKind c)) _ o)) in
+    by-kind (λ k. P c k → Each P (next c k)) m
+    (λ q. with-policy P c m h e q) (λ q. with-stop P c m h e q) (λ q. with-line P c m h e q) (λ q. with-car P c m h e q)
+    (λ q. with-aboard P c m h e q) (λ q. with-waiting P c m h e q) (λ q. with-demand P c m h e q)
+    (λ q. with-closed P c m h e) (λ _. h)
+
+pub one-more : (s : List ℕ) (c : Counts) → Records s c → Clean s c → Records s (next c (kindOf (kindAt s c)))
+one-more s c h r = and-next (Read s) c (kindAt s c) (r .in-order) h (record { has-room = r .has-room; body = r .body })
 
 -- the first record is a policy
 with-first : (s : List ℕ) (c : Counts) → Clean s c → 0 < next c (kindOf (kindAt s c)) .policies
@@ -372,8 +377,8 @@ across-two e = by (eqb e 2)
     by true = inr refl
     by false = inl refl
 
-pub no-records : (s : List ℕ) → Records s (atFirst s)
-no-records s =
+pub no-records : (P : Counts → Kind → Type 0) (s : List ℕ) → Each P (atFirst s)
+no-records P s =
     record {
       across = across-two (edition s);
       policies = λ i l. absurd (omega arith);
@@ -387,7 +392,7 @@ no-records s =
     }
 
 pub whole : (s : List ℕ) (c : Counts) → verdict s ≡ Accepted c → Whole s c
-whole s c e = let h = headed s c e in from-here s (recordCount s) (atFirst s) c (no-records s) (inr (h .some)) (h .rest)
+whole s c e = let h = headed s c e in from-here s (recordCount s) (atFirst s) c (no-records (Read s) s) (inr (h .some)) (h .rest)
 
 -- ---- what the conditions leave of each record
 

@@ -32,7 +32,7 @@ use Rattle.layout.specs.Refusals.{refusal9Car, refusal10Car, refusal11Car, refu
 use Rattle.layout.specs.Refusals.{refusal8Waiting, refusal9Waiting, refusal10Waiting, refusal11Waiting, refusal14, refusal9Demand, refusal10Demand, refusal9Closed, refusal10Closed}
 use Rattle.layout.specs.Verdict.{pick, bodyRefusal, recordRefusal, tailVerdict, recordsVerdict, verdict, firstOf}
 use Rattle.layout.specs.VerdictLaws.{clean, before-all}
-use Rattle.accepted.specs.Accepted.{Records, one-more, small, few-demands, few-closures, no-records}
+use Rattle.accepted.specs.Accepted.{Read, Records, one-more, small, few-demands, few-closures, no-records}
 
 -- ---- a record is read within the bits of the longest, a car of edition 2
 
@@ -254,7 +254,7 @@ module _ (s : List ℕ) (long : 65536 < length s) where
         le-ltb (8 * length start) headLength (omega arith),
         field-same (0 + 0) 8 (omega arith),
         count-same,
-        records-same (recordCount start) (none (acrossBits (edition start))) (subst (λ (w : ℕ). Records s (none w)) (ap acrossBits edition-same) (no-records s)),
+        records-same (recordCount start) (none (acrossBits (edition start))) (subst (λ (w : ℕ). Records s (none w)) (ap acrossBits edition-same) (no-records (Read s) s)),
       )
 
 pub first-bytes : (s : List ℕ) → verdict s ≡ verdict (take 65536 s)

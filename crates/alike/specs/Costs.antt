@@ -160,8 +160,12 @@ module _ (s : Sheet) (stop : ℕ → Stop) (line : ℕ → Line) (car : ℕ → 
               && riderCanBoard (s .car i) (stopAt s j .along) (s .waiting w .weight) (stopPosition s (s .waiting w .destination)))
               (λ w. waitsAt t j w && riderCanBoard (car i) (stopAt t j .along) (waiting w .weight) (stopPosition t (waiting w .destination)))
               (s .waits)
-              (λ w lw. rw (same-waits s stop line car aboard waiting demand closed h j w lj lw, h .a-waiter w lw, same-room (h .a-car i li),
-              like-placed (waiting w .destination) .lit (h .a-car i li) same-p)),
+              (λ w lw. rw (
+                same-waits s stop line car aboard waiting demand closed h j w lj lw,
+                h .a-waiter w lw,
+                same-room (h .a-car i li),
+                like-placed (waiting w .destination) .lit (h .a-car i li) same-p,
+              )),
         )
 
     same-path : onAboardPath s i j ≡ onAboardPath t i j
@@ -229,8 +233,15 @@ module _ (s : Sheet) (stop : ℕ → Stop) (line : ℕ → Line) (car : ℕ → 
     unfolding computeCost directionBonus
     same-cost =
         let e : travelTime t i j ≡ travelTime t i j = refl in
-        rw (same-travel, same-delay, same-intervening, h .a-car i li .transition, h .a-car i li .dwell, h .a-car i li .phase,
-        like-goal i li .bonus same-x same-p e)
+        rw (
+          same-travel,
+          same-delay,
+          same-intervening,
+          h .a-car i li .transition,
+          h .a-car i li .dwell,
+          h .a-car i li .phase,
+          like-goal i li .bonus same-x same-p e,
+        )
 
     same-etd : etdRank s i j ≡ etdRank t i j
     unfolding etdRank waitTicksSum waitTicksSquaredSum
@@ -242,8 +253,17 @@ module _ (s : Sheet) (stop : ℕ → Stop) (line : ℕ → Line) (car : ℕ → 
     unfolding rsrRank rsrCostOf waitTicksSum
     same-rsr =
         let k = h .a-car i li in
-        rw (same-useful true, k .speed, h .away i j li lj, k .phase, k .load, k .capacity, k .calls,
-        like-goal i li .wrong same-x same-p, same-sum waitTicks)
+        rw (
+          same-useful true,
+          k .speed,
+          h .away i j li lj,
+          k .phase,
+          k .load,
+          k .capacity,
+          k .calls,
+          like-goal i li .wrong same-x same-p,
+          same-sum waitTicks,
+        )
 
     -- ---- SCAN
 
@@ -267,8 +287,12 @@ module _ (s : Sheet) (stop : ℕ → Stop) (line : ℕ → Line) (car : ℕ → 
   pub same-sweep : (i : ℕ) → i < s .cars → sweepAfter s i ≡ sweepAfter t i
   unfolding sweepAfter preparedSweep
   same-sweep i li =
-      rw (same-own i li, same-ahead i li, same-idle s stop line car aboard waiting demand closed h i li,
-      same-stops s stop line car aboard waiting demand closed h)
+      rw (
+        same-own i li,
+        same-ahead i li,
+        same-idle s stop line car aboard waiting demand closed h i li,
+        same-stops s stop line car aboard waiting demand closed h,
+      )
 
   -- no rank knows what is barred
   pub same-rank : (i j : ℕ) → i < s .cars → j < s .stops → rank s i j ≡ rank t i j

@@ -75,8 +75,11 @@ module _ (s : Sheet) (stop : ℕ → Stop) (line : ℕ → Line) (car : ℕ → 
     pub same-matrix : (limit r c : ℕ) → r < idleCars s → matrix s limit r c ≡ matrix t limit r c
     unfolding matrix
     same-matrix limit r c lr =
-        rw (← same-row s stop line car aboard waiting demand closed h r, ← same-column s stop line car aboard waiting demand closed h c,
-        ← same-stops s stop line car aboard waiting demand closed h)
+        rw (
+          ← same-row s stop line car aboard waiting demand closed h r,
+          ← same-column s stop line car aboard waiting demand closed h c,
+          ← same-stops s stop line car aboard waiting demand closed h,
+        )
         (⊎-elim
         (λ (l : c < pendingStops s).
         rw (lt-ltb c (pendingStops s) l) (same-cell limit (rowCar s r) (columnStop s c) (row-below r lr) (column-below c l)))
@@ -90,8 +93,11 @@ module _ (s : Sheet) (stop : ℕ → Stop) (line : ℕ → Line) (car : ℕ → 
     same-held-at : (limit r c : ℕ) → r < idleCars s → heldAt s limit r c ≡ heldAt t limit r c
     unfolding heldAt
     same-held-at limit r c lr =
-        rw (← same-row s stop line car aboard waiting demand closed h r, ← same-column s stop line car aboard waiting demand closed h c,
-        ← same-stops s stop line car aboard waiting demand closed h)
+        rw (
+          ← same-row s stop line car aboard waiting demand closed h r,
+          ← same-column s stop line car aboard waiting demand closed h c,
+          ← same-stops s stop line car aboard waiting demand closed h,
+        )
         (⊎-elim
         (λ (l : c < pendingStops s).
         rw (lt-ltb c (pendingStops s) l) (same-held-cell limit (rowCar s r) (columnStop s c) (row-below r lr) (column-below c l)))

@@ -2,9 +2,10 @@
 -- distance becomes the sum of the two absolute differences". Each difference is rounded, then the sum. Assumes nothing.
 use Prim.Native.Nat.{ℕ, _+_, _^_, _<_}
 use native.Mathlib.Omega.{arith}
-use mathlib.Core.Path.{_≡_, ap₂}
+use mathlib.Core.Path.{_≡_, refl, ap₂}
 use mathlib.Core.Bool.{Bool, true, _&&_}
-use lib.Ieee.{Float, le}
+use lib.Count.{trailingZeros}
+use lib.Ieee.{Float, binary64, size, span, climb, units, odd, round, sum, neg, add, sub, le, ofFields, ofBits}
 use Rattle.laws.specs.Bools.{both-left, both-right}
 use Rattle.fp.specs.Num as Num
 use Rattle.fp.specs.Num.{plus, finite, apart}
@@ -19,9 +20,24 @@ use Rattle.components.specs.declared.Point.{Point}
 abbrev pub pointOf : Float → Float → Point
 pointOf x y = record { along = x; across = y }
 
+-- 3.0, 4.0 and 7.0, by their bits
+abbrev three : Float
+three = ofBits binary64 0x4008_0000_0000_0000
+
+abbrev four : Float
+four = ofBits binary64 0x4010_0000_0000_0000
+
+abbrev seven : Float
+seven = ofBits binary64 0x401c_0000_0000_0000
+
 -- every distance of the pass is this one
 unfoldable pub distance : Point → Point → Float
 distance p q = plus (apart (p .along) (q .along)) (apart (p .across) (q .across))
+
+-- 3 along and 4 across are 7: the sum, and not the larger of the two
+pub three-and-four : distance (pointOf Num.zero Num.zero) (pointOf three four) ≡ seven
+unfolding distance apart trailingZeros size span climb units odd round sum neg add sub ofFields ofBits
+three-and-four = refl
 
 -- "a second coordinate after the position, same range"
 unfoldable pub isPlaced : Point → Bool

@@ -224,7 +224,8 @@ module _ (s : Sheet) (i j : ℕ) (h : Weighed s i) where
       ≡ (waitsAt s j w && riderCanBoard (s .car i) (stopAt s j .along) (weightOf s j w) (placeOf s j w))
   unfolding riderCanBoard fits
   one w =
-      one-rider (waitsAt s j w) (fits w) (goesUp (stopAt s j .along) (placeOf s j w)) (goesDown (stopAt s j .along) (placeOf s j w)) (s .car i .up) (s .car i .down)
+      one-rider (waitsAt s j w) (fits w) (goesUp (stopAt s j .along) (placeOf s j w)) (goesDown (stopAt s j .along) (placeOf s j w))
+      (s .car i .up) (s .car i .down)
       (not-both-ways (stopAt s j .along) (placeOf s j w))
       ∙ ap (λ (b : Bool). waitsAt s j w && (fits w && b)) (sym (lamps (s .car i) (stopAt s j .along) (placeOf s j w)))
 

@@ -111,7 +111,8 @@ module _ (s : Sheet) (a : Admitted s) (i j : ℕ) (li : i < s .cars) (lj : j < s
   stops-few : interveningStops s i j ≤ 64
   unfolding interveningStops
   stops-few =
-      le-trans (count-le (λ k. demandStop s k && intervenes (s .car i .position .along) (stopAt s j .along) (stopAt s k .along)) (s .stops)) (a .stops)
+      le-trans (count-le (λ k. demandStop s k && intervenes (s .car i .position .along) (stopAt s j .along) (stopAt s k .along)) (s .stops))
+      (a .stops)
 
   delay-size : AtMost (2 ^ 546) (riderDelay s i j)
   unfolding riderDelay

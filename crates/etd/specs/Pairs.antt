@@ -73,7 +73,8 @@ fairCostBy y c goal count dests sides w demand xs n p =
 
 pub fair-by : (y : Policy) (c : Car) (goal : Place) (count : ℕ) (dests sides : List Float) (w : Waiters) (demand : ℕ) (xs : List Float) (n : ℕ)
     (p : Point) {cost squared r : Float}
-    → cost ≡ costBy y c goal count dests sides demand xs n p → squared ≡ withBonus cost (y .w3) (w .squares) → r ≡ withBonus squared (y .w4) (w .waitsum)
+    → cost ≡ costBy y c goal count dests sides demand xs n p → squared ≡ withBonus cost (y .w3) (w .squares)
+    → r ≡ withBonus squared (y .w4) (w .waitsum)
     → r ≡ fairCostBy y c goal count dests sides w demand xs n p
 unfolding fairCostBy
 fair-by y c goal count dests sides w demand xs n p ec es er =

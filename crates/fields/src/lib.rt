@@ -36,15 +36,7 @@ pub fn fill64(s: &[u8], base: u32, len: u32, off: u32, n: usize, out: &mut [u64]
 }
 
 // The double in the w bits at off of each record; in none it is 0.
-pub fn fill_doubles(
-    s: &[u8],
-    base: u32,
-    len: u32,
-    off: u32,
-    w: usize,
-    n: usize,
-    out: &mut [f64],
-)
+pub fn fill_doubles(s: &[u8], base: u32, len: u32, off: u32, w: usize, n: usize, out: &mut [f64])
     requires { ⌜ (base < 2 ^ 31) × (len ≤ 1000) × (n ≤ 512) × (n ≤ length (now out)) × (w ≤ 64) ⌝ }
     ensures { λ _. ⌜ (length (now (out .exit)) ≡ length (now (out .entry)))
         × (now (out .exit) ≡ tab (λ i. ofBits binary64 (fieldAt (now (s .entry)) (base + len * i + off) w)) n ++ drop n (now (out .entry))) ⌝ }

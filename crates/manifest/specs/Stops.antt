@@ -1,4 +1,5 @@
--- Stops by two lists, n ids and 128 coordinates: of stop j the first is element j, the second element 64 + j. What the code looks up. Assumes nothing.
+-- Stops by two lists, n ids and 128 coordinates: of stop j the first is element j, the second element 64 + j. What the code looks up. Assumes
+-- nothing.
 use Prim.Native.Nat.{ℕ, zero, suc, _+_, _-_, _≤_, _<_}
 use native.Mathlib.Omega.{arith}
 use mathlib.Core.Path.{_≡_, refl, sym, ap, ap₂, _∙_}

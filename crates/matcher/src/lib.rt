@@ -16,7 +16,7 @@ pub enum Matching {
 }
 
 // Whether some cell is above the sentinel.
-fn too_large(cells: &[u64]) -> bool
+pub fn too_large(cells: &[u64]) -> bool
     ensures { λ r. ⌜ r ≡ any (tooLarge (now (cells .entry))) (length (now (cells .entry))) ⌝ }
 {
     let mut k = 0;

@@ -92,8 +92,9 @@ module _ (s : Sheet) (i : ℕ) (here : isPlaced (s .car i .position) ≡ true) (
 
   away-real : (j : ℕ) → j < s .stops → real (away s i j) ≡ true
   away-real j l =
-      let (a, b, c) = le-tells Num.zero (distance (s .car i .position) (stopAt s j)) (distance-nonneg (s .car i .position) (stopAt s j) here (there j l))
-      in b
+      let (a, b, c) = le-tells Num.zero (distance (s .car i .position) (stopAt s j))
+      (distance-nonneg (s .car i .position) (stopAt s j) here (there j l)) in
+      b
 
   apart : (j k : ℕ) → j < s .stops → k < s .stops → (j ≡ k → ⊥) → stopId s j ≢ stopId s k
   apart j k lj lk ne e =

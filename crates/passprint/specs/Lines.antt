@@ -5,8 +5,8 @@ use Prim.Native.Nat.{ℕ}
 use mathlib.Core.Bool.{cond}
 use mathlib.Core.List.{List, [], _∷_, _++_}
 use lib.Dec.{eqb}
-use Rattle.laws.specs.Folds.{fold}
 use Rattle.text.specs.Text.{decimal}
+use Rattle.text.specs.Lines.{lineEnd, linesOf}
 use Rattle.components.specs.declared.Direction.{Direction}
 use Rattle.components.specs.declared.Direction.the-variants.{Up, Down}
 use Rattle.components.specs.declared.Mode.{Mode}
@@ -78,10 +78,6 @@ refusedWord = 114 ∷ 101 ∷ 102 ∷ 117 ∷ 115 ∷ 101 ∷ 100 ∷ 32 ∷ []
 abbrev pub atWord : List ℕ
 atWord = 32 ∷ 97 ∷ 116 ∷ 32 ∷ []
 
--- "\n"
-abbrev pub lineEnd : List ℕ
-lineEnd = 10 ∷ []
-
 -- ` held H`
 unfoldable pub heldEnd : ℕ → List ℕ
 heldEnd held = heldWord ++ (decimal held ++ lineEnd)
@@ -117,10 +113,6 @@ sweepLine car w = sweepWord ++ (decimal car ++ sweepEnd w)
 -- `refused N at OFFSET`
 unfoldable pub refusalLine : ℕ → ℕ → List ℕ
 refusalLine number offset = refusedWord ++ (decimal number ++ (atWord ++ (decimal offset ++ lineEnd)))
-
--- n lines, one after the other
-abbrev pub linesOf : (ℕ → List ℕ) → ℕ → List ℕ
-linesOf line n = fold (λ (text : List ℕ) (r : ℕ). text ++ line r) [] n
 
 module _ (s : Sheet) where
   -- the id of the idle car of row r

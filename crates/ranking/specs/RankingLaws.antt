@@ -59,11 +59,18 @@ by-parts Scan d x y z p q r = r
 by-parts Unknown d x y z p q r = refl
 
 module _ (s : Sheet) (ids : List ℕ) (xs : List Float) (hs : HoldsStops s ids xs (s .stops)) (i limit : ℕ) (weighed : Weighed s i)
-    (row : Row) (dests sides : List Float) (h : HoldsRow s i limit row dests sides) (j : ℕ) (v : Waiters) (hv : HoldsWaiters s j v) (l : j < s .stops) where
+    (row : Row) (dests sides : List Float) (h : HoldsRow s i limit row dests sides) (j : ℕ)
+    (v : Waiters) (hv : HoldsWaiters s j v) (l : j < s .stops) where
   scan-is : scanBy row dests v xs j ≡ scanRank s (sweepAfter s i) i j
   unfolding scanBy rankOf scanRank
   scan-is =
-      rw (h .sweep, h .car, h .goal-is, point-is s ids xs (s .stops) hs j l, useful-is s i j weighed (row .riders) dests sides (h .riders) v hv false l)
+      rw (
+        h .sweep,
+        h .car,
+        h .goal-is,
+        point-is s ids xs (s .stops) hs j l,
+        useful-is s i j weighed (row .riders) dests sides (h .riders) v hv false l,
+      )
 
   pub rank-is : rankBy row dests sides v xs (s .stops) j ≡ rank s i j
   unfolding rankBy rank

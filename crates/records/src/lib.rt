@@ -94,7 +94,12 @@ pub fn car_at(s: &[u8], at: u32, across: u32) -> Car
         capacity: double_at(s, at, car::CAPACITY + across),
         load: double_at(s, at, car::LOAD + across),
         bypassup: threshold_at(s, at, car::HAS_BYPASS_UP + across, car::BYPASS_UP + across),
-        bypassdown: threshold_at(s, at, car::HAS_BYPASS_DOWN + across, car::BYPASS_DOWN + across),
+        bypassdown: threshold_at(
+            s,
+            at,
+            car::HAS_BYPASS_DOWN + across,
+            car::BYPASS_DOWN + across,
+        ),
         transition: bits::field32(s, at, car::TRANSITION + across),
         dwell: bits::field32(s, at, car::DWELL + across),
         restricted: bits::field(s, at, car::RESTRICTED + across, 64),

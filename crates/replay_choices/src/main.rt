@@ -1,12 +1,12 @@
 // Gives stored matrices to the matcher and holds its answers and what it leaves in the places to the stored ones. Prints each that differs, and
 // how many were compared.
 //
-// The list was written by tools/choices, a solver of another kind, which is held to an exhaustive search on the small matrices. It has every
-// matrix of 2 cars and 3 columns with cells 0 to 2, 1,000 random ones of up to 4 cars and 5 columns with ties and sentinels, every matrix of 2 cars
-// and 2 columns with cells 0, 1, the ceiling and the sentinel and others where equal totals leave unlike numbers of cars standing, larger ones of
-// up to 32 cars and 64 columns, and each thing that the matcher refuses. A case is the numbers of cars, columns and places and the bytes of a cell,
-// one byte each, the number of cells in 16 bits, and the cells; then the answer's number in 8 bits, its total in 64, and a byte for what each
-// place must hold, 99 where nothing is written. The most significant byte comes first.
+// The list was written by tools/choices, a solver of another kind, which is held to an exhaustive search on the small matrices. It has 1,000 random
+// matrices of up to 4 cars and 5 columns with ties and sentinels, every matrix of 2 cars and 2 columns with cells 0, 1, the ceiling and the sentinel
+// and others where equal totals leave unlike numbers of cars standing, larger ones of up to 32 cars and 64 columns, and each thing that the matcher
+// refuses. (Every matrix of 2 cars and 3 columns with cells 0 to 2 is a line of the program every_matrix.) A case is the numbers of cars, columns and
+// places and the bytes of a cell, one byte each, the number of cells in 16 bits, and the cells; then the answer's number in 8 bits, its total in 64,
+// and a byte for what each place must hold, 99 where nothing is written. The most significant byte comes first.
 use libc::STDIN_FILENO;
 use libc::STDOUT_FILENO;
 use matcher::Matching;

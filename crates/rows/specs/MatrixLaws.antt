@@ -169,7 +169,8 @@ pub record RowOf (s : Sheet) (limit : ℕ) (car : Car) (row : Row) (dests sides 
   pub held : (i : ℕ) → car ≡ s .car i → HoldsRow s i limit row dests sides
 
 pub row-of : (s : Sheet) (ids : List ℕ) (xs : List Float) (acar adest : List ℕ) (masks : StopMasks) → Held s ids xs acar adest masks
-    → (limit : ℕ) (car : Car) (row : Row) (entry side-entry : List Float) {dests sides : List Float} → row ≡ rowFor s ids xs acar adest masks limit car
+    → (limit : ℕ) (car : Car) (row : Row) (entry side-entry : List Float) {dests sides : List Float}
+    → row ≡ rowFor s ids xs acar adest masks limit car
     → dests ≡ destsIn ids (s .stops) acar adest (car .id) xs (s .aboards) ++ drop (row .riders .count) entry
     → sides ≡ destsIn ids (s .stops) acar adest (car .id) (sidesOf xs) (s .aboards) ++ drop (row .riders .count) side-entry
     → RowOf s limit car row dests sides

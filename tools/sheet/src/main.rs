@@ -380,7 +380,7 @@ fn example(strategy: &str) -> Result<(), Stop> {
 }
 
 /// The last number of a refusal.
-const LAST_RULE: u32 = 21;
+const LAST_RULE: u32 = 22;
 
 fn rule(number: &str) -> Result<(), Stop> {
     match number.parse() {
@@ -391,7 +391,7 @@ fn rule(number: &str) -> Result<(), Stop> {
     }
 }
 
-/// The rules of sheets, of what is graded with them and of a run's inputs, then those of stores.
+/// The rules of sheets, of what is graded with them, of a run's inputs and of a small matrix, then those of stores.
 fn rules_from(first: u32, last: u32) -> Result<(), Stop> {
     let mut lines = String::new();
     for number in first..=last {

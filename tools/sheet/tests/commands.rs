@@ -148,7 +148,7 @@ fn texts_to_start_from() {
 #[test]
 fn rules() {
     let all = run(&["rule"], b"");
-    assert_eq!(text(&all.stdout).lines().count(), 2 * (16 + 3 + 7));
+    assert_eq!(text(&all.stdout).lines().count(), 2 * (16 + 4 + 7));
     let one = run(&["rule", "1"], b"");
     assert!(text(&one.stdout).starts_with("rule 1: A buffer that the host lent"));
     for (number, sheet, store) in [
@@ -158,6 +158,7 @@ fn rules() {
         ("19", true, false),
         ("20", true, false),
         ("21", true, false),
+        ("22", true, false),
     ] {
         let said = text(&run(&["rule", number], b"").stdout);
         assert_eq!(said.contains(&format!("rule {number}: ")), sheet, "{said}");
@@ -175,10 +176,10 @@ fn rules() {
     assert!(
         given_no_more.contains("the first release gave this number, and it is not given any more")
     );
-    for number in ["0", "22", "x"] {
+    for number in ["0", "23", "x"] {
         let output = run(&["rule", number], b"");
         assert_eq!(output.status.code(), Some(1));
-        let said = format!("\"{number}\": expected a refusal's number, 1 to 21\n");
+        let said = format!("\"{number}\": expected a refusal's number, 1 to 22\n");
         assert_eq!(text(&output.stderr), said);
     }
 }

@@ -1,5 +1,6 @@
 -- passprint::lines meets its contract.
-use Rattle.passprint.specs.LineLaws.{refused-is, put-as, counted}
+use Rattle.passprint.specs.LineLaws.{refused-is}
+use Rattle.text.specs.Lines.{put-as, counted}
 use borrow.Author.Needs.{needs}
 use mathlib.Core.Path.{_≡_, refl, sym, ap, _∙_}
 use native.Mathlib.Omega.{arith}

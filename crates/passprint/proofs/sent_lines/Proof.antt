@@ -2,7 +2,8 @@
 use Rattle.accepted.specs.Accepted.{accepted}
 use Rattle.cells.specs.Survey.{rows-in}
 use Rattle.layout.specs.Records.{sheetOf}
-use Rattle.passprint.specs.LineLaws.{text-is, put-as}
+use Rattle.passprint.specs.LineLaws.{text-is}
+use Rattle.text.specs.Lines.{put-as}
 use Rattle.text.specs.Text.{then}
 use borrow.Author.Needs.{needs}
 use mathlib.Core.Path.{_≡_, refl, sym, ap, _∙_}

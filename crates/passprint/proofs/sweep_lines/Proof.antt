@@ -1,8 +1,9 @@
 -- passprint::sweep_lines meets its contract.
 use Prim.Native.Nat.{ℕ, _+_, _-_, _≤_}
 use Rattle.layout.specs.Records.{sheetOf, limitOf}
-use Rattle.passprint.specs.LineLaws.{Putting, putting-start, putting-next, codeLine, sweep-row, put-as}
-use Rattle.passprint.specs.Lines.{linesOf, rowSweep}
+use Rattle.passprint.specs.LineLaws.{codeLine, sweep-row}
+use Rattle.text.specs.Lines.{linesOf, Putting, putting-start, putting-next, put-as}
+use Rattle.passprint.specs.Lines.{rowSweep}
 use Rattle.text.specs.Text.{Put, size}
 use borrow.Author.Needs.{needs}
 use lib.ListN.{getD}
@@ -12,13 +13,13 @@ use Rattle.passprint.proofs.sweep_lines.Statement.{statement}
 use Rattle.passprint.proofs.sweep_lines.Tie as tie
 
 abbrev Inv-loop : tie.InvT-loop
-Inv-loop s c sweeps out₀ from cars at₀ r₀ out at r = (r ≤ cars .count) × Putting (rowSweep (sheetOf s c)) out₀ from r out at
+Inv-loop s c sweeps out₀ from cars at₀ r₀ out at r = (r ≤ cars .count) × Putting 60 (rowSweep (sheetOf s c)) out₀ from r out at
 
 abbrev μ-loop : tie.MeasureT-loop
 μ-loop s c sweeps out₀ from cars at₀ r₀ out at r = cars .count - r
 
 loop-holds : tie.Need-loop-holds Inv-loop μ-loop
-loop-holds c = (omega arith, putting-start _ _ _ (omega arith))
+loop-holds c = (omega arith, putting-start 60 _ _ _ (omega arith))
 
 car-id-requires : tie.Need-car-id-requires Inv-loop μ-loop
 unfolding sheetOf

@@ -31,8 +31,13 @@ unfolding verdict
 returns-2 c =
     let w = c .before .before in
     let h = w .before .before in
-    rw (← h .before .head-refusal .ensures, eq-eqb _ _ (h .if1 .left), ← w .before .field .ensures .is, ← w .across-bits .ensures,
-    ← c .before .field2 .ensures .is) (c .records .ensures)
+    rw (
+      ← h .before .head-refusal .ensures,
+      eq-eqb _ _ (h .if1 .left),
+      ← w .before .field .ensures .is,
+      ← w .across-bits .ensures,
+      ← c .before .field2 .ensures .is,
+    ) (c .records .ensures)
 
 pub read-spec : {M : Type 1} → statement M
 read-spec = tie.close (tie.spec (λ c κs. search needs) returns (λ c κs. search needs) (λ c κs. search needs) (λ c κs. search needs) (λ c. search needs) records-requires returns-2)

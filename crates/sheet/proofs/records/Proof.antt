@@ -25,20 +25,24 @@ abbrev μ-loop : tie.MeasureT-loop
 loop-holds : tie.Need-loop-holds Inv-loop μ-loop
 loop-holds c =
     let w = c .before .args .across in
-    let l = c .before .pre .0 in
-    (record {
-      across = l;
-      policies = omega arith;
-      stops = omega arith;
-      lines = omega arith;
-      cars = omega arith;
-      aboards = omega arith;
-      waits = omega arith;
-      demands = omega arith;
-      closures = omega arith;
-      stop-bits = omega (arith, mul-zero (118 + w));
-      car-bits = omega (arith, mul-zero (737 + w));
-    }, search needs, search needs, refl)
+    let l = c .before .pre .0 in (
+      record {
+        across = l;
+        policies = omega arith;
+        stops = omega arith;
+        lines = omega arith;
+        cars = omega arith;
+        aboards = omega arith;
+        waits = omega arith;
+        demands = omega arith;
+        closures = omega arith;
+        stop-bits = omega (arith, mul-zero (118 + w));
+        car-bits = omega (arith, mul-zero (737 + w));
+      },
+      search needs,
+      search needs,
+      refl,
+    )
 
 returns : tie.Need-returns Inv-loop μ-loop
 returns c =
