@@ -124,6 +124,7 @@ module _ (s t : List ℕ) (c : Counts) (r : SameRecords s t c) (level : Level (s
       }
 
   pub same-pass : (x : Lent) → written (sheetOf s c) (limitOf s) x ≡ written (sheetOf t d) (limitOf t) x
+  unfolding sheetOf
   same-pass x =
       same-written (sheetOf s c) (sheetOf t d .stop) (sheetOf t d .line) (sheetOf t d .car) (sheetOf t d .aboard) (sheetOf t d .waiting)
       (sheetOf t d .demand) (sheetOf t d .closed) twin-alike
@@ -141,11 +142,11 @@ twin-pass s decisions cells sweeps c e two level =
     let b = refusal1 (length decisions) (length cells) (length sweeps) in
     let v : verdict s ≡ Accepted c = past-one b e in
     let w : verdict (twin s) ≡ Accepted (under 0 c) = twin-accepted s c v two in
-    let f : outcomeOf y ≡ Accepted (under 0 c) = past-both b e w in
+    let f : outcomeOf y ≡ Accepted (under 0 c) = past-both b (verdict s) e w in
     ap (λ (z : Reading). doneOf z x) e
     ∙ same-pass s (twin s) c (twin-records s c v two) level x
     ∙ sym (ap (λ (z : Reading). doneOf z y) f)
   where
-    past-both : (b : Bool) {v w : Reading} {c d : Counts} → cond b (Refused 1 0) v ≡ Accepted c → w ≡ Accepted d → cond b (Refused 1 0) w ≡ Accepted d
-    past-both true h k = absurd (refused≢accepted h)
-    past-both false h k = k
+    past-both : (b : Bool) (v : Reading) {w : Reading} {c d : Counts} → cond b (Refused 1 0) v ≡ Accepted c → w ≡ Accepted d → cond b (Refused 1 0) w ≡ Accepted d
+    past-both true v h k = absurd (refused≢accepted h)
+    past-both false v h k = k
