@@ -1,18 +1,17 @@
--- Two accepted byte lists that agree but in bars hold sheets that are alike but in bars; without a candidate limit the total of the second is no lower.
--- One more bar changes one cell, to the sentinel. Assumes nothing.
-use Prim.Native.Nat.{ℕ, zero, suc, _+_, _*_, _≤_, _<_}
+-- Two accepted byte lists that agree but in bars hold sheets that are alike but in bars; without a candidate limit the total of the second is no
+-- lower. One more bar changes one cell, to the sentinel. Assumes nothing.
+use Prim.Native.Nat.{ℕ, suc, _+_, _-_, _/_, _%_, _^_, _≤_, _<_}
 use mathlib.Core.Path.{_≡_, refl, sym, ap, ap₂, _∙_, subst}
 use mathlib.Core.Bool.{true}
 use mathlib.Core.List.{List}
 use mathlib.Core.Logic.{_⊎_, _≢_}
 use native.Mathlib.Omega.{arith}
 use lib.Dec.{eqb}
+use lib.Arith.{digits-div, digits-mod}
 use borrow.Author.Tests.{eqb-true, eq-eqb}
-use Rattle.laws.specs.Bools.{bit}
 use Rattle.scale.specs.Scale.{sentinel}
-use Rattle.bits.specs.Field.{bitAt, fieldAt}
-use Rattle.mask.specs.Mask.{has, built}
-use Rattle.mask.specs.MaskLaws.{has-built}
+use Rattle.bits.specs.Field.{bitAt, fieldAt, field-lt, field-split}
+use Rattle.mask.specs.Mask.{has}
 use Rattle.components.specs.Sheet.{Sheet}
 use Rattle.components.specs.declared.Stop.{Stop}
 use Rattle.components.specs.Points.{distance}
@@ -20,8 +19,8 @@ use Rattle.components.specs.declared.Kind.the-variants as kind
 use Rattle.layout.specs.declared.Counts.{Counts}
 use Rattle.layout.specs.declared.Reading.the-variants.{Accepted}
 use Rattle.layout.specs.Table.{past, policy·limit, car·restricted, car·calls, closed·stop}
-use Rattle.layout.specs.Offsets.{headLength, stopStart, lineStart, carStart, aboardStart, waitingStart, demandStart, closedStart, carsFrom, aboardsFrom}
-use Rattle.layout.specs.Offsets.{recordLength}
+use Rattle.layout.specs.Offsets.{headLength, stopStart, lineStart, carStart, aboardStart, waitingStart, demandStart, closedStart}
+use Rattle.layout.specs.Offsets.{carsFrom, aboardsFrom, recordLength}
 use Rattle.layout.specs.Records.{from, read, stopOf, lineOf, carOf, aboardOf, waitingOf, demandOf, sheetOf, limitOf}
 use Rattle.layout.specs.Verdict.{verdict}
 use Rattle.accepted.specs.Accepted.{accepted}
@@ -36,18 +35,15 @@ use Rattle.bars.specs.SameRecords.{SameFields, policy-same, stop-same, l
 
 -- ---- the bits of a mask
 
-bit-is : (n : ℕ) → n < 2 → bit (eqb n 1) ≡ n
-bit-is zero l = refl
-bit-is (suc zero) l = refl
-bit-is (suc (suc n)) l = absurd (omega arith)
-
-field-built : (s : List ℕ) (at w : ℕ) → fieldAt s at w ≡ built (λ j. eqb (bitAt s (at + j)) 1) w
-unfolding fieldAt built bitAt
-field-built s at zero = refl
-field-built s at (suc w) = ap₂ (λ (x y : ℕ). x * 2 + y) (field-built s at w) (sym (bit-is (bitAt s (at + w)) (omega arith)))
-
 has-bit : (s : List ℕ) (at j : ℕ) → j < 64 → has (fieldAt s at 64) j ≡ eqb (bitAt s (at + j)) 1
-has-bit s at j l = ap (λ (m : ℕ). has m j) (field-built s at 64) ∙ has-built (λ k. eqb (bitAt s (at + k)) 1) j l
+unfolding has fieldAt bitAt
+has-bit s at j l =
+    let w : suc j + (63 - j) ≡ 64 = omega arith in
+    let b : bitAt s (at + j) < 2 = omega arith in
+    let e : fieldAt s at 64 / 2 ^ (63 - j) ≡ fieldAt s at (suc j) =
+    ap (λ (n : ℕ). fieldAt s at n / 2 ^ (63 - j)) (sym w) ∙ ap (λ (n : ℕ). n / 2 ^ (63 - j)) (field-split s at (suc j) (63 - j))
+    ∙ digits-div (fieldAt s at (suc j)) (field-lt s (at + suc j) (63 - j)) in
+    ap (λ (n : ℕ). eqb (n % 2) 1) e ∙ ap (λ (n : ℕ). eqb n 1) (digits-mod (fieldAt s at j) b)
 
 -- stop k is barred to car i
 bar : (c : Counts) (s : List ℕ) (i k : ℕ) → k < 64 → has (sheetOf s c .car i .restricted) k ≡ eqb (bitAt s (barBit c i k)) 1
@@ -66,7 +62,8 @@ module _ (first second : List ℕ) (c : Counts) (agree : AgreeButBars first seco
   front : (i : ℕ) → i < c .cars → SameFields (past (c .across) car·restricted .start) (from first (carStart c i)) (from second (carStart c i))
   front i l o w m = field-same first second c agree (carStart c i + o) w (clear-front c i o w l m)
 
-  calls : (i : ℕ) → i < c .cars → read (from first (carStart c i)) (past (c .across) car·calls) ≡ read (from second (carStart c i)) (past (c .across) car·calls)
+  calls : (i : ℕ) → i < c .cars
+      → read (from first (carStart c i)) (past (c .across) car·calls) ≡ read (from second (carStart c i)) (past (c .across) car·calls)
   calls i l =
       field-same first second c agree (carStart c i + past (c .across) car·calls .start) 64
       (clear-calls c i (past (c .across) car·calls .start) 64 l (omega arith) (omega arith))
@@ -83,9 +80,9 @@ module _ (first second : List ℕ) (c : Counts) (agree : AgreeButBars first seco
 
   -- ---- the sheets are alike but in bars
 
-  -- the first sheet with the second one's records
-  abbrev twin : Sheet
-  twin = let t = sheetOf second c in other (sheetOf first c) (t .stop) (t .line) (t .car) (t .aboard) (t .waiting) (t .demand) (t .closed)
+  -- the first sheet with the records of the second
+  abbrev withBars : Sheet
+  withBars = let t = sheetOf second c in other (sheetOf first c) (t .stop) (t .line) (t .car) (t .aboard) (t .waiting) (t .demand) (t .closed)
 
   alike : let t = sheetOf second c in
       Alike (sheetOf first c) (t .stop) (t .line) (t .car) (t .aboard) (t .waiting) (t .demand) (t .closed)
@@ -93,20 +90,27 @@ module _ (first second : List ℕ) (c : Counts) (agree : AgreeButBars first seco
   alike =
       record {
         a-stop = λ j l. let e = a-stop j l in record { id = ap (λ (x : Stop). x .id) e; along = ap (λ (x : Stop). x .position .along) e };
-        a-line = λ j l. line-same (from first (lineStart c j)) (from second (lineStart c j)) (before (lineStart c j) 118 (omega arith));
+        a-line = λ j l.
+            line-same (from first (lineStart c j)) (from second (lineStart c j)) (before (lineStart c j) (recordLength 0 kind.Line) (omega arith));
         a-car = λ i l. car-like (from first (carStart c i)) (from second (carStart c i)) (c .across) (front i l) (calls i l);
-        a-rider = λ a l. aboard-same (from first (aboardStart c a)) (from second (aboardStart c a)) (after (aboardStart c a) 87 (omega arith));
-        a-waiter = λ w l. waiting-same (from first (waitingStart c w)) (from second (waitingStart c w)) (after (waitingStart c w) 248 (omega arith));
-        a-demand = λ d l. demand-same (from first (demandStart c d)) (from second (demandStart c d)) (after (demandStart c d) 71 (omega arith));
-        a-closure = λ x l. after (closedStart c x) 54 (omega arith) (closed·stop .start) (closed·stop .width) (omega arith);
+        a-rider = λ a l.
+            aboard-same (from first (aboardStart c a)) (from second (aboardStart c a))
+            (after (aboardStart c a) (recordLength 0 kind.Aboard) (omega arith));
+        a-waiter = λ w l.
+            waiting-same (from first (waitingStart c w)) (from second (waitingStart c w))
+            (after (waitingStart c w) (recordLength 0 kind.Waiting) (omega arith));
+        a-demand = λ d l.
+            demand-same (from first (demandStart c d)) (from second (demandStart c d))
+            (after (demandStart c d) (recordLength 0 kind.Demand) (omega arith));
+        a-closure = λ x l. after (closedStart c x) (recordLength 0 kind.Closed) (omega arith) (closed·stop .start) (closed·stop .width) (omega arith);
         away = λ i j li lj. ap₂ distance (place i li) (ap (λ (x : Stop). x .position) (a-stop j lj));
         apart = λ j k lj lk. ap₂ distance (ap (λ (x : Stop). x .position) (a-stop j lj)) (ap (λ (x : Stop). x .position) (a-stop k lk));
       }
 
-  other-sheet : c .policies ≡ 1 → twin ≡ sheetOf second c
+  other-sheet : c .policies ≡ 1 → withBars ≡ sheetOf second c
   unfolding sheetOf
   other-sheet one =
-      let e = policy-same (from first headLength) (from second headLength) (before headLength 490 (omega arith)) in
+      let e = policy-same (from first headLength) (from second headLength) (before headLength (recordLength 0 kind.Policy) (omega arith)) in
       λ i. record {
         policy = e i;
         stops = c .stops;
@@ -127,7 +131,7 @@ module _ (first second : List ℕ) (c : Counts) (agree : AgreeButBars first seco
 
   pub limit-same : c .policies ≡ 1 → limitOf first ≡ limitOf second
   unfolding limitOf
-  limit-same one = before headLength 490 (omega arith) (policy·limit .start) (policy·limit .width) (omega arith)
+  limit-same one = before headLength (recordLength 0 kind.Policy) (omega arith) (policy·limit .start) (policy·limit .width) (omega arith)
 
   -- ---- the bars
 
@@ -138,7 +142,7 @@ module _ (first second : List ℕ) (c : Counts) (agree : AgreeButBars first seco
 
   -- ---- without a candidate limit
 
-  grown : c .stops ≤ 64 → answeredTotal (sheetOf first c) noLimit ≤ answeredTotal twin noLimit
+  grown : c .stops ≤ 64 → answeredTotal (sheetOf first c) noLimit ≤ answeredTotal withBars noLimit
   unfolding sheetOf
   grown l =
       let t = sheetOf second c in
@@ -149,13 +153,14 @@ module _ (first second : List ℕ) (c : Counts) (agree : AgreeButBars first seco
       → answeredTotal (sheetOf first c) noLimit ≤ answeredTotal (sheetOf second d) noLimit
   total-grows d p q =
       let a = accepted first c p in
-      subst (λ (e : Counts). answeredTotal (sheetOf first c) noLimit ≤ answeredTotal (sheetOf second e) noLimit) (counts-same first second c agree d p q)
+      subst (λ (e : Counts). answeredTotal (sheetOf first c) noLimit ≤ answeredTotal (sheetOf second e) noLimit)
+      (counts-same first second c agree d p q)
       (subst (λ (t : Sheet). answeredTotal (sheetOf first c) noLimit ≤ answeredTotal t noLimit) (other-sheet (a .one-policy))
       (grown (a .small .stops)))
 
   -- a cell whose own bar is the same
   unbarred : (a b : ℕ) → a < c .cars → b < c .stops → b < 64 → bitAt first (barBit c a b) ≡ bitAt second (barBit c a b)
-      → cell (sheetOf first c) noLimit a b ≡ cell twin noLimit a b
+      → cell (sheetOf first c) noLimit a b ≡ cell withBars noLimit a b
   unfolding sheetOf
   unbarred a b la lb l e =
       let t = sheetOf second c in
@@ -175,7 +180,8 @@ module _ (first second : List ℕ) (c : Counts) (agree : AgreeButBars first seco
 -- ---- one more bar
 
 -- "without a limit one more bar changes one cell, to the sentinel"
-module _ (first second : List ℕ) (c d : Counts) (i k : ℕ) (one : OneBar first second c i k) (p : verdict first ≡ Accepted c) (q : verdict second ≡ Accepted d) where
+module _ (first second : List ℕ) (c d : Counts) (i k : ℕ) (one : OneBar first second c i k)
+    (p : verdict first ≡ Accepted c) (q : verdict second ≡ Accepted d) where
   agree : AgreeButBars first second c
   agree = one-agrees first second c i k one
 
@@ -184,7 +190,8 @@ module _ (first second : List ℕ) (c d : Counts) (i k : ℕ) (one : OneBar firs
       subst (λ (x : Counts). cell (sheetOf second x) noLimit i k ≡ sentinel) (counts-same first second c agree d p q)
       (bars.cell-barred (sheetOf second c) noLimit i k (bar c second i k (one .a-stop) ∙ eq-eqb (bitAt second (barBit c i k)) 1 (one .set)))
 
-  pub others-same : (a b : ℕ) → a < c .cars → b < c .stops → (a ≢ i) ⊎ (b ≢ k) → cell (sheetOf first c) noLimit a b ≡ cell (sheetOf second d) noLimit a b
+  pub others-same : (a b : ℕ) → a < c .cars → b < c .stops → (a ≢ i) ⊎ (b ≢ k)
+      → cell (sheetOf first c) noLimit a b ≡ cell (sheetOf second d) noLimit a b
   others-same a b la lb e =
       let few = accepted first c p .small .stops in
       cell-same first second c agree d p q a b la lb (one .elsewhere (barBit c a b) (bars-apart c a b i k (omega arith) (one .a-stop) e))

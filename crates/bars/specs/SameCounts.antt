@@ -183,7 +183,8 @@ module _ (first second : List ℕ) (c : Counts) (agree : AgreeButBars first seco
   counts-from : (n : ℕ) (e d : Counts) → recordsVerdict first n e ≡ Accepted c → recordsVerdict second n e ≡ Accepted d → c ≡ d
   counts-from zero e d p q = sym (at-end first e c p) ∙ at-end second e d q
   counts-from (suc n) e d p q =
-      let same : kindAt first e ≡ kindAt second e = field-same first second c agree (endOf e + 0) 6 (clear-kind e c (prefix-of first (suc n) e c p)) in
+      let clear = clear-kind e c (prefix-of first (suc n) e c p) in
+      let same : kindAt first e ≡ kindAt second e = field-same first second c agree (endOf e + 0) 6 clear in
       counts-from n (next e (kindOf (kindAt first e))) d (on first n e c p .1)
       (subst (λ k. recordsVerdict second n (next e (kindOf k)) ≡ Accepted d) (sym same) (on second n e d q .1))
 

@@ -10,7 +10,8 @@ use Rattle.components.specs.declared.Kind.the-variants.{Policy, Stop, Line, Abo
 use Rattle.components.specs.Codes.{phaseOf, directionOf, modeOf}
 use Rattle.layout.specs.Offsets.{recordLength}
 use Rattle.layout.specs.Records.{Fields, read, flag, policyOf, stopOf, lineOf, carOf, aboardOf, waitingOf, demandOf}
-use Rattle.layout.specs.Table.{Field, past, stop·across, car·across, policy·strategy, policy·rate, policy·traffic, policy·w0, policy·w1, policy·w2, policy·w3}
+use Rattle.layout.specs.Table.{Field, past, stop·across, car·across}
+use Rattle.layout.specs.Table.{policy·strategy, policy·rate, policy·traffic, policy·w0, policy·w1, policy·w2, policy·w3}
 use Rattle.layout.specs.Table.{policy·w4, policy·w5, stop·id, stop·position, line·id, line·serves, car·id, car·line, car·phase, car·stop}
 use Rattle.layout.specs.Table.{car·target, car·listed, car·up, car·down, car·sweep, car·mode, car·position, car·speed, car·capacity, car·load}
 use Rattle.layout.specs.Table.{car·hasBypassUp, car·bypassUp, car·hasBypassDown, car·bypassDown, car·transition, car·dwell, car·restricted}
@@ -78,42 +79,42 @@ module _ (f g : Fields) where
 
   -- a car, but for its restricted mask
   module _ (w : ℕ) (front : SameFields (past w car·restricted .start) f g) (calls : read f (past w car·calls) ≡ read g (past w car·calls)) where
-    number : (x : Field) → x .start + x .width ≤ past w car·restricted .start → read f x ≡ read g x
-    number x l = front (x .start) (x .width) l
+    read-same : (x : Field) → x .start + x .width ≤ past w car·restricted .start → read f x ≡ read g x
+    read-same x l = front (x .start) (x .width) l
 
-    bit : (x : Field) → x .start + x .width ≤ past w car·restricted .start → flag f x ≡ flag g x
-    bit x l = ap (λ (n : ℕ). eqb n 1) (number x l)
+    flag-same : (x : Field) → x .start + x .width ≤ past w car·restricted .start → flag f x ≡ flag g x
+    flag-same x l = ap (λ (n : ℕ). eqb n 1) (read-same x l)
 
     threshold-same : (p x : Field) → p .start + p .width ≤ past w car·restricted .start → x .start + x .width ≤ past w car·restricted .start
         → cond (flag f p) (threshold.At (ofBits binary64 (read f x))) threshold.Absent
         ≡ cond (flag g p) (threshold.At (ofBits binary64 (read g x))) threshold.Absent
     threshold-same p x l m =
-        ap₂ (λ (b : Bool) (n : ℕ). cond b (threshold.At (ofBits binary64 n)) threshold.Absent) (bit p l) (number x m)
+        ap₂ (λ (b : Bool) (n : ℕ). cond b (threshold.At (ofBits binary64 n)) threshold.Absent) (flag-same p l) (read-same x m)
 
     pub place-same : carOf w f .position ≡ carOf w g .position
     unfolding carOf
-    place-same = cc (number car·position (omega arith), number (car·across w) (omega arith))
+    place-same = cc (read-same car·position (omega arith), read-same (car·across w) (omega arith))
 
     pub car-like : LikeCar (carOf w f) (carOf w g)
     unfolding carOf
     car-like =
         record {
-          id = number car·id (omega arith);
-          line = number car·line (omega arith);
-          phase = ap₂ phaseOf (number car·phase (omega arith)) (number car·stop (omega arith));
-          target = number car·target (omega arith);
-          listed = bit car·listed (omega arith);
-          up = bit car·up (omega arith);
-          down = bit car·down (omega arith);
-          direction = ap directionOf (bit car·sweep (omega arith));
-          mode = ap modeOf (bit car·mode (omega arith));
-          along = ap (ofBits binary64) (number car·position (omega arith));
-          speed = ap (ofBits binary64) (number (past w car·speed) (omega arith));
-          capacity = ap (ofBits binary64) (number (past w car·capacity) (omega arith));
-          load = ap (ofBits binary64) (number (past w car·load) (omega arith));
+          id = read-same car·id (omega arith);
+          line = read-same car·line (omega arith);
+          phase = ap₂ phaseOf (read-same car·phase (omega arith)) (read-same car·stop (omega arith));
+          target = read-same car·target (omega arith);
+          listed = flag-same car·listed (omega arith);
+          up = flag-same car·up (omega arith);
+          down = flag-same car·down (omega arith);
+          direction = ap directionOf (flag-same car·sweep (omega arith));
+          mode = ap modeOf (flag-same car·mode (omega arith));
+          along = ap (ofBits binary64) (read-same car·position (omega arith));
+          speed = ap (ofBits binary64) (read-same (past w car·speed) (omega arith));
+          capacity = ap (ofBits binary64) (read-same (past w car·capacity) (omega arith));
+          load = ap (ofBits binary64) (read-same (past w car·load) (omega arith));
           bypassup = threshold-same (past w car·hasBypassUp) (past w car·bypassUp) (omega arith) (omega arith);
           bypassdown = threshold-same (past w car·hasBypassDown) (past w car·bypassDown) (omega arith) (omega arith);
-          transition = number (past w car·transition) (omega arith);
-          dwell = number (past w car·dwell) (omega arith);
+          transition = read-same (past w car·transition) (omega arith);
+          dwell = read-same (past w car·dwell) (omega arith);
           calls = calls;
         }

@@ -1,5 +1,5 @@
--- Document 02, request F-14: "With a limit the bar may let a farther stop into the row, so a worked case in the manual shows the total falling." A sheet
--- under RSR before stop 1 is barred to car 7 and after it, with a candidate limit of 1 and with none. Assumes nothing.
+-- Document 02, request F-14: "With a limit the bar may let a farther stop into the row, so a worked case in the manual shows the total falling." A
+-- sheet under RSR before stop 1 is barred to car 7 and after it, with a candidate limit of 1 and with none. Assumes nothing.
 --   limited     with the limit of 1 the total falls
 --   unlimited   without a limit it rises
 --   pair        the two sheets without a limit are such as the claim NeverCheaper is about, in any buffers that are long enough
