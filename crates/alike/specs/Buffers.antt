@@ -1,13 +1,12 @@
 -- Alike sheets with the same bars have the same choice, and leave the same in every buffer. Assumes nothing.
 use Prim.Native.Nat.{ℕ, _*_, _≤_, _<_}
-use native.Mathlib.Omega.{arith}
-use mathlib.Core.Path.{_≡_, refl, sym, ap, ap₂, _∙_}
-use mathlib.Core.Bool.{Bool, true, false, _&&_, cond}
+use mathlib.Core.Path.{_≡_, ap, ap₂, _∙_}
+use mathlib.Core.Bool.{_&&_, cond}
 use mathlib.Core.List.{List, _++_}
 use mathlib.Core.Logic.{⊎-elim}
 use lib.Dec.{ltb}
 use lib.ListN.{getD, drop}
-use borrow.Author.Tests.{lt-ltb, le-ltb}
+use borrow.Author.Tests.{le-ltb}
 use Rattle.laws.specs.Bools.{less?}
 use Rattle.laws.specs.Tables.{tab, tabs, tab-cong, tabs-cong}
 use Rattle.scale.specs.Scale.{sentinel}
@@ -19,11 +18,10 @@ use Rattle.components.specs.declared.Waiting.{Waiting}
 use Rattle.components.specs.declared.Demand.{Demand}
 use Rattle.components.specs.Sheet.{Sheet}
 use Rattle.manifest.specs.World.{stopId}
-use Rattle.sweep.specs.declared.Sweep.{Sweep}
 use Rattle.sweep.specs.Sweeps.{sweepCode}
-use Rattle.assignment_problem.specs.Recursion.{chosen, columnOf, leastTotal}
+use Rattle.assignment_problem.specs.Recursion.{chosen, leastTotal}
 use Rattle.assignment_problem.specs.Chosen.{chosen-same}
-use Rattle.assignment.specs.Pending.{idleCars, rowCar, pendingStops, columnStop, columns}
+use Rattle.assignment.specs.Pending.{idleCars, pendingStops, columnStop, columns}
 use Rattle.assignment.specs.Cells.{sweepAfter, matrix, column, answeredTotal, goes, decision}
 use Rattle.assignment.specs.CellLaws.{rows-fit}
 use Rattle.outcome.specs.Outcome.{decisionsOf, cellsOf, sweepsOf}

@@ -1,15 +1,14 @@
 -- Alike sheets have the same ranks: no cost knows a second coordinate but by a distance, nor what is barred. Assumes nothing.
 use Prim.Native.Nat.{ℕ, zero, suc, _<_}
 use native.Mathlib.Omega.{arith}
-use mathlib.Core.Path.{_≡_, refl, sym, ap, ap₂, _∙_}
+use mathlib.Core.Path.{_≡_, refl, ap, ap₂}
 use mathlib.Core.Bool.{Bool, true, false, not, _&&_, _||_, cond}
 use mathlib.Core.Logic.{_⊎_, inl, inr, ⊎-elim}
-use lib.Dec.{eqb, ltb}
-use lib.Ieee.{Float, lt, le, neg}
-use Rattle.laws.specs.Folds.{fold, any, count, lookup, fold-cong, any-cong, count-cong}
+use lib.Dec.{eqb}
+use lib.Ieee.{Float, lt}
+use Rattle.laws.specs.Folds.{lookup, fold-cong, any-cong, count-cong}
 use Rattle.fp.specs.Num as Num
-use Rattle.fp.specs.Num.{plus, times, half, over}
-use Rattle.mask.specs.Mask.{has}
+use Rattle.fp.specs.Num.{plus, over}
 use Rattle.components.specs.declared.Point.{Point}
 use Rattle.components.specs.declared.Stop.{Stop}
 use Rattle.components.specs.declared.Line.{Line}
@@ -23,22 +22,18 @@ use Rattle.components.specs.declared.Threshold.{Threshold}
 use Rattle.components.specs.declared.Threshold.the-variants as threshold
 use Rattle.components.specs.declared.Place.{Place}
 use Rattle.components.specs.declared.Place.the-variants.{At, Nowhere}
-use Rattle.components.specs.declared.Rank.{Rank}
-use Rattle.components.specs.declared.Rank.the-variants.{Cost, Never}
-use Rattle.components.specs.Cars.{remaining}
 use Rattle.components.specs.Points.{distance}
 use Rattle.components.specs.Sheet.{Sheet}
 use Rattle.manifest.specs.World.{stopId, stopAt, stopPosition, goal, goalOf, rides}
-use Rattle.manifest.specs.Manifest.{waitsAt, someoneWaits, riderlessCall, demandStop}
+use Rattle.manifest.specs.Manifest.{waitsAt, demandStop}
 use Rattle.sweep.specs.declared.Sweep.{Sweep}
-use Rattle.sweep.specs.Sweeps.{sweepOf, strictlyAhead, prepared, accepts, sweepRank}
+use Rattle.sweep.specs.Sweeps.{sweepOf, strictlyAhead, sweepRank}
 use Rattle.scan.specs.Scan.{rankOf, strictDemandAhead, preparedSweep, scanRank}
 use Rattle.dispatch.specs.Useful.{loadedTo, bypass, lampsAllow, riderCanBoard, onPath, onPathTo, canExitHere, servable, onAboardPath, pairIsUseful}
 use Rattle.dispatch.specs.Waits.{waitTicks, waitTicksSquared, sumAt, waitTicksSum, waitTicksSquaredSum}
 use Rattle.etd.specs.Etd.{intervenes, extraDelay, addDelay, isAhead, movingBonus, directionBonus, travelTime, interveningStops, riderDelay, computeCost, etdRank}
 use Rattle.rsr.specs.Rsr.{wrongDirection, rsrCostOf, rsrRank}
-use Rattle.assignment.specs.Pending.{idle, pendingStops}
-use Rattle.assignment.specs.Cells.{byStrategy, sweepAfter, rank}
+use Rattle.assignment.specs.Cells.{sweepAfter, rank}
 use Rattle.alike.specs.Alike.{Alike, LikeCar, other}
 use Rattle.alike.specs.Stops.{same-room, same-waits, same-someone, same-call, same-demand, same-idle, same-stops}
 

@@ -1,15 +1,13 @@
 -- Alike sheets with the same bars have the same matrix, the same held cells and as many ranked pairs. Assumes nothing.
 use Prim.Native.Nat.{ℕ, min, _<_, _≤_}
-use native.Mathlib.Omega.{arith}
-use mathlib.Core.Path.{_≡_, refl, sym, ap, ap₂, _∙_}
-use mathlib.Core.Bool.{Bool, true, false, not, _&&_, _||_, cond}
+use mathlib.Core.Path.{_≡_, ap, _∙_}
+use mathlib.Core.Bool.{Bool, not, _&&_}
 use mathlib.Core.Logic.{⊎-elim}
-use lib.Dec.{eqb, ltb}
+use lib.Dec.{eqb}
 use borrow.Author.Tests.{lt-ltb, le-ltb}
 use Rattle.laws.specs.Bools.{less?}
-use Rattle.laws.specs.Folds.{any, count, nth, any-cong, count-cong, nth-is}
+use Rattle.laws.specs.Folds.{count, any-cong, count-cong, nth-is}
 use Rattle.laws.specs.Sums.{sum, sum-cong}
-use Rattle.scale.specs.Scale.{sentinel}
 use Rattle.mask.specs.Mask.{has}
 use Rattle.components.specs.declared.Stop.{Stop}
 use Rattle.components.specs.declared.Line.{Line}
@@ -20,10 +18,10 @@ use Rattle.components.specs.declared.Demand.{Demand}
 use Rattle.components.specs.Sheet.{Sheet}
 use Rattle.manifest.specs.World.{stopId}
 use Rattle.assignment.specs.Pending.{pending, idle, idleCars, rowCar, pendingStops, columnStop, columns}
-use Rattle.assignment.specs.Candidates.{keeps, precedes, lineServesOf, viableOf, nearerOf, keptOf, viable, viableStops, kept, away}
-use Rattle.assignment.specs.Cells.{rankCell, rankHeld, rank, cell, matrix, heldCell, heldAt, heldInRow, heldCells, rankedPairs}
+use Rattle.assignment.specs.Candidates.{precedes, lineServesOf, viableOf, nearerOf, keptOf, viable, viableStops, kept, away}
+use Rattle.assignment.specs.Cells.{cell, matrix, heldCell, heldAt, heldInRow, heldCells, rankedPairs}
 use Rattle.alike.specs.Alike.{Alike, other}
-use Rattle.alike.specs.Stops.{same-pending, same-idle, same-cars, same-row, same-stops, same-column, same-columns}
+use Rattle.alike.specs.Stops.{same-pending, same-cars, same-row, same-stops, same-column, same-columns}
 use Rattle.alike.specs.Costs.{same-rank}
 
 three : {a b c x y z : Bool} → a ≡ x → b ≡ y → c ≡ z → (a && (not b && c)) ≡ (x && (not y && z))

@@ -1,10 +1,10 @@
 -- Alike sheets have the same demand, the same covered stops and the same pending ones. Assumes nothing.
 use Prim.Native.Nat.{ℕ, _<_}
-use mathlib.Core.Path.{_≡_, refl, sym, ap, ap₂, _∙_}
+use mathlib.Core.Path.{_≡_, ap, ap₂}
 use mathlib.Core.Bool.{Bool, not, _&&_, _||_, cond}
 use lib.Dec.{eqb, ltb}
-use lib.Ieee.{Float, le}
-use Rattle.laws.specs.Folds.{fold, any, every, count, nth, fold-cong, any-cong, every-cong, count-cong, nth-cong}
+use lib.Ieee.{Float}
+use Rattle.laws.specs.Folds.{any, fold-cong, any-cong, every-cong, count-cong, nth-cong}
 use Rattle.fp.specs.Num.{zero, plus}
 use Rattle.mask.specs.Mask.{has}
 use Rattle.components.specs.declared.Stop.{Stop}
@@ -13,7 +13,7 @@ use Rattle.components.specs.declared.Car.{Car}
 use Rattle.components.specs.declared.Aboard.{Aboard}
 use Rattle.components.specs.declared.Waiting.{Waiting}
 use Rattle.components.specs.declared.Demand.{Demand}
-use Rattle.components.specs.Cars.{servicing, remaining}
+use Rattle.components.specs.Cars.{remaining}
 use Rattle.components.specs.Sheet.{Sheet}
 use Rattle.manifest.specs.World.{stopId, inGroup}
 use Rattle.manifest.specs.Manifest.{waitsAt, someoneWaits, riderlessCall, riddenTo, hasDemand, demandStop}

@@ -1,9 +1,9 @@
 -- In edition 1 a distance is how far apart the two positions are, bit for bit: second coordinates of zero add nothing. Assumes nothing.
-use Prim.Native.Nat.{ℕ, zero, suc, _+_, _*_, _^_, _≤_, _<_}
-use native.Mathlib.Nat.{mul-comm, mul-right-comm, mul-one, zero-mul, mul-le-mul-right, le-of-mul-le-mul-right, le-trans, le-of-eq, le-refl, lt-of-le-of-lt}
+use Prim.Native.Nat.{ℕ, zero, suc, _*_, _^_, _≤_, _<_}
+use native.Mathlib.Nat.{mul-right-comm, mul-one, zero-mul, mul-le-mul-right, le-of-mul-le-mul-right, le-trans, le-of-eq, le-refl, lt-of-le-of-lt}
 use native.Mathlib.Omega.{arith}
-use mathlib.Core.Path.{_≡_, refl, sym, ap, ap₂, _∙_, subst}
-use mathlib.Core.Bool.{Bool, true, false}
+use mathlib.Core.Path.{_≡_, refl, sym, ap, ap₂, _∙_}
+use mathlib.Core.Bool.{true, false}
 use mathlib.Core.List.{List}
 use mathlib.Core.Logic.{⊎-elim}
 use lib.Dec.{T, lit<}
@@ -17,8 +17,7 @@ use lib.Ieee.Fits.{down-pos, sub-fits, round-fits}
 use lib.Ieee.Order.{le-of-values}
 use lib.Ieee.Scale.{round-same}
 use Rattle.fp.specs.Num as Num
-use Rattle.fp.specs.Num.{abs, plus, minus, finite, apart}
-use Rattle.fp.specs.Ranges.{isPosition}
+use Rattle.fp.specs.Num.{abs, plus, minus, apart}
 use Rattle.fp.specs.Inside.{AtMost}
 use Rattle.fp.specs.Order.{eq-same, le-antisym}
 use Rattle.fp.specs.Sizes.{apart-size, position-power}

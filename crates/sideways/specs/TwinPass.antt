@@ -1,14 +1,12 @@
 -- Document 02, F-12: "With all second coordinates zero, an accepted edition 2 sheet answers as its edition 1 twin". Assumes nothing.
 use Prim.Native.Nat.{ℕ, _<_}
-use mathlib.Core.Path.{_≡_, refl, sym, ap, ap₂, _∙_, subst}
+use mathlib.Core.Path.{_≡_, sym, ap, ap₂, _∙_}
 use mathlib.Core.Bool.{Bool, true, false, cond}
 use mathlib.Core.List.{List}
 use lib.ListN.{length}
 use Rattle.fp.specs.Num as Num
 use Rattle.fp.specs.Num.{plus, apart}
-use lib.Ieee.{Float, eq, ofBits}
 use Rattle.components.specs.declared.Point.{Point}
-use Rattle.components.specs.declared.Policy.{Policy}
 use Rattle.components.specs.declared.Stop.{Stop}
 use Rattle.components.specs.declared.Car.{Car}
 use Rattle.components.specs.Points.{distance}
@@ -17,15 +15,15 @@ use Rattle.layout.specs.declared.Counts.{Counts}
 use Rattle.layout.specs.declared.Reading.{Reading}
 use Rattle.layout.specs.declared.Reading.the-variants.{Accepted, Refused}
 use Rattle.layout.specs.Table.{closed·stop}
-use Rattle.layout.specs.Offsets.{headLength, stopStart, lineStart, carStart, aboardStart, waitingStart, demandStart, closedStart}
-use Rattle.layout.specs.Records.{from, read, policyOf, stopOf, lineOf, carOf, aboardOf, waitingOf, demandOf, sheetOf, limitOf}
+use Rattle.layout.specs.Offsets.{stopStart, lineStart, carStart, aboardStart, waitingStart, demandStart, closedStart}
+use Rattle.layout.specs.Records.{from, read, stopOf, lineOf, carOf, aboardOf, waitingOf, demandOf, sheetOf, limitOf}
 use Rattle.layout.specs.Refusals.{edition}
 use Rattle.layout.specs.Verdict.{verdict}
 use Rattle.layout.specs.Readings.{refused≢accepted}
 use Rattle.outcome.specs.Outcome.{refusal1, outcome}
 use Rattle.alike.specs.Alike.{Alike, LikeStop, LikeCar, other}
 use Rattle.alike.specs.Zeros.{isZero, apart-zeros}
-use Rattle.bench.specs.Done.{Lent, Done, lent, outcomeOf, written, doneOf, passOf, past-one}
+use Rattle.bench.specs.Done.{Lent, lent, outcomeOf, written, doneOf, passOf, past-one}
 use Rattle.twins.specs.Twin.{twin, under, flat, flatStop, flatCar, SameRecords}
 use Rattle.twins.specs.Twins.{twin-accepted, twin-records}
 use Rattle.sideways.specs.Written.{same-written}

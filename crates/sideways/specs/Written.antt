@@ -1,6 +1,6 @@
 -- Alike sheets with the same bars: a pass answers and leaves the same. Assumes nothing.
 use Prim.Native.Nat.{ℕ, _<_}
-use mathlib.Core.Path.{_≡_, ap, _∙_}
+use mathlib.Core.Path.{_≡_}
 use Rattle.components.specs.declared.Stop.{Stop}
 use Rattle.components.specs.declared.Line.{Line}
 use Rattle.components.specs.declared.Car.{Car}
