@@ -3,12 +3,12 @@
 // is tested too. Prints the first difference of each pass that has one, and how much was compared.
 //
 // The list was made by `oracle list pairs 1 FILE` (tools/oracle) from the published Rust files. A pair is two cases, one after the other, each as in
-// the list of replay_passes (crate stored_passes). 166 have one idle car, 41 have two, 3 have four. The pairs:
+// the list of replay_passes (crate stored_passes). 160 have one idle car, 41 have two, 3 have four. The pairs:
 //                           ETD    RSR   SCAN
 //     raised by 1            25     23     20
-//     raised by 2 or more    23     25     20
-//     lifted                 25     25     24
-//     the total falls        51     51     44
+//     raised by 2 or more    22     24     19
+//     lifted                 24     24     23
+//     the total falls        47     47     40
 //
 // Pairs are counted from 0. It was tried that it can fail: a bit flipped in a stored number of stops, total, number of held cells, decision, cell or
 // sweep of either pass is printed with both values. Sheets that differ in a further byte, or whose limits are equal, are named, and so is a list

@@ -2,7 +2,7 @@
 // cells and sweeps. Prints the first difference of each sheet that has one, and how much was compared.
 //
 // The list was made by `oracle list passes 1 FILE` (tools/oracle) from the published Rust files: for each of the harness's faulty passes a small
-// sheet that tells it from the right one, ten sheets of each profile, and document 01's example. Where the Rust builds no matrix (no idle car, or no
+// sheet that tells it from the right one, seven sheets of each profile, and document 01's example. Where the Rust builds no matrix (no idle car, or no
 // pending stop), cells and total are document 01's. A case's format is in the crate stored_passes.
 //
 // Sheets are counted from 0. It was tried that it can fail: a bit flipped in a stored number of stops, total, number of held cells, decision, cell
