@@ -86,6 +86,14 @@ pub fn answer(rust: &mut Rust, bytes: &[u8]) -> Answer {
     })
 }
 
+/// The answer to a sheet that is accepted.
+pub fn passed(rust: &mut Rust, sheet: &Sheet) -> Pass {
+    match answer(rust, &sheet.write()) {
+        Answer::Passed(pass) => pass,
+        Answer::Refused(r) => unreachable!("{r:?}"),
+    }
+}
+
 /// The Rust's answer to an accepted sheet with closed landings: it passes the sheet without them, in which further cars
 /// cover those stops for whoever waits there. They are loading there and not idle, so that they take part in nothing else.
 /// Riders of idle cars who are bound for such a stop get off beside it instead, so that the Rust does not hold it pending.

@@ -3,10 +3,13 @@
 use std::time::Instant;
 
 use sheetgen::generate::{PROFILES, Profile, generate};
+use sheetgen::rng::Rng;
+use sheetgen::sheet::NO_LIMIT;
 use sheetgen::shrink::shrink;
 use sheetgen::{Refusal, Sheet, describe, read};
 
-use crate::answer::{Answer, Pass, Source, answer, by_covering, for_rust};
+use crate::answer::{Answer, Pass, Source, answer, by_covering, for_rust, passed};
+use crate::bars;
 use crate::bench::{Bench, Has, KEPT, Lent, Places};
 use crate::choice;
 use crate::paper::{self, weighs_loads};
@@ -685,17 +688,23 @@ pub fn survey(seed: u64, count: u64) {
     }
 }
 
+/// The profiles in which limits are raised and bars added.
+const CHANGED: [(&str, Profile); 4] = [
+    ("limits", Profile::Limits),
+    ("load", Profile::Load),
+    ("closed", Profile::Closed),
+    ("sideways", Profile::Sideways),
+];
+
 /// Demand 3 by running: of two sheets that differ in the limit alone, the one with the higher limit has no
 /// higher total. True where that held.
 pub fn limits(seed: u64, count: u64) -> bool {
-    let profiles = [
-        ("limits", Profile::Limits),
-        ("load", Profile::Load),
-        ("closed", Profile::Closed),
-        ("sideways", Profile::Sideways),
-    ];
-    let mut profiles = profiles.into_iter();
+    let mut profiles = CHANGED.into_iter();
     profiles.all(|(name, profile)| limits_of(name, profile, seed, count))
+}
+
+fn total(rust: &mut Rust, sheet: &Sheet) -> u64 {
+    passed(rust, sheet).total
 }
 
 fn limits_of(name: &str, profile: Profile, seed: u64, count: u64) -> bool {
@@ -707,16 +716,12 @@ fn limits_of(name: &str, profile: Profile, seed: u64, count: u64) -> bool {
         if sheet.policy.limit > 64 {
             sheet.policy.limit = 1 + (index % 4) as u16;
         }
-        let mut total = |sheet: &Sheet| match answer(&mut rust, &sheet.write()) {
-            Answer::Passed(pass) => pass.total,
-            Answer::Refused(r) => unreachable!("{r:?}"),
-        };
-        let low = total(&sheet);
+        let low = total(&mut rust, &sheet);
         sheet.policy.limit = match index % 3 {
-            0 => sheetgen::sheet::NO_LIMIT,
+            0 => NO_LIMIT,
             k => sheet.policy.limit + k as u16,
         };
-        let high = total(&sheet);
+        let high = total(&mut rust, &sheet);
         if high > low {
             println!("{name}, seed {seed}, number {index}: total {low} rose to {high}");
             return false;
@@ -724,6 +729,67 @@ fn limits_of(name: &str, profile: Profile, seed: u64, count: u64) -> bool {
         fell += u64::from(high < low);
     }
     println!("{name}: {count} pairs of sheets, the total fell in {fell} and never rose");
+    true
+}
+
+/// Bars added, by running: of two sheets without a limit that differ in bars alone, the one with more of them has no lower total; under a limit it
+/// may have. True where that held.
+pub fn bars(seed: u64, count: u64) -> bool {
+    let mut profiles = CHANGED.into_iter();
+    profiles.all(|(name, profile)| bars_of(name, profile, seed, count))
+}
+
+/// In how many pairs the total rose, and in how many it fell.
+#[derive(Default)]
+struct Moves {
+    rose: u64,
+    fell: u64,
+}
+
+impl Moves {
+    fn add(&mut self, first: u64, second: u64) {
+        self.rose += u64::from(second > first);
+        self.fell += u64::from(second < first);
+    }
+}
+
+fn bars_of(name: &str, profile: Profile, seed: u64, count: u64) -> bool {
+    let mut rust = Rust::new();
+    let (mut free, mut limited) = (Moves::default(), Moves::default());
+    let mut pairs = 0u64;
+    for index in 0..count {
+        let mut sheet = Sheet::of_accepted(&generate(profile, seed, index));
+        sheet.policy.limit = NO_LIMIT;
+        let pass = passed(&mut rust, &sheet);
+        let rng = &mut Rng::new(seed, 300, index);
+        let added = bars::count(rng);
+        let Some(mut barred) = bars::added(rng, &sheet, &pass.pending, added) else {
+            continue;
+        };
+        pairs += 1;
+        let second = total(&mut rust, &barred);
+        if second < pass.total {
+            let first = pass.total;
+            println!("{name}, seed {seed}, number {index}: total {first} fell to {second}");
+            return false;
+        }
+        free.add(pass.total, second);
+        sheet.policy.limit = 1 + (index % 4) as u16;
+        barred.policy.limit = sheet.policy.limit;
+        limited.add(total(&mut rust, &sheet), total(&mut rust, &barred));
+    }
+    let share = |part: u64| {
+        format!(
+            "{part} ({:.2} %)",
+            part as f64 * 100.0 / pairs.max(1) as f64
+        )
+    };
+    println!(
+        "{name}: {pairs} pairs of sheets; without a limit the total rose in {} and never fell; with a limit it rose in {} and fell in {}",
+        share(free.rose),
+        share(limited.rose),
+        share(limited.fell)
+    );
     true
 }
 

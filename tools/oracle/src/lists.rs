@@ -5,11 +5,12 @@ use sheetgen::bits;
 use sheetgen::generate::{PROFILES, Profile, crowded, generate};
 use sheetgen::provoke;
 use sheetgen::rng::Rng;
-use sheetgen::sheet::{ETD, NO_LIMIT, RSR, SCAN};
+use sheetgen::sheet::{ETD, NO_LIMIT, RSR, SCAN, mask_bit};
 use sheetgen::shrink::shrink;
-use sheetgen::{Aboard, Car, Demand, Line, Sheet, Stop, Waiting, read};
+use sheetgen::{Aboard, Car, Demand, Line, Sheet, Stop, Waiting, describe, read};
 
-use crate::answer::{Answer, Pass, Source, answer, for_rust};
+use crate::answer::{Answer, Pass, Source, answer, for_rust, passed};
+use crate::bars;
 use crate::compare::Comparison;
 use crate::paper::{self, FAULTS, Fault, Paper};
 use crate::rust_pass::Rust;
@@ -469,10 +470,11 @@ pub fn passes(seed: u64) -> (Vec<u8>, usize) {
     (list, cases.len())
 }
 
-/// A sheet under two limits, the second one higher, with both passes.
-struct Limited {
+/// Two sheets that differ in the limit or in bars alone, with both passes.
+struct Changed {
     strategy: u8,
-    raise: usize,
+    /// What the second has, by one of `RAISES` or of `BARS`.
+    how: &'static str,
     cases: [(Vec<u8>, Pass); 2],
 }
 
@@ -485,25 +487,45 @@ const RAISES: [(&str, fn(u16) -> u16); 3] = [
     ("lifted", |_| NO_LIMIT),
 ];
 
-impl Limited {
-    fn new(rust: &mut Rust, sheet: &Sheet, first: u16, raise: usize) -> Self {
-        let mut case = |limit| {
-            let mut sheet = sheet.clone();
-            sheet.policy.limit = limit;
-            let bytes = sheet.write();
-            let Answer::Passed(pass) = answer(rust, &bytes) else {
-                unreachable!()
-            };
-            (bytes, pass)
-        };
-        let cases = [case(first), case(RAISES[raise].1(first))];
-        let [(low, _), (high, _)] = &cases;
-        assert!(low[..6] == high[..6] && low[6..8] < high[6..8] && low[8..] == high[8..]);
+/// Under what limit bars are added.
+const BARS: [&str; 2] = ["bars, no limit", "bars, a limit"];
+
+impl Changed {
+    fn new(rust: &mut Rust, how: &'static str, sheets: [&Sheet; 2]) -> Self {
         Self {
-            strategy: sheet.policy.strategy,
-            raise,
-            cases,
+            strategy: sheets[0].policy.strategy,
+            how,
+            cases: sheets.map(|sheet| (sheet.write(), passed(rust, sheet))),
         }
+    }
+
+    /// The sheet, and the sheet under a higher limit.
+    fn raised(rust: &mut Rust, sheet: &Sheet, raise: usize) -> Self {
+        let (how, higher) = RAISES[raise];
+        let mut high = sheet.clone();
+        high.policy.limit = higher(sheet.policy.limit);
+        let pair = Self::new(rust, how, [sheet, &high]);
+        let [(low, _), (high, _)] = &pair.cases;
+        assert!(low[..6] == high[..6] && low[6..8] < high[6..8] && low[8..] == high[8..]);
+        pair
+    }
+
+    /// The sheet, and the sheet with bars added.
+    fn barred(rust: &mut Rust, sheet: &Sheet, barred: &Sheet) -> Self {
+        let is_limited = sheet.policy.limit != NO_LIMIT;
+        let pair = Self::new(rust, BARS[usize::from(is_limited)], [sheet, barred]);
+        let texts = || [sheet, barred].map(describe::describe).concat();
+        assert!(
+            bars::are_added(sheet, barred),
+            "not bars alone:\n{}",
+            texts()
+        );
+        assert!(
+            is_limited || !pair.falls(),
+            "the total falls without a limit:\n{}",
+            texts()
+        );
+        pair
     }
 
     fn total(&self, case: usize) -> u64 {
@@ -514,14 +536,27 @@ impl Limited {
         self.total(1) < self.total(0)
     }
 
-    /// Whether a cell that the first limit cut has a rank under the second.
-    fn uncut(&self) -> bool {
+    /// Whether some cell is another: one that the first limit cut, or one that a bar takes out or lets in.
+    fn cell_changes(&self) -> bool {
         self.cases[0].1.cells != self.cases[1].1.cells
     }
 
     /// Whether some car is sent to another stop, or sent where it stayed.
     fn redirected(&self) -> bool {
         self.cases[0].1.decisions != self.cases[1].1.decisions
+    }
+
+    /// The bars that are added, each as its car and its stop.
+    fn bars(&self) -> impl Iterator<Item = (Car, Stop)> {
+        let [first, second] = [0, 1].map(|k| Sheet::of_accepted(&self.cases[k].0));
+        let bars = bars::between(&first, &second).into_iter();
+        bars.map(move |(car, stop)| (first.cars[car].clone(), first.stops[stop].clone()))
+    }
+
+    /// In how many cars' masks bars are added.
+    fn barred_cars(&self) -> usize {
+        let cars = self.bars().map(|(car, _)| car.id);
+        cars.collect::<std::collections::BTreeSet<_>>().len()
     }
 
     fn put(&self, list: &mut Vec<u8>) {
@@ -570,22 +605,121 @@ fn values(sheet: &Sheet) -> std::collections::BTreeSet<String> {
     all.chain(closed).collect()
 }
 
+/// How the second sheet of a pair is made.
+#[derive(Clone, Copy)]
+enum Change {
+    /// By this one of `RAISES`.
+    Limit(usize),
+    /// So many bars are added.
+    Bars { limited: bool, count: usize },
+}
+
+/// What is asked of both passes.
+#[derive(Clone, Copy)]
+enum Asked {
+    TotalFalls,
+    /// The total does not fall, though a cell changes.
+    CellAlone,
+    Cell,
+    /// No cell changes, and the bars are of cars that are not idle.
+    OtherCar,
+    /// No cell changes, and the bars are at stops that are not pending.
+    OtherStop,
+}
+
 /// What is asked of a pair.
 struct Wanted {
     strategy: u8,
     profile: Profile,
-    raise: usize,
-    /// Whether the total falls. Where it stays, a cell changes all the same.
-    falls: bool,
-    /// The fewest idle cars.
+    change: Change,
+    asked: Asked,
+    /// The fewest idle cars, and the fewest pending stops.
     cars: u64,
+    stops: u64,
     /// The most bytes in the list.
     length: usize,
 }
 
+impl Wanted {
+    /// The limit of the first sheet.
+    fn limit(&self, index: u64) -> u16 {
+        match self.change {
+            Change::Bars { limited: false, .. } => NO_LIMIT,
+            _ => 1 + (index % 3) as u16,
+        }
+    }
+
+    /// Whether the first sheet is as wanted. Several bars are added to a sheet that has some.
+    fn begins(&self, rust: &mut Rust, sheet: &Sheet, pass: &Pass) -> bool {
+        let has_bars = sheet.cars.iter().any(|c| c.restricted != 0);
+        let is_plain = matches!(
+            self.change,
+            Change::Limit(_) | Change::Bars { count: 1, .. }
+        );
+        pass.source != Source::Document
+            && pass.cars >= self.cars
+            && pass.stops >= self.stops
+            && (is_plain || has_bars)
+            && self.profile_matters(rust, sheet, pass)
+    }
+
+    /// Without closed landings other stops were pending; without second coordinates cells were others.
+    fn profile_matters(&self, rust: &mut Rust, sheet: &Sheet, pass: &Pass) -> bool {
+        if !matches!(self.profile, Profile::Closed | Profile::Sideways) {
+            return true;
+        }
+        let mut other = sheet.clone();
+        other.closed.clear();
+        other.edition = 1;
+        let other = passed(rust, &other);
+        match self.profile {
+            Profile::Closed => other.pending != pass.pending,
+            _ => other.cells != pass.cells,
+        }
+    }
+
+    fn shown_by(&self, pair: &Changed) -> bool {
+        match self.asked {
+            Asked::TotalFalls => pair.falls(),
+            Asked::CellAlone => pair.cell_changes() && !pair.falls(),
+            Asked::Cell => pair.cell_changes(),
+            Asked::OtherCar => !pair.cell_changes() && pair.bars().all(|(car, _)| !car.idle),
+            Asked::OtherStop => {
+                let pending = &pair.cases[0].1.pending;
+                !pair.cell_changes() && pair.bars().all(|(_, stop)| !pending.contains(&stop.id))
+            }
+        }
+    }
+
+    /// The pair of a sheet, where there is one as wanted. Of bars, some are tried.
+    fn pair(&self, rust: &mut Rust, mut sheet: Sheet, seed: u64, index: u64) -> Option<Changed> {
+        const TRIES: usize = 12;
+        sheet.policy.limit = self.limit(index);
+        let pass = passed(rust, &sheet);
+        if !self.begins(rust, &sheet, &pass) {
+            return None;
+        }
+        match self.change {
+            Change::Limit(raise) => {
+                let pair = Changed::raised(rust, &sheet, raise);
+                self.shown_by(&pair).then_some(pair)
+            }
+            Change::Bars { count, .. } => {
+                let rng = &mut Rng::new(seed, 300, index);
+                (0..TRIES).find_map(|_| {
+                    let barred = bars::added(rng, &sheet, &pass.pending, count)?;
+                    let pair = Changed::barred(rust, &sheet, &barred);
+                    let spread = count == 1 || pair.barred_cars() > 1;
+                    (spread && self.shown_by(&pair)).then_some(pair)
+                })
+            }
+        }
+    }
+}
+
 /// A pair as wanted, of the profile's first sheet from `next` on that makes one: with as few of the sheet's records as
 /// will do, the values in them as they are.
-fn limited(rust: &mut Rust, wanted: &Wanted, seed: u64, next: &mut u64) -> Limited {
+fn changed(rust: &mut Rust, wanted: &Wanted, seed: u64, next: &mut u64) -> Changed {
     loop {
         let index = *next;
         *next += 1;
@@ -594,33 +728,12 @@ fn limited(rust: &mut Rust, wanted: &Wanted, seed: u64, next: &mut u64) -> Limit
         if sheet.policy.strategy != wanted.strategy {
             continue;
         }
-        let (all, first) = (values(&sheet), 1 + (index % 3) as u16);
+        let all = values(&sheet);
         let mut pair = |bytes: &[u8]| {
             let part = Sheet::of_accepted(bytes);
             let like = part.edition == sheet.edition && part.policy == sheet.policy;
-            if !like || !values(&part).is_subset(&all) {
-                return None;
-            }
-            let pair = Limited::new(rust, &part, first, wanted.raise);
-            let pass = &pair.cases[0].1;
-            let mut matters = |pass: &Pass| {
-                let mut other = part.clone();
-                other.closed.clear();
-                other.edition = 1;
-                other.policy.limit = first;
-                let Answer::Passed(other) = answer(rust, &other.write()) else {
-                    unreachable!()
-                };
-                match wanted.profile {
-                    Profile::Closed => other.pending != pass.pending,
-                    _ => other.cells != pass.cells,
-                }
-            };
-            let asked = matches!(wanted.profile, Profile::Closed | Profile::Sideways);
-            let good = pass.source != Source::Document
-                && pass.cars >= wanted.cars
-                && (!asked || matters(pass));
-            (good && pair.uncut() && pair.falls() == wanted.falls).then_some(pair)
+            let is_part = like && values(&part).is_subset(&all);
+            is_part.then(|| wanted.pair(rust, part, seed, index))?
         };
         if pair(&bytes).is_some() {
             let small = shrink(&bytes, &mut |b| pair(b).is_some());
@@ -631,8 +744,14 @@ fn limited(rust: &mut Rust, wanted: &Wanted, seed: u64, next: &mut u64) -> Limit
     }
 }
 
-/// Each sheet twice, the second time under a higher limit, as two cases of the passes. Prints what is in them.
-pub fn pairs(seed: u64) -> (Vec<u8>, usize) {
+/// The sheet under another first limit, and that limit raised.
+fn raised_from(rust: &mut Rust, mut sheet: Sheet, limit: u16, raise: usize) -> Changed {
+    sheet.policy.limit = limit;
+    Changed::raised(rust, &sheet, raise)
+}
+
+/// Each sheet twice, the second time under a higher limit.
+fn raised_limits(rust: &mut Rust, seed: u64) -> Vec<Changed> {
     const PROFILES: [Profile; 7] = [
         Profile::Valid,
         Profile::Ties,
@@ -642,10 +761,9 @@ pub fn pairs(seed: u64) -> (Vec<u8>, usize) {
         Profile::Cover,
         Profile::Fine,
     ];
-    let mut rust = Rust::new();
     let mut next = [0; PROFILES.len()];
     let mut next_sideways = 0;
-    let mut pairs = vec![Limited::new(&mut rust, &Sheet::example(), 1, 2)];
+    let mut pairs = vec![raised_from(rust, Sheet::example(), 1, 2)];
     for strategy in [ETD, RSR, SCAN] {
         // No sheet of the last profile is SCAN's.
         let profiles = PROFILES.len() - usize::from(strategy == SCAN);
@@ -660,16 +778,20 @@ pub fn pairs(seed: u64) -> (Vec<u8>, usize) {
                     let wanted = Wanted {
                         strategy,
                         profile,
-                        raise,
-                        falls,
+                        change: Change::Limit(raise),
+                        asked: match falls {
+                            true => Asked::TotalFalls,
+                            false => Asked::CellAlone,
+                        },
                         cars,
+                        stops: 1,
                         length,
                     };
                     let next = match profile {
                         Profile::Sideways => &mut next_sideways,
                         _ => &mut next[k],
                     };
-                    pairs.push(limited(&mut rust, &wanted, seed, next));
+                    pairs.push(changed(rust, &wanted, seed, next));
                 };
                 add(profile, true, 1, 600);
                 add(profile, false, 1, 600);
@@ -691,45 +813,187 @@ pub fn pairs(seed: u64) -> (Vec<u8>, usize) {
         let wanted = Wanted {
             strategy,
             profile: Profile::Closed,
-            raise: usize::from(strategy),
-            falls: true,
+            change: Change::Limit(usize::from(strategy)),
+            asked: Asked::TotalFalls,
             cars: 1,
+            stops: 1,
             length: 700,
         };
-        pairs.push(limited(&mut rust, &wanted, seed, &mut 0));
+        pairs.push(changed(rust, &wanted, seed, &mut 0));
         // A limit that cuts nothing, lifted.
         let sheet = Sheet::of_accepted(&pairs[pairs.len() - 1].cases[0].0);
-        pairs.push(Limited::new(&mut rust, &sheet, NO_LIMIT - 1, 2));
+        pairs.push(raised_from(rust, sheet, NO_LIMIT - 1, 2));
     }
-    let mut list = Vec::new();
-    pairs.iter().for_each(|pair| pair.put(&mut list));
+    pairs
+}
+
+/// The worked case of a bar that lowers the total: each of two cars is ranked for the nearest of two stops alone, and that is the same stop, until
+/// it is barred to the first car.
+fn worked_bar() -> [Sheet; 2] {
+    let mut sheet = Sheet::new(RSR);
+    sheet.policy.limit = 1;
+    sheet.policy.weights = [1.0, 0.0, 0.0, 0.0, 0.0, 1.0];
+    sheet.stops = vec![Stop::at(1, 4.0), Stop::at(2, 12.0)];
+    let mask = mask_bit(0) | mask_bit(1);
+    sheet.lines.push(Line { id: 1, mask });
+    sheet.cars = [(7, 0.0), (8, 6.0)]
+        .map(|(id, position)| Car {
+            id,
+            position,
+            speed: 1.0,
+            capacity: 800.0,
+            transition: 30,
+            open: 120,
+            ..Car::parked(1)
+        })
+        .to_vec();
+    sheet.demands = [1, 2]
+        .map(|stop| Demand {
+            stop,
+            riding: 0,
+            call: true,
+        })
+        .to_vec();
+    let mut barred = sheet.clone();
+    barred.cars[0].restricted = mask_bit(0);
+    [sheet, barred]
+}
+
+/// Finds pairs with bars added, each from the sheet after that of the profile's last pair.
+struct BarPairs<'a> {
+    rust: &'a mut Rust,
+    seed: u64,
+    next: [u64; PROFILES.len()],
+    pairs: Vec<Changed>,
+}
+
+impl BarPairs<'_> {
+    fn add(&mut self, strategy: u8, profile: Profile, change: Change, asked: Asked) {
+        let is_one = matches!(change, Change::Bars { count: 1, .. });
+        // Two cars take more bytes.
+        let has_two = !is_one || matches!(asked, Asked::OtherCar);
+        let wanted = Wanted {
+            strategy,
+            profile,
+            change,
+            asked,
+            cars: if is_one { 1 } else { 2 },
+            stops: 2,
+            length: if has_two { 850 } else { 700 },
+        };
+        let next = &mut self.next[profile as usize];
+        self.pairs
+            .push(changed(self.rust, &wanted, self.seed, next));
+    }
+
+    /// One bar in two of three, several otherwise; in one of six, no cell changes.
+    fn add_any(&mut self, strategy: u8, profile: Profile, limited: bool) {
+        let number = self.pairs.len();
+        let count = if number % 3 == 2 { 2 + number % 2 } else { 1 };
+        let asked = match number % 12 {
+            1 => Asked::OtherStop,
+            7 => Asked::OtherCar,
+            _ => Asked::Cell,
+        };
+        self.add(strategy, profile, Change::Bars { limited, count }, asked);
+    }
+}
+
+/// Each sheet twice, the second time with bars added: the worked case first, then without a limit and with one, and last those under a limit
+/// in which the total falls.
+fn added_bars(rust: &mut Rust, seed: u64) -> Vec<Changed> {
+    let [sheet, barred] = worked_bar();
+    let worked = Changed::barred(rust, &sheet, &barred);
+    assert!(worked.falls());
+    let mut found = BarPairs {
+        rust,
+        seed,
+        next: [0; PROFILES.len()],
+        pairs: vec![worked],
+    };
+    for limited in [false, true] {
+        for strategy in [ETD, RSR, SCAN] {
+            // Of RSR, loads in the stead of coverage.
+            let fifth = if strategy == RSR {
+                Profile::Load
+            } else {
+                Profile::Cover
+            };
+            for profile in [
+                Profile::Valid,
+                Profile::Ties,
+                Profile::Near,
+                Profile::Limits,
+                fifth,
+                Profile::Sideways,
+            ] {
+                found.add_any(strategy, profile, limited);
+                found.add_any(strategy, profile, limited);
+            }
+            found.add_any(strategy, Profile::Closed, limited);
+        }
+    }
+    let one = Change::Bars {
+        limited: true,
+        count: 1,
+    };
+    for strategy in [ETD, RSR, SCAN] {
+        for profile in [
+            Profile::Limits,
+            Profile::Valid,
+            Profile::Near,
+            Profile::Sideways,
+        ] {
+            found.add(strategy, profile, one, Asked::TotalFalls);
+        }
+    }
+    found.pairs
+}
+
+/// Pairs of sheets, the second under a higher limit.
+pub fn pairs(seed: u64) -> (Vec<u8>, usize) {
+    let pairs = raised_limits(&mut Rust::new(), seed);
+    let list = list_of(&pairs, &RAISES.map(|(how, _)| how));
     fits(&list, 131_072, "replay_pairs");
-    print_pairs(&pairs);
     (list, pairs.len())
 }
 
-fn print_pairs(pairs: &[Limited]) {
-    type Test = fn(&&&Limited) -> bool;
+/// Pairs of sheets, the second with bars added.
+pub fn bars(seed: u64) -> (Vec<u8>, usize) {
+    let pairs = added_bars(&mut Rust::new(), seed);
+    (list_of(&pairs, &BARS), pairs.len())
+}
+
+/// Each pair as two cases of the passes. Prints what is in them, by how the second sheets were made.
+fn list_of(pairs: &[Changed], ways: &[&str]) -> Vec<u8> {
+    let mut list = Vec::new();
+    pairs.iter().for_each(|pair| pair.put(&mut list));
+    print_pairs(pairs, ways);
+    list
+}
+
+fn print_pairs(pairs: &[Changed], ways: &[&str]) {
+    type Test = fn(&&&Changed) -> bool;
     const TESTS: [(&str, Test); 4] = [
         ("pairs", |_| true),
         ("total falls", |p| p.falls()),
-        ("a cell falls", |p| p.uncut()),
+        ("a cell changes", |p| p.cell_changes()),
         ("other stops", |p| p.redirected()),
     ];
     print!("{:<24}", "");
-    TESTS.iter().for_each(|(what, _)| print!("{what:>14}"));
-    println!("{:>14}", "cells");
+    TESTS.iter().for_each(|(what, _)| print!("{what:>16}"));
+    println!("{:>16}", "cells");
     for (strategy, name) in ["ETD", "RSR", "SCAN"].into_iter().enumerate() {
-        for (raise, (how, _)) in RAISES.into_iter().enumerate() {
-            let is = |p: &&Limited| usize::from(p.strategy) == strategy && p.raise == raise;
+        for how in ways {
+            let is = |p: &&Changed| usize::from(p.strategy) == strategy && p.how == *how;
             let found: Vec<_> = pairs.iter().filter(is).collect();
             let cells = found.iter().flat_map(|p| &p.cases);
             let cells: usize = cells.map(|(_, pass)| pass.cells.len()).sum();
             print!("{name:<5}{how:<19}");
             TESTS
                 .iter()
-                .for_each(|(_, test)| print!("{:>14}", found.iter().filter(test).count()));
-            println!("{cells:>14}");
+                .for_each(|(_, test)| print!("{:>16}", found.iter().filter(test).count()));
+            println!("{cells:>16}");
         }
     }
 }

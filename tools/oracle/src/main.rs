@@ -3,6 +3,7 @@
 include!(concat!(env!("OUT_DIR"), "/published.rs"));
 
 mod answer;
+mod bars;
 mod bench;
 mod choice;
 mod compare;
@@ -30,6 +31,7 @@ oracle selftest [COUNT [FAULT]]
 oracle time LIBRARY [ROUNDS]   from bytes to decisions, the bench beside the Rust, in microseconds a sheet
 oracle beside OLDER NEWER [ROUNDS]   reading and passing, two libraries in turns, and the ratio of their times
 oracle limits SEED COUNT       a higher limit never raises the total, by the Rust, and with closed landings or second coordinates by the definitions
+oracle bars SEED COUNT         a bar added never lowers the total where there is no limit; how often it does under one
 oracle first LIBRARY SEED COUNT
                                the first release refuses closed landings by 4, load weights by 15 and edition 2 by 3; LIBRARY is its shared
                                object
@@ -39,7 +41,7 @@ oracle travel LIBRARY SEED COUNT
 oracle travel selftest COUNT   travel times that are wrong on purpose must be found out
 oracle travel time LIBRARY [ROUNDS]
                                a call beside eta.rs, in nanoseconds
-oracle list refusals|passes|pairs|ranks|grades|travel SEED FILE
+oracle list refusals|passes|pairs|bars|ranks|grades|travel SEED FILE
                                writes a fixed list
 Sheets are read from FILE or standard input.";
 
@@ -124,6 +126,7 @@ fn run(args: &[&str]) -> Result<(), String> {
             return clean(held);
         }
         ["limits", seed, count] => return clean(compare::limits(number(seed)?, number(count)?)),
+        ["bars", seed, count] => return clean(compare::bars(number(seed)?, number(count)?)),
         ["survey", seed, count] => {
             compare::survey(number(seed)?, number(count)?);
             return Ok(());
@@ -133,6 +136,7 @@ fn run(args: &[&str]) -> Result<(), String> {
                 "refusals" => lists::refusals(number(seed)?),
                 "passes" => lists::passes(number(seed)?),
                 "pairs" => lists::pairs(number(seed)?),
+                "bars" => lists::bars(number(seed)?),
                 "ranks" => lists::ranks(number(seed)?),
                 "grades" => grades::list(number(seed)?),
                 "travel" => travel::list(number(seed)?),
