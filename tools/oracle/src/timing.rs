@@ -58,6 +58,26 @@ fn loaded(size: (&str, usize, usize, usize), count: u64, weight: f64) -> Vec<Vec
     (0..count).map(sheet).collect()
 }
 
+/// The least time of each list of sheets, passed in turns.
+fn in_turns(
+    bench: &mut dyn Bench,
+    lent: &mut Lent,
+    lists: [&[Vec<u8>]; 2],
+    rounds: usize,
+) -> [Duration; 2] {
+    let mut least = [Duration::MAX; 2];
+    for _ in 0..rounds {
+        for (least, sheets) in least.iter_mut().zip(lists) {
+            let began = Instant::now();
+            for sheet in sheets {
+                assert_eq!(bench.pass(sheet, lent), 0);
+            }
+            *least = (*least).min(began.elapsed());
+        }
+    }
+    least
+}
+
 /// A line for each size: RSR with the load's part beside the same sheets with a load weight of 0, the rounds in turn.
 fn load_table(bench: &mut dyn Bench, rounds: usize) {
     let mut lent = Lent::new(32, 2048, 32);
@@ -65,18 +85,7 @@ fn load_table(bench: &mut dyn Bench, rounds: usize) {
     for size in SIZES {
         let count = if size.0 == "full" { 40 } else { 400 };
         let (with, without) = (loaded(size, count, 3.0), loaded(size, count, 0.0));
-        let mut timed = |sheets: &[Vec<u8>]| {
-            let began = Instant::now();
-            for sheet in sheets {
-                assert_eq!(bench.pass(sheet, &mut lent), 0);
-            }
-            began.elapsed()
-        };
-        let (mut ours, mut plain) = (Duration::MAX, Duration::MAX);
-        for _ in 0..rounds {
-            ours = ours.min(timed(&with));
-            plain = plain.min(timed(&without));
-        }
+        let [ours, plain] = in_turns(bench, &mut lent, [&with, &without], rounds);
         println!(
             "{:<13}{:16.2}{:19.2}{:8.2}",
             size.0,
@@ -105,18 +114,7 @@ fn edition_table(bench: &mut dyn Bench, rounds: usize) {
             println!("{size:<13}not timed: the library does not know edition 2");
             continue;
         }
-        let mut timed = |sheets: &[Vec<u8>]| {
-            let began = Instant::now();
-            for sheet in sheets {
-                assert_eq!(bench.pass(sheet, &mut lent), 0);
-            }
-            began.elapsed()
-        };
-        let (mut ours, mut plain) = (Duration::MAX, Duration::MAX);
-        for _ in 0..rounds {
-            ours = ours.min(timed(&seconds));
-            plain = plain.min(timed(&firsts));
-        }
+        let [ours, plain] = in_turns(bench, &mut lent, [&seconds, &firsts], rounds);
         println!(
             "{size:<13}{:12.2}{:20.2}{:8.2}",
             micros(ours, seconds.len()),
