@@ -17,6 +17,7 @@ pub mod fields;
 pub mod grade;
 pub mod grades;
 pub mod line;
+pub mod names;
 pub mod near;
 mod numbers;
 pub mod ramps;

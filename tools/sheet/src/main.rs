@@ -286,7 +286,11 @@ fn in_the_domain(ramps: Option<&Ramps>) -> Result<(), Stop> {
 fn draw(bytes: &[u8], ramps: Option<&Ramps>) -> Result<String, Stop> {
     of_the_interface()?;
     in_the_domain(ramps)?;
-    Ok(sheet::draw::draw(bytes, ramps))
+    let about = sheet::draw::About {
+        ramps,
+        ..Default::default()
+    };
+    Ok(sheet::draw::draw(bytes, &about))
 }
 
 #[cfg(feature = "pass")]

@@ -5,7 +5,7 @@ mod common;
 
 use common::{files, here, name, run, text};
 use dispatch_bench::{CEILING, Pass, SENTINEL, choose, pass};
-use sheet::draw::draw;
+use sheet::draw::{About, draw};
 use sheetgen::generate::{self, Profile};
 use sheetgen::rng::Rng;
 use sheetgen::sheet::{NO_LIMIT, mask_bit};
@@ -185,7 +185,7 @@ fn has_held(svg: &str, pass: &Pass) {
 fn drawn(bytes: &[u8], pass: &Pass, file: &str) -> [usize; 5] {
     let choice = choose(pass.cars, pass.columns(), &pass.matrix).unwrap();
     assert_eq!(choice.total, pass.total, "{file}");
-    let svg = draw(bytes, None);
+    let svg = draw(bytes, &About::default());
     let folder = std::path::Path::new(env!("CARGO_TARGET_TMPDIR"));
     std::fs::write(folder.join(format!("{file}.svg")), &svg).unwrap();
     is_well_formed(&svg);
@@ -273,7 +273,7 @@ fn passes_of_edition_2() {
             let pass = pass(&bytes).unwrap();
             drawn(&bytes, &pass, &format!("{profile:?}_{index}"));
             let sheet = Sheet::of_accepted(&bytes);
-            let svg = without_legends(&draw(&bytes, None));
+            let svg = without_legends(&draw(&bytes, &About::default()));
             let tips = |what: &str| count(&svg, &format!("<title>{what} "));
             let sent = pass.decisions.iter().flatten().count();
             let planned = usize::from(sheet.runs_sideways());
@@ -315,7 +315,7 @@ fn sideways_as_stored() {
     }
     let mut sheet = Sheet::example();
     sheet.edition = 2;
-    let drawn = draw(&sheet.write(), None);
+    let drawn = draw(&sheet.write(), &About::default());
     assert!(drawn.contains("here all of them are 0") && !drawn.contains(">plan<"));
     assert!(drawn.contains("the sum of the differences of both"));
 }
@@ -476,7 +476,7 @@ fn closed_landings_are_marked() {
     for index in 0..300 {
         let bytes = generate::generate(Profile::Closed, 13, index);
         let sheet = Sheet::of_accepted(&bytes);
-        let svg = without_legends(&draw(&bytes, None));
+        let svg = without_legends(&draw(&bytes, &About::default()));
         is_well_formed(&svg);
         let words: Vec<&str> = svg
             .split("<text class=\"shut halo\"")
@@ -503,7 +503,7 @@ fn closed_landings_are_marked() {
         assert_eq!(marks, shafts.sum::<usize>(), "{index}");
     }
     assert!(said.iter().all(|often| *often > 20), "{said:?}");
-    let open = draw(&Sheet::example().write(), None);
+    let open = draw(&Sheet::example().write(), &About::default());
     assert_eq!(count(&open, "shut halo"), 0);
     assert_eq!(
         count(&open, "<rect class=\"closed\""),
@@ -536,5 +536,5 @@ fn closed_examples() {
     }
     let mut sheet = Sheet::example();
     sheet.closed = vec![1];
-    assert!(draw(&sheet.write(), None).contains(">closed<"));
+    assert!(draw(&sheet.write(), &About::default()).contains(">closed<"));
 }

@@ -240,7 +240,11 @@ mod timed {
                     }
                     sent += 1;
                 }
-                let svg = sheet::draw::draw(&bytes, Some(&ramps));
+                let about = sheet::draw::About {
+                    ramps: Some(&ramps),
+                    ..Default::default()
+                };
+                let svg = sheet::draw::draw(&bytes, &about);
                 let at_arrows =
                     svg.matches(" s</text>").count() + svg.matches(">refused 21</text>").count();
                 assert_eq!(at_arrows, sent, "{profile:?} {index}");

@@ -15,6 +15,7 @@ use dispatch_bench::{Pass, Refusal, SENTINEL};
 use sheetgen::Sheet;
 
 use crate::fields::STRATEGIES;
+use crate::names::Names;
 use crate::ramps::Ramps;
 use crate::show::number_of;
 use svg::{Anchor, Svg};
@@ -25,10 +26,20 @@ const EDGE: f64 = 24.0;
 /// The least and the most width of a legend.
 const LEGEND: (f64, f64) = (660.0, 1_100.0);
 
-/// A sheet and its pass, or where the sheet is refused; with rates, the seconds of each run to a stop.
-pub fn draw(bytes: &[u8], ramps: Option<&Ramps>) -> String {
+/// What is drawn with a sheet that the sheet does not say.
+#[derive(Default)]
+pub struct About<'a> {
+    /// The file that it is of.
+    pub file: Option<&'a str>,
+    /// The rates of a run: with them the seconds of each run to a stop are drawn.
+    pub ramps: Option<&'a Ramps>,
+    pub names: Names,
+}
+
+/// A sheet and its pass, or where the sheet is refused.
+pub fn draw(bytes: &[u8], about: &About) -> String {
     match Chosen::of(bytes) {
-        Ok(chosen) => draw_pass(&Sheet::of_accepted(bytes), &chosen, ramps),
+        Ok(chosen) => draw_pass(&Sheet::of_accepted(bytes), &chosen, about.ramps),
         Err(refusal) => refused::draw(bytes, refusal),
     }
 }
