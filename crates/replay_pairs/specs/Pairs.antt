@@ -1,13 +1,12 @@
 -- Two sheets that demand 3 speaks of: they "agree in every bit but the policy's limit, which is the higher number in the second". Assumes nothing.
-use Prim.Native.Nat.{ℕ, _+_, _-_, _≤_, _<_}
-use mathlib.Core.Path.{_≡_, sym, ap, _∙_}
+use Prim.Native.Nat.{ℕ, _≤_, _<_}
+use mathlib.Core.Path.{_≡_, sym, _∙_}
 use mathlib.Core.Bool.{Bool, true, false, _&&_, _||_}
-use mathlib.Core.List.{List, [], append-nil}
+use mathlib.Core.List.{List}
 use mathlib.Core.Logic.{⊎-elim, _≢_}
 use native.Mathlib.Omega.{arith}
 use lib.Dec.{eqb, ltb}
-use lib.ListN.{length, getD}
-use lib.Seq.{getD-append-add}
+use lib.ListN.{length, getD, List·getD-eq-default}
 use borrow.Author.Tests.{eqb-true, ltb-true, eq-eqb, ne-eqb}
 use Rattle.laws.specs.Bools.{both-left, both-right, less?}
 use Rattle.laws.specs.Folds.{every, every-at}
@@ -47,12 +46,6 @@ module _ (first second : List ℕ) where
   unfolding isPair
   pair-is e f g = cc (e, f, g)
 
-past : (l : List ℕ) (k : ℕ) → length l ≤ k → getD l k 0 ≡ 0
-past l k h =
-    let e : k ≡ length l + (k - length l) = omega arith in
-    ap (λ (j : ℕ). getD l j 0) e ∙ ap (λ (m : List ℕ). getD m (length l + (k - length l)) 0) (sym (append-nil l))
-    ∙ getD-append-add l [] (k - length l) 0
-
 agree-but-limit : (first second : List ℕ) → agree first second ≡ true → AgreeButLimit first second
 unfolding agree
 agree-but-limit first second h k no-6 no-7 =
@@ -62,7 +55,7 @@ agree-but-limit first second h k no-6 no-7 =
     let t : agreeAt first second k ≡ true = every-at (agreeAt first second) (length first) k
     (both-right (eqb (length first) (length second)) _ h) l in
     eqb-true (getD first k 0) (getD second k 0) (rw (ne-eqb k 6 no-6, ne-eqb k 7 no-7) at t))
-    (λ (l : length first ≤ k). past first k l ∙ sym (past second k (omega arith)))
+    (λ (l : length first ≤ k). List·getD-eq-default first 0 l ∙ sym (List·getD-eq-default second 0 (omega arith)))
     (less? k (length first))
 
 -- two sheets that are a pair, both accepted, are a pair of demand 3

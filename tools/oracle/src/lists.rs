@@ -950,18 +950,14 @@ fn added_bars(rust: &mut Rust, seed: u64) -> Vec<Changed> {
     found.pairs
 }
 
-/// Pairs of sheets, the second under a higher limit.
+/// Pairs of sheets: the second under a higher limit, then such as have bars added.
 pub fn pairs(seed: u64) -> (Vec<u8>, usize) {
-    let pairs = raised_limits(&mut Rust::new(), seed);
-    let list = list_of(&pairs, &RAISES.map(|(how, _)| how));
-    fits(&list, 131_072, "replay_pairs");
-    (list, pairs.len())
-}
-
-/// Pairs of sheets, the second with bars added.
-pub fn bars(seed: u64) -> (Vec<u8>, usize) {
-    let pairs = added_bars(&mut Rust::new(), seed);
-    (list_of(&pairs, &BARS), pairs.len())
+    let raised = raised_limits(&mut Rust::new(), seed);
+    let barred = added_bars(&mut Rust::new(), seed);
+    let mut list = list_of(&raised, &RAISES.map(|(how, _)| how));
+    list.extend(list_of(&barred, &BARS));
+    fits(&list, 262_144, "replay_pairs");
+    (list, raised.len() + barred.len())
 }
 
 /// Each pair as two cases of the passes. Prints what is in them, by how the second sheets were made.

@@ -41,7 +41,7 @@ oracle travel LIBRARY SEED COUNT
 oracle travel selftest COUNT   travel times that are wrong on purpose must be found out
 oracle travel time LIBRARY [ROUNDS]
                                a call beside eta.rs, in nanoseconds
-oracle list refusals|passes|pairs|bars|ranks|grades|travel SEED FILE
+oracle list refusals|passes|pairs|ranks|grades|travel SEED FILE
                                writes a fixed list
 Sheets are read from FILE or standard input.";
 
@@ -136,7 +136,6 @@ fn run(args: &[&str]) -> Result<(), String> {
                 "refusals" => lists::refusals(number(seed)?),
                 "passes" => lists::passes(number(seed)?),
                 "pairs" => lists::pairs(number(seed)?),
-                "bars" => lists::bars(number(seed)?),
                 "ranks" => lists::ranks(number(seed)?),
                 "grades" => grades::list(number(seed)?),
                 "travel" => travel::list(number(seed)?),

@@ -1,7 +1,7 @@
 -- replay_pairs::run meets its contract.
 use Prim.Native.Nat.{_-_, _≤_}
 use Rattle.lists.specs.Turns.{reached-start, reached-next, reached-end}
-use Rattle.replay_pairs.specs.Replay.{Counted, Met}
+use Rattle.replay_pairs.specs.Replay.{Counted, Met, none-counted}
 use lib.ListN.{length}
 use native.Mathlib.Omega.{arith}
 use Rattle.replay_pairs.proofs.run.Statement.{statement}
@@ -15,7 +15,7 @@ abbrev μ-loop : tie.MeasureT-loop
 
 loop-holds : tie.Need-loop-holds Inv-loop μ-loop
 loop-holds c =
-    (omega arith, record { pairs = omega arith; lower = omega arith; cells = omega arith; differ = omega arith }, reached-start)
+    (omega arith, none-counted, reached-start)
 
 turn-requires : tie.Need-turn-requires Inv-loop μ-loop
 turn-requires c κs = (c .loop-test .taken, c .before .loop .inv .1)

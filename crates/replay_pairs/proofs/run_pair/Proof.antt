@@ -12,7 +12,7 @@ answered-requires-2 c κs = (c .before .before .before .before .before .before .
 returns : tie.Need-returns
 returns c =
     let a = c .before .before .before .before .before .before .before .before .before .before .before .before .before .before .before .before .before .before .before .before .before .before .before .before .before .before .before .args in
-    let two = c .before .before .before .before .before .before .before .before .before .before .before .before .before .before .before .before .pass-two .ensures in
+    let two = c .before .before .before .before .before .before .before .before .before .before .before .before .before .before .before .before .pass-both .ensures in
     let s = a .s .now in (
       differs-at s (a .at) (a .p) (two .0) (c .before .before .before .before .before .before .answered .ensures .1),
       (
