@@ -39,6 +39,7 @@ use Rattle.pending.specs.declared.StopMasks.{StopMasks}
 use Rattle.pending.specs.Masks.{masksOf}
 use Rattle.mask.specs.declared.Ones.{Ones}
 use Rattle.mask.specs.Ones.{onesOf}
+use Rattle.rows.specs.HeldLaws.{Held}
 use Rattle.rows.specs.Gathered.{gatheredOf, gathered-held}
 use Rattle.rows.specs.MatrixLaws.{Ready, Rows, listed-number, listed-at, listed-below}
 use Rattle.accepted.specs.Ids.{rising-of}
@@ -197,4 +198,17 @@ ready bytes c e ids xs masks stops cars idle h acar adest ha waiters hw =
       waiting = gathered-held (sheetOf bytes c) waiters hw;
       weighed = weighed-of (sheetOf bytes c) sound;
       listed = h .listed;
+    }
+
+-- what is held of the sheet where riders and stops were seen
+pub held-of : (bytes : List ℕ) (c : Counts) → verdict bytes ≡ Accepted c → (ids : List ℕ) (xs : List Float) (masks : StopMasks)
+    → SeenStops (sheetOf bytes c) ids xs masks → (acar adest : List ℕ) → HoldsAboard (sheetOf bytes c) acar adest (sheetOf bytes c .aboards)
+    → Held (sheetOf bytes c) ids xs acar adest masks
+held-of bytes c e ids xs masks h acar adest ha =
+    record {
+      stops-held = h .stops-held;
+      aboard-held = ha;
+      rising = rising-of bytes c e;
+      few = accepted bytes c e .sheet .most-stops;
+      masks-are = h .masks-are;
     }

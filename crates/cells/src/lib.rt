@@ -1,7 +1,7 @@
 // From an accepted sheet to its cells: what is read of it once, and the rows of its idle cars.
 ghost use mathlib.Core.Path.{_≡_};
 ghost use mathlib.Core.List.{_++_};
-ghost use Prim.Native.Nat.{_≤_};
+ghost use Prim.Native.Nat.{_≤_, _<_};
 ghost use lib.ListN.{length, drop};
 ghost use Rattle.laws.specs.Tables.{tab};
 ghost use Rattle.layout.specs.declared.Reading.the-variants.{Accepted};
@@ -16,7 +16,8 @@ ghost use Rattle.pending.specs.Masks.{stopMask, masksOf};
 ghost use Rattle.cars.specs.Cars.{carsIn};
 ghost use Rattle.rows.specs.MatrixLaws.{FilledRows};
 ghost use Rattle.rows.specs.Gathered.{gatheredOf};
-ghost use Rattle.cells.specs.Survey.{Survey, coordinates, idleMask};
+ghost use Rattle.ranking.specs.RankingLaws.{HoldsRow};
+ghost use Rattle.cells.specs.Survey.{SeenStops, Survey, coordinates, idleMask};
 use components::Car;
 use layout::Counts;
 use layout::aboard;
@@ -25,6 +26,7 @@ use layout::waiting;
 use manifest::Waiters;
 use mask::Ones;
 use pending::StopMasks;
+use ranking::Row;
 use rows::Counted;
 
 // The ids and the points of the stops.
@@ -130,6 +132,33 @@ pub fn waiting<'a>(
         &wweight,
         &wwait,
         c.waits as usize,
+    )
+}
+
+// The row of car i under a limit, where the stops and their masks are at hand; the known destinations of its riders are left in dests and sides.
+pub fn row_of<'a>(
+    s: &'a [u8],
+    c: Counts,
+    i: u32,
+    limit: u32,
+    ids: &'a [u32],
+    xs: &'a [f64],
+    masks: StopMasks,
+    dests: &mut [f64],
+    sides: &mut [f64],
+) -> Row
+    requires { ⌜ (verdict (now s) ≡ Accepted c) × (i < c .cars) × (length (now ids) ≡ 64) × (length (now xs) ≡ 128)
+        × (length (now dests) ≡ 512) × (length (now sides) ≡ 512) ⌝ }
+    requires { ⌜ SeenStops (sheetOf (now s) c) (now ids) (now xs) masks ⌝ }
+    ensures { λ r. ⌜ HoldsRow (sheetOf (now (s .entry)) c) i limit r (now (dests .exit)) (now (sides .exit))
+        × (r .riders .count ≤ length (now (dests .exit))) × (r .riders .count ≤ length (now (sides .exit))) ⌝ }
+{
+    let mut acar = [0u32; 512];
+    let mut adest = [0u32; 512];
+    fill_aboard(s, c, &mut acar, &mut adest);
+    let car = sheet::car_at(s, c, i);
+    rows::row_for(
+        s, c, car, limit, ids, xs, &acar, &adest, masks, dests, sides,
     )
 }
 

@@ -23,8 +23,8 @@ use Rattle.manifest.specs.Stops.{HoldsStops, DistinctStops, stopIndex, pointIn,
 use Rattle.manifest.specs.Holds.{HoldsAboard}
 use Rattle.riders.specs.declared.Riders.{Riders}
 use Rattle.riders.specs.Riders.{knownAt, exitsAt, exitsIn, destsIn, routed, routedIn, ridersIn, Seats}
-use Rattle.dispatch.specs.Useful.{onPath, onPathTo, canExitHere, onAboardPath, pairIsUseful}
-use Rattle.dispatch.specs.Pairs.{onPathIn, pathAllows, usefulBy}
+use Rattle.dispatch.specs.Useful.{onPath, onPathTo, canExitHere, onAboardPath, obstacle, pairIsUseful}
+use Rattle.dispatch.specs.Pairs.{onPathIn, pathAllows, usefulBy, obstacleBy}
 use Rattle.dispatch.specs.WaitersLaws.{HoldsWaiters, Weighed, servable-is}
 
 abbrev pub isAt : Place → Bool
@@ -173,3 +173,8 @@ module _ (s : Sheet) (i j : ℕ) (weighed : Weighed s i) (r : Riders) (dests sid
         → usefulBy (s .car i) (goal s i) r dests v (has (r .exits) j) (stopAt s j .along) path ≡ pairIsUseful s i j path
     unfolding usefulBy pairIsUseful
     useful-is path l = rw (hr .exits j l, servable-is s i j weighed v hv, path-is path)
+
+    pub obstacle-is : (path : Bool) → j < s .stops
+        → obstacleBy (s .car i) (goal s i) r dests v (has (r .exits) j) (stopAt s j .along) path ≡ obstacle s i j path
+    unfolding obstacleBy obstacle
+    obstacle-is path l = rw (hr .exits j l, servable-is s i j weighed v hv, path-is path)

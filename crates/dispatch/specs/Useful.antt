@@ -1,6 +1,7 @@
 -- Whether a car's trip to a stop does any work: pair_is_useful of mod.rs, "as there, in its order; the aboard-path test for RSR only". F-12:
 -- "Directions, intervening stops and the aboard-path test use the first coordinate." Assumes nothing.
 use Prim.Native.Nat.{ℕ}
+use mathlib.Core.Path.{_≡_, refl}
 use mathlib.Core.Bool.{Bool, true, false, not, _&&_, _||_, cond}
 use lib.Dec.{eqb}
 use lib.Ieee.{Float, lt, le}
@@ -48,6 +49,16 @@ abbrev pub onPathTo : Float → Float → Place → Bool
 onPathTo x p place.Nowhere = false
 onPathTo x p (place.At d) = onPath x p (d .along)
 
+-- the tests in their order, as one answer and as the number of the first that fails
+pub by-tests : (here passes full some path : Bool)
+    → (here || (not passes && (not full && (some && path)))) ≡ eqb (cond here 0 (cond passes 1 (cond full 2 (cond some (cond path 0 4) 3)))) 0
+by-tests true passes full some path = refl
+by-tests false true full some path = refl
+by-tests false false true some path = refl
+by-tests false false false true true = refl
+by-tests false false false true false = refl
+by-tests false false false false path = refl
+
 -- ---- over a sheet
 
 module _ (s : Sheet) (i j : ℕ) where
@@ -69,9 +80,24 @@ module _ (s : Sheet) (i j : ℕ) where
       not (any (λ a. rides s i a && not (eqb (s .aboard a .destination) 0)) (s .aboards))
       || any (λ a. rides s i a && onPathTo (s .car i .position .along) (stopAt s j .along) (stopPosition s (s .aboard a .destination))) (s .aboards)
 
+  -- what stands against the trip, by the first test of pair_is_useful that fails: 0 nothing, 1 the car passes the stop by, 2 it is full, 3 nobody who
+  -- waits can board, or nobody waits and no call is without a rider, 4 the stop is off the path of those aboard
+  unfoldable pub obstacle : Bool → ℕ
+  obstacle path =
+      cond canExitHere 0
+      (cond (bypass (s .car i) (goal s i) (stopAt s j .along)) 1
+      (cond (le (remaining (s .car i)) zero) 2 (cond servable (cond (not path || onAboardPath) 0 4) 3)))
+
   -- pair_is_useful, with respect_aboard_path
   unfoldable pub pairIsUseful : Bool → Bool
   pairIsUseful path =
       canExitHere
       || (not (bypass (s .car i) (goal s i) (stopAt s j .along))
       && (not (le (remaining (s .car i)) zero) && (servable && (not path || onAboardPath))))
+
+-- where there is none, the trip does work
+pub useful-obstacle : (s : Sheet) (i j : ℕ) (path : Bool) → pairIsUseful s i j path ≡ eqb (obstacle s i j path) 0
+unfolding pairIsUseful obstacle
+useful-obstacle s i j path =
+    by-tests (canExitHere s i j) (bypass (s .car i) (goal s i) (stopAt s j .along)) (le (remaining (s .car i)) zero) (servable s i j)
+    (not path || onAboardPath s i j)

@@ -7,7 +7,7 @@ ghost use lib.Ieee.{lt, le};
 ghost use Rattle.fp.specs.Num.{zero, over};
 ghost use Rattle.components.specs.declared.Place.the-variants.{At};
 ghost use Rattle.dispatch.specs.Useful.{loadedTo, bypass, onPath};
-ghost use Rattle.dispatch.specs.Pairs.{canBoard, servableBy, onPathIn, pathAllows, usefulBy};
+ghost use Rattle.dispatch.specs.Pairs.{canBoard, servableBy, onPathIn, pathAllows, usefulBy, obstacleBy};
 ghost use Rattle.dispatch.specs.FiniteRank.{finiteRank};
 ghost use Rattle.dispatch.specs.Waits.{fairnessBonus, withBonus};
 use components::Car;
@@ -137,8 +137,42 @@ fn path_allows(car: Car, riders: Riders, dests: &[f64], p: f64, path: bool) -> b
     }
 }
 
-// Whether the trip does any work: here says that a rider of the car is bound for the stop, which stands at p. Directions and the path are of
-// first coordinates.
+// What stands against the trip, by the first test that fails: 0 nothing, 1 the car passes the stop by, 2 it is full, 3 nobody boards, 4 the stop is off
+// the path. here says that a rider of the car is bound for the stop, which stands at p. Directions and the path are of first coordinates.
+pub fn obstacle(
+    car: Car,
+    goal: Place,
+    riders: Riders,
+    dests: &[f64],
+    waiters: Waiters,
+    here: bool,
+    p: f64,
+    path: bool,
+) -> u32
+    requires { ⌜ riders .count ≤ length (now dests) ⌝ }
+    ensures { λ r. ⌜ r ≡ obstacleBy car goal riders (now (dests .entry)) waiters here p path ⌝ }
+{
+    if here {
+        return 0;
+    }
+    if bypass_in_current_direction(car, goal, p) {
+        return 1;
+    }
+    if car.remaining_capacity() <= 0.0 {
+        return 2;
+    }
+    if servable(waiters, car) {
+        if path_allows(car, riders, dests, p, path) {
+            0
+        } else {
+            4
+        }
+    } else {
+        3
+    }
+}
+
+// Whether the trip does any work.
 pub fn pair_is_useful(
     car: Car,
     goal: Place,
@@ -152,20 +186,7 @@ pub fn pair_is_useful(
     requires { ⌜ riders .count ≤ length (now dests) ⌝ }
     ensures { λ r. ⌜ r ≡ usefulBy car goal riders (now (dests .entry)) waiters here p path ⌝ }
 {
-    if here {
-        return true;
-    }
-    if bypass_in_current_direction(car, goal, p) {
-        return false;
-    }
-    if car.remaining_capacity() <= 0.0 {
-        return false;
-    }
-    if servable(waiters, car) {
-        path_allows(car, riders, dests, p, path)
-    } else {
-        false
-    }
+    obstacle(car, goal, riders, dests, waiters, here, p, path) == 0
 }
 
 // The cost less the weighted term, at least 0.

@@ -19,6 +19,7 @@ use Rattle.manifest.specs.Manifest.{demandStop}
 use Rattle.dispatch.specs.Useful.{pairIsUseful}
 use Rattle.dispatch.specs.FiniteRank.{finiteRank}
 use Rattle.dispatch.specs.Waits.{waitTicksSum, waitTicksSquaredSum, withBonus}
+use Rattle.etd.specs.declared.Terms.{Terms}
 
 -- ---- on values: x where the car stands, p where the stop does, as points or by their first coordinates
 
@@ -81,9 +82,24 @@ module _ (s : Sheet) (i j : ℕ) where
       (doorCost interveningStops (s .car i .transition) (s .car i .dwell) (s .policy .rate))
       (directionBonus (s .car i .phase) (goal s i) (s .car i .position .along) (stopAt s j .along) travelTime)
 
+  -- the cost less both fairness bonuses, wait squared first
+  abbrev pub fairCost : Float
+  fairCost = withBonus (withBonus computeCost (s .policy .w3) (waitTicksSquaredSum s j)) (s .policy .w4) (waitTicksSum s j)
+
+  -- what it is made of
+  unfoldable pub etdTerms : Terms
+  etdTerms =
+      record {
+        travel = travelTime;
+        delay = riderDelay;
+        doors = doorCost interveningStops (s .car i .transition) (s .car i .dwell) (s .policy .rate);
+        bonus = directionBonus (s .car i .phase) (goal s i) (s .car i .position .along) (stopAt s j .along) travelTime;
+        squares = waitTicksSquaredSum s j;
+        waitsum = waitTicksSum s j;
+        sum = computeCost;
+        cost = fairCost;
+      }
+
   -- rank. "Speed 0 gives ETD and RSR no rank": the Rust comes to it by way of an infinite cost
   unfoldable pub etdRank : Rank
-  etdRank =
-      cond (pairIsUseful s i j false && lt zero (s .car i .speed))
-      (finiteRank (withBonus (withBonus computeCost (s .policy .w3) (waitTicksSquaredSum s j)) (s .policy .w4) (waitTicksSum s j)))
-      Never
+  etdRank = cond (pairIsUseful s i j false && lt zero (s .car i .speed)) (finiteRank fairCost) Never

@@ -26,8 +26,8 @@ use Rattle.manifest.specs.Stops.{HoldsStops, HoldsDemand, point-is}
 use Rattle.riders.specs.declared.Riders.{Riders}
 use Rattle.dispatch.specs.WaitersLaws.{HoldsWaiters, Weighed}
 use Rattle.dispatch.specs.RidersLaws.{HoldsRiders, isAt, standsAt, boundFor, ridesTo, useful-is}
-use Rattle.etd.specs.Etd.{intervenes, extraDelay, addDelay, travelTime, interveningStops, riderDelay, computeCost, etdRank}
-use Rattle.etd.specs.Pairs.{interveningIn, delayIn, costBy, fairCostBy, rankBy}
+use Rattle.etd.specs.Etd.{intervenes, extraDelay, addDelay, travelTime, interveningStops, riderDelay, computeCost, etdTerms, etdRank}
+use Rattle.etd.specs.Pairs.{interveningIn, delayIn, costBy, fairCostBy, termsBy, rankBy}
 
 -- an entry of what is collected, and a part g of it: one index more
 module _ {A B : Type 0} (p : ℕ → Bool) (f : ℕ → A) (g : A → B) (n k : ℕ) (d : A) (e : B)
@@ -120,3 +120,9 @@ module _ (s : Sheet) (ids : List ℕ) (xs : List Float) (n demand : ℕ) (hs : H
           hv .squares,
           hv .waitsum,
         )
+
+    -- what its cost is made of
+    pub terms-are : (v : Waiters) → HoldsWaiters s j v
+        → termsBy (s .policy) (s .car i) (goal s i) (r .count) dests sides v demand xs n (stopAt s j) ≡ etdTerms s i j
+    unfolding termsBy fairCostBy etdTerms travelTime
+    terms-are v hv = rw (intervening-is, delay-is, cost-is, hv .squares, hv .waitsum)

@@ -28,16 +28,13 @@ use Rattle.dispatch.specs.Useful.{pairIsUseful}
 use Rattle.dispatch.specs.Waits.{withBonus, waitTicksSum, waitTicksSquaredSum}
 use Rattle.dispatch.specs.Admitted.{Admitted, Placed, placed, grow, fma-size, withBonus-size, withBonus-nonneg, zero-size, waitsum-size, squares-size}
 use Rattle.etd.specs.Etd.{intervenes, doorCost, extraDelay, addDelay, isAhead, movingBonus, directionBonus, weighted, travelTime}
-use Rattle.etd.specs.Etd.{interveningStops, riderDelay, computeCost, etdRank}
+use Rattle.etd.specs.Etd.{interveningStops, riderDelay, computeCost, fairCost, etdRank}
 use Rattle.dispatch.specs.FiniteRank.{finiteRank, ranked}
 
 -- ---- on every sheet
 
 module _ (s : Sheet) (i j : ℕ) where
-  abbrev pub fairCost : Float
-  fairCost = withBonus (withBonus (computeCost s i j) (s .policy .w3) (waitTicksSquaredSum s j)) (s .policy .w4) (waitTicksSum s j)
-
-  cost-nonneg : le Num.zero fairCost ≡ true
+  cost-nonneg : le Num.zero (fairCost s i j) ≡ true
   unfolding computeCost weighted
   cost-nonneg =
       withBonus-nonneg (withBonus (computeCost s i j) (s .policy .w3) (waitTicksSquaredSum s j)) (s .policy .w4) (waitTicksSum s j)
@@ -47,7 +44,7 @@ module _ (s : Sheet) (i j : ℕ) where
   pub etd-nonneg : (x : Float) → etdRank s i j ≡ Cost x → (le Num.zero x ≡ true) × (finite x ≡ true)
   unfolding etdRank
   etd-nonneg x h =
-      let (e, f) = ranked (pairIsUseful s i j false && lt Num.zero (s .car i .speed)) fairCost x h in (rw e at cost-nonneg, rw e at f)
+      let (e, f) = ranked (pairIsUseful s i j false && lt Num.zero (s .car i .speed)) (fairCost s i j) x h in (rw e at cost-nonneg, rw e at f)
 
 -- ---- in the admitted ranges
 

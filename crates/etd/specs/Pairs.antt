@@ -23,6 +23,7 @@ use Rattle.manifest.specs.Stops.{pointIn}
 use Rattle.riders.specs.declared.Riders.{Riders}
 use Rattle.dispatch.specs.Waits.{withBonus}
 use Rattle.dispatch.specs.Pairs.{usefulBy}
+use Rattle.etd.specs.declared.Terms.{Terms}
 use Rattle.etd.specs.Etd.{intervenes, doorCost, extraDelay, isAhead, movingBonus, directionBonus, weighted}
 use Rattle.dispatch.specs.FiniteRank.{finiteRank}
 
@@ -71,14 +72,45 @@ unfoldable pub fairCostBy : Policy → Car → Place → ℕ → List Float → 
 fairCostBy y c goal count dests sides w demand xs n p =
     withBonus (withBonus (costBy y c goal count dests sides demand xs n p) (y .w3) (w .squares)) (y .w4) (w .waitsum)
 
-pub fair-by : (y : Policy) (c : Car) (goal : Place) (count : ℕ) (dests sides : List Float) (w : Waiters) (demand : ℕ) (xs : List Float) (n : ℕ)
-    (p : Point) {cost squared r : Float}
-    → cost ≡ costBy y c goal count dests sides demand xs n p → squared ≡ withBonus cost (y .w3) (w .squares)
-    → r ≡ withBonus squared (y .w4) (w .waitsum)
-    → r ≡ fairCostBy y c goal count dests sides w demand xs n p
-unfolding fairCostBy
-fair-by y c goal count dests sides w demand xs n p ec es er =
-    er ∙ ap (λ (x : Float). withBonus x (y .w4) (w .waitsum)) (es ∙ ap (λ (x : Float). withBonus x (y .w3) (w .squares)) ec)
+-- what the cost is made of
+unfoldable pub termsBy : Policy → Car → Place → ℕ → List Float → List Float → Waiters → ℕ → List Float → ℕ → Point → Terms
+termsBy y c goal count dests sides w demand xs n p =
+    record {
+      travel = over (distance (c .position) p) (c .speed);
+      delay = delayIn (c .position) p (c .speed) dests sides count;
+      doors = doorCost (interveningIn (c .position .along) (p .along) demand xs n) (c .transition) (c .dwell) (y .rate);
+      bonus = directionBonus (c .phase) goal (c .position .along) (p .along) (over (distance (c .position) p) (c .speed));
+      squares = w .squares;
+      waitsum = w .waitsum;
+      sum = costBy y c goal count dests sides demand xs n p;
+      cost = fairCostBy y c goal count dests sides w demand xs n p;
+    }
+
+module _ (y : Policy) (c : Car) (goal : Place) (count : ℕ) (dests sides : List Float) (w : Waiters) (demand : ℕ) (xs : List Float) (n : ℕ) (p : Point)
+  where
+  pub cost-by : {t : Terms} → t ≡ termsBy y c goal count dests sides w demand xs n p → t .cost ≡ fairCostBy y c goal count dests sides w demand xs n p
+  unfolding termsBy
+  cost-by e = ap (λ (t : Terms). t .cost) e
+
+  -- term by term
+  pub terms-by : {away riders doors bonus whole squared fair : Float} {stops : ℕ}
+      → away ≡ distance (c .position) p → stops ≡ interveningIn (c .position .along) (p .along) demand xs n
+      → doors ≡ doorCost stops (c .transition) (c .dwell) (y .rate) → riders ≡ delayIn (c .position) p (c .speed) dests sides count
+      → bonus ≡ directionBonus (c .phase) goal (c .position .along) (p .along) (over away (c .speed))
+      → whole ≡ weighted (y .w0) (y .w1) (y .w2) (over away (c .speed)) riders doors bonus
+      → squared ≡ withBonus whole (y .w3) (w .squares) → fair ≡ withBonus squared (y .w4) (w .waitsum)
+      → record {
+        travel = over away (c .speed);
+        delay = riders;
+        doors = doors;
+        bonus = bonus;
+        squares = w .squares;
+        waitsum = w .waitsum;
+        sum = whole;
+        cost = fair;
+      } ≡ termsBy y c goal count dests sides w demand xs n p
+  unfolding termsBy costBy fairCostBy
+  terms-by ea es ed er eb ew eq ef = rw (ef, eq, ew, eb, er, ed, es, ea)
 
 -- rank, of stop j
 unfoldable pub rankBy : Policy → Car → Place → Riders → List Float → List Float → Waiters → ℕ → List Float → ℕ → ℕ → Rank

@@ -7,7 +7,7 @@ ghost use lib.Ieee.{lt};
 ghost use Rattle.laws.specs.Bools.{bit};
 ghost use Rattle.mask.specs.Mask.{has};
 ghost use Rattle.etd.specs.Etd.{intervenes, doorCost, extraDelay, isAhead, movingBonus, directionBonus, weighted};
-ghost use Rattle.etd.specs.Pairs.{interveningIn, delayIn, costBy, fairCostBy, rankBy};
+ghost use Rattle.etd.specs.Pairs.{interveningIn, delayIn, termsBy, rankBy};
 use components::Car;
 use components::Phase;
 use components::Place;
@@ -16,6 +16,19 @@ use components::Policy;
 use components::Rank;
 use manifest::Waiters;
 use riders::Riders;
+
+// What a cost is made of: the seconds to the stop, those that riders aboard lose, those of halts between, and the bonus; their weighted sum; what was
+// waited at the stop, squared and plain; and the cost.
+pub struct Terms {
+    pub travel: f64,
+    pub delay: f64,
+    pub doors: f64,
+    pub bonus: f64,
+    pub squares: f64,
+    pub waitsum: f64,
+    pub sum: f64,
+    pub cost: f64,
+}
 
 fn upper(x: f64, p: f64) -> f64
     ensures { λ r. ⌜ r ≡ cond (lt x p) p x ⌝ }
@@ -156,35 +169,8 @@ fn weighted(
     fp::max_zero(fp::fma(wait, travel, b))
 }
 
-// compute_cost, of a stop at p, for a car whose riders go to the first count points of dests and sides.
-fn compute_cost(
-    policy: Policy,
-    car: Car,
-    goal: Place,
-    count: usize,
-    dests: &[f64],
-    sides: &[f64],
-    demand: u64,
-    xs: &[f64],
-    n: usize,
-    p: Point,
-) -> f64
-    requires { ⌜ (count ≤ length (now dests)) × (count ≤ length (now sides)) × (n ≤ 64) × (n ≤ length (now xs)) ⌝ }
-    ensures { λ r. ⌜ r ≡ costBy policy car goal count (now (dests .entry)) (now (sides .entry)) demand (now (xs .entry)) n p ⌝ }
-{
-    let x = car.position;
-    let speed = car.speed;
-    let phase = car.phase;
-    let travel = x.distance(p) / speed;
-    let stops = intervening_stops(x.along, p.along, demand, xs, n);
-    let doors = door_cost(stops, car.transition, car.dwell, policy.rate);
-    let delay = existing_rider_delay(x, p, speed, dests, sides, count);
-    let bonus = direction_bonus(phase, goal, x.along, p.along, travel);
-    weighted(policy.w0, policy.w1, policy.w2, travel, delay, doors, bonus)
-}
-
-// The cost less both fairness bonuses.
-fn fair_cost(
+// compute_cost, of a stop at p, for a car whose riders go to the first count points of dests and sides; then less both fairness bonuses.
+pub fn cost_terms(
     policy: Policy,
     car: Car,
     goal: Place,
@@ -196,13 +182,30 @@ fn fair_cost(
     xs: &[f64],
     n: usize,
     p: Point,
-) -> f64
+) -> Terms
     requires { ⌜ (count ≤ length (now dests)) × (count ≤ length (now sides)) × (n ≤ 64) × (n ≤ length (now xs)) ⌝ }
-    ensures { λ r. ⌜ r ≡ fairCostBy policy car goal count (now (dests .entry)) (now (sides .entry)) waiters demand (now (xs .entry)) n p ⌝ }
+    ensures { λ r. ⌜ r ≡ termsBy policy car goal count (now (dests .entry)) (now (sides .entry)) waiters demand (now (xs .entry)) n p ⌝ }
 {
-    let cost = compute_cost(policy, car, goal, count, dests, sides, demand, xs, n, p);
-    let squared = dispatch::with_bonus(cost, policy.w3, waiters.squares);
-    dispatch::with_bonus(squared, policy.w4, waiters.waitsum)
+    let x = car.position;
+    let speed = car.speed;
+    let phase = car.phase;
+    let travel = x.distance(p) / speed;
+    let stops = intervening_stops(x.along, p.along, demand, xs, n);
+    let doors = door_cost(stops, car.transition, car.dwell, policy.rate);
+    let delay = existing_rider_delay(x, p, speed, dests, sides, count);
+    let bonus = direction_bonus(phase, goal, x.along, p.along, travel);
+    let sum = weighted(policy.w0, policy.w1, policy.w2, travel, delay, doors, bonus);
+    let squared = dispatch::with_bonus(sum, policy.w3, waiters.squares);
+    Terms {
+        travel,
+        delay,
+        doors,
+        bonus,
+        squares: waiters.squares,
+        waitsum: waiters.waitsum,
+        sum,
+        cost: dispatch::with_bonus(squared, policy.w4, waiters.waitsum),
+    }
 }
 
 // rank, of stop j of the n at xs.
@@ -229,19 +232,10 @@ pub fn rank(
     let here = mask::has(riders.exits, j);
     if dispatch::pair_is_useful(car, goal, riders, dests, waiters, here, p.along, false) {
         if car.speed > 0.0 {
-            dispatch::finite_rank(fair_cost(
-                policy,
-                car,
-                goal,
-                count,
-                dests,
-                sides,
-                waiters,
-                demand,
-                xs,
-                n,
-                p,
-            ))
+            let t = cost_terms(
+                policy, car, goal, count, dests, sides, waiters, demand, xs, n, p,
+            );
+            dispatch::finite_rank(t.cost)
         } else {
             Rank::Never
         }

@@ -23,8 +23,8 @@ use Rattle.sweep.specs.Sweeps.{sweepRank}
 use Rattle.sweep.specs.SweepRange.{sweep-nonneg}
 use Rattle.dispatch.specs.Useful.{pairIsUseful}
 use Rattle.dispatch.specs.Admitted.{Admitted}
-use Rattle.etd.specs.Etd.{etdRank}
-use Rattle.etd.specs.EtdRange.{fairCost, etd-nonneg, etd-ranked}
+use Rattle.etd.specs.Etd.{etdRank, fairCost}
+use Rattle.etd.specs.EtdRange.{etd-nonneg, etd-ranked}
 use Rattle.rsr.specs.Rsr.{rsrCost, rsrRank}
 use Rattle.rsr.specs.RsrRange.{rsr-nonneg, rsr-ranked}
 use Rattle.assignment.specs.Cells.{byStrategy, sweepAfter, rank}

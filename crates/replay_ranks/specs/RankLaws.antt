@@ -16,22 +16,17 @@ use Rattle.layout.specs.Records.{sheetOf}
 use Rattle.layout.specs.Verdict.{verdict}
 use Rattle.accepted.specs.Accepted.{accepted}
 use Rattle.manifest.specs.declared.Waiters.{Waiters}
-use Rattle.manifest.specs.Holds.{HoldsAboard}
 use Rattle.manifest.specs.Stops.{HoldsStops}
 use Rattle.assignment.specs.Cells.{rank}
-use Rattle.pending.specs.declared.StopMasks.{StopMasks}
-use Rattle.pending.specs.Masks.{masksOf}
 use Rattle.ranking.specs.declared.Row.{Row}
 use Rattle.ranking.specs.Ranking.{rankBy}
 use Rattle.ranking.specs.RankingLaws.{HoldsRow, rank-is}
 use Rattle.rows.specs.RowLaws.{noWaiters}
-use Rattle.rows.specs.HeldLaws.{Held}
 use Rattle.rows.specs.Gathered.{gatheredOf, gathered-held}
 use Rattle.cells.specs.Survey.{weighed-of}
 use Rattle.replay_ranks.specs.declared.Answer.{Answer}
 use Rattle.replay_ranks.specs.declared.Pair.{Pair}
 use Rattle.replay_ranks.specs.Ranks.{bitsOf, answerFor, same, differs}
-use Rattle.accepted.specs.Ids.{rising-of}
 
 -- ---- bits
 
@@ -70,18 +65,6 @@ disagrees s p {a} {b} ea eb e = ap (λ (z : Bool). bit (not z)) (sym e ∙ eb �
 
 module _ (bytes : List ℕ) (c : Counts) (e : verdict bytes ≡ Accepted c) (ids : List ℕ) (xs : List Float)
     (hs : HoldsStops (sheetOf bytes c) ids xs (sheetOf bytes c .stops)) where
-  pub held : (acar adest : List ℕ) → HoldsAboard (sheetOf bytes c) acar adest (sheetOf bytes c .aboards) → (masks : StopMasks)
-      → masks ≡ masksOf (sheetOf bytes c)
-      → Held (sheetOf bytes c) ids xs acar adest masks
-  held acar adest ha masks em =
-      record {
-        stops-held = hs;
-        aboard-held = ha;
-        rising = rising-of bytes c e;
-        few = accepted bytes c e .sheet .most-stops;
-        masks-are = em;
-      }
-
   pub ranked : (i j limit : ℕ) → i < sheetOf bytes c .cars → j < sheetOf bytes c .stops → (row : Row) {dests sides : List Float}
       → HoldsRow (sheetOf bytes c) i limit row dests sides
       → (waiters : List Waiters) → waiters ≡ gatheredOf (sheetOf bytes c)

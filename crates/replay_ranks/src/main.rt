@@ -111,26 +111,10 @@ fn rank_by<'a>(
     requires { ⌜ SeenStops (sheetOf (now s) c) (now ids) (now xs) masks ⌝ }
     ensures { λ r. ⌜ r ≡ rank (sheetOf (now (s .entry)) c) i j ⌝ }
 {
-    let mut acar = [0u32; 512];
-    let mut adest = [0u32; 512];
     let mut dests = [0.0f64; 512];
     let mut sides = [0.0f64; 512];
-    cells::fill_aboard(s, c, &mut acar, &mut adest);
+    let row = cells::row_of(s, c, i, 65535, ids, xs, masks, &mut dests, &mut sides);
     let waiters = cells::waiting(s, c, ids, xs, masks.calls);
-    let car = sheet::car_at(s, c, i);
-    let row = rows::row_for(
-        s,
-        c,
-        car,
-        65535,
-        ids,
-        xs,
-        &acar,
-        &adest,
-        masks,
-        &mut dests,
-        &mut sides,
-    );
     let v = waiters[j];
     ranking::rank(row, &dests, &sides, v, xs, c.stops as usize, j)
 }

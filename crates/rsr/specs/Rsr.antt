@@ -1,5 +1,6 @@
 -- RSR: rsr.rs, with its order of operations. F-12: "Directions .. use the first coordinate." Assumes nothing.
 use Prim.Native.Nat.{ℕ}
+use mathlib.Core.Path.{_≡_, ap}
 use mathlib.Core.Bool.{Bool, true, false, not, _&&_, _||_, cond}
 use lib.Ieee.{Float, lt, le}
 use Rattle.fp.specs.Num.{zero, one, plus, minus, times, over, maxZero}
@@ -21,6 +22,7 @@ use Rattle.manifest.specs.World.{stopAt, goal}
 use Rattle.dispatch.specs.Useful.{pairIsUseful}
 use Rattle.dispatch.specs.Waits.{waitTicksSum, withBonus}
 use Rattle.dispatch.specs.FiniteRank.{finiteRank}
+use Rattle.rsr.specs.declared.Terms.{Terms}
 
 -- ---- on values: x the car's first coordinate, p the stop's
 
@@ -65,11 +67,56 @@ rsrCostOf y c goal waited call p =
     let aged = withBonus loaded (y .w4) waited in
     maxZero aged
 
+-- what it is made of: the running cost after each term
+unfoldable pub rsrTermsOf : Policy → Car → Place → Float → Bool → Point → Terms
+rsrTermsOf y c goal waited call p =
+    let eta = times (y .w0) (over (distance (c .position) p) (c .speed)) in
+    let reversed = withPenalty eta (y .w1) (peakScaling (y .traffic) (y .w5)) (wrongDirection goal (c .position .along) (p .along)) in
+    let called = withCoincidentCall reversed (y .w2) call in
+    let loaded = withLoad called (y .w3) (isIdle (c .phase)) (c .load) (c .capacity) in
+    record {
+      travel = over (distance (c .position) p) (c .speed);
+      eta = eta;
+      reversed = reversed;
+      called = called;
+      loaded = loaded;
+      waitsum = waited;
+      aged = withBonus loaded (y .w4) waited;
+      cost = rsrCostOf y c goal waited call p;
+    }
+
+module _ (y : Policy) (c : Car) (goal : Place) (waited : Float) (call : Bool) (p : Point) where
+  pub cost-by : {t : Terms} → t ≡ rsrTermsOf y c goal waited call p → t .cost ≡ rsrCostOf y c goal waited call p
+  unfolding rsrTermsOf
+  cost-by e = ap (λ (t : Terms). t .cost) e
+
+  -- term by term
+  pub terms-by : {away scaling reversed called loaded aged cost : Float} {wrong idle : Bool}
+      → away ≡ distance (c .position) p → scaling ≡ peakScaling (y .traffic) (y .w5) → wrong ≡ wrongDirection goal (c .position .along) (p .along)
+      → reversed ≡ withPenalty (times (y .w0) (over away (c .speed))) (y .w1) scaling wrong → called ≡ withCoincidentCall reversed (y .w2) call
+      → idle ≡ isIdle (c .phase) → loaded ≡ withLoad called (y .w3) idle (c .load) (c .capacity) → aged ≡ withBonus loaded (y .w4) waited
+      → cost ≡ maxZero aged
+      → record {
+        travel = over away (c .speed);
+        eta = times (y .w0) (over away (c .speed));
+        reversed = reversed;
+        called = called;
+        loaded = loaded;
+        waitsum = waited;
+        aged = aged;
+        cost = cost;
+      } ≡ rsrTermsOf y c goal waited call p
+  unfolding rsrTermsOf rsrCostOf
+  terms-by ea es ew er ec ei el eg eo = rw (eo, eg, el, ei, ec, er, ew, es, ea)
+
 -- ---- over a sheet
 
 module _ (s : Sheet) (i j : ℕ) where
   abbrev pub rsrCost : Float
   rsrCost = rsrCostOf (s .policy) (s .car i) (goal s i) (waitTicksSum s j) (has (s .car i .calls) j) (stopAt s j)
+
+  abbrev pub rsrTerms : Terms
+  rsrTerms = rsrTermsOf (s .policy) (s .car i) (goal s i) (waitTicksSum s j) (has (s .car i .calls) j) (stopAt s j)
 
   -- rank. "Speed 0 gives ETD and RSR no rank"
   unfoldable pub rsrRank : Rank

@@ -3,7 +3,7 @@ ghost use mathlib.Core.Path.{_≡_};
 ghost use Prim.Native.Nat.{_+_, _≤_, _<_};
 ghost use lib.ListN.{length};
 ghost use Rattle.components.specs.declared.Place.the-variants.{At};
-ghost use Rattle.rsr.specs.Rsr.{wrongDirection, peakScaling, withPenalty, withCoincidentCall, heldRatio, withLoad, rsrCostOf};
+ghost use Rattle.rsr.specs.Rsr.{wrongDirection, peakScaling, withPenalty, withCoincidentCall, heldRatio, withLoad, rsrTermsOf};
 ghost use Rattle.rsr.specs.Pairs.{rankBy};
 use components::Car;
 use components::Place;
@@ -13,6 +13,19 @@ use components::Rank;
 use components::Traffic;
 use manifest::Waiters;
 use riders::Riders;
+
+// What a cost is made of: the seconds to the stop; the running cost by them, then after the wrong direction, the call, the load and the ticks waited at
+// the stop; and the cost.
+pub struct Terms {
+    pub travel: f64,
+    pub eta: f64,
+    pub reversed: f64,
+    pub called: f64,
+    pub loaded: f64,
+    pub waitsum: f64,
+    pub aged: f64,
+    pub cost: f64,
+}
 
 // Whether a car that moves from x to g moves away from a stop at p.
 fn moves_away(g: Point, x: f64, p: f64) -> bool
@@ -88,19 +101,20 @@ fn with_load(cost: f64, weight: f64, idle: bool, load: f64, capacity: f64) -> f6
 }
 
 // The cost of a stop at p for which the car has a call, or not.
-fn compute_cost(
+pub fn cost_terms(
     policy: Policy,
     car: Car,
     goal: Place,
     waiters: Waiters,
     call: bool,
     p: Point,
-) -> f64
-    ensures { λ r. ⌜ r ≡ rsrCostOf policy car goal (waiters .waitsum) call p ⌝ }
+) -> Terms
+    ensures { λ r. ⌜ r ≡ rsrTermsOf policy car goal (waiters .waitsum) call p ⌝ }
 {
     let x = car.position;
     let traffic = policy.traffic;
-    let eta = policy.w0 * (x.distance(p) / car.speed);
+    let travel = x.distance(p) / car.speed;
+    let eta = policy.w0 * travel;
     let scaling = peak_scaling(traffic, policy.w5);
     let wrong = wrong_direction(goal, x.along, p.along);
     let reversed = with_penalty(eta, policy.w1, scaling, wrong);
@@ -108,7 +122,16 @@ fn compute_cost(
     let phase = car.phase;
     let loaded = with_load(called, policy.w3, phase.is_idle(), car.load, car.capacity);
     let aged = dispatch::with_bonus(loaded, policy.w4, waiters.waitsum);
-    fp::max_zero(aged)
+    Terms {
+        travel,
+        eta,
+        reversed,
+        called,
+        loaded,
+        waitsum: waiters.waitsum,
+        aged,
+        cost: fp::max_zero(aged),
+    }
 }
 
 // rank, of stop j of the n at xs.
@@ -132,7 +155,8 @@ pub fn rank(
         if car.speed <= 0.0 {
             Rank::Never
         } else {
-            dispatch::finite_rank(compute_cost(policy, car, goal, waiters, call, p))
+            let t = cost_terms(policy, car, goal, waiters, call, p);
+            dispatch::finite_rank(t.cost)
         }
     } else {
         Rank::Never

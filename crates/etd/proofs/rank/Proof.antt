@@ -8,7 +8,7 @@ use Rattle.components.specs.declared.Rank.{Rank}
 use Rattle.components.specs.declared.Rank.the-variants.{Never}
 use Rattle.dispatch.specs.Pairs.{usefulBy}
 use Rattle.dispatch.specs.FiniteRank.{finiteRank}
-use Rattle.etd.specs.Pairs.{fairCostBy, rankBy}
+use Rattle.etd.specs.Pairs.{fairCostBy, rankBy, cost-by}
 use Rattle.fp.specs.Num.{zero}
 use Rattle.manifest.specs.Stops.{pointIn}
 use Rattle.manifest.specs.declared.Waiters.{Waiters}
@@ -61,7 +61,7 @@ returns c =
     let a = asked .before .before .before .before .before .before .args in
     moves (a .policy) (a .car) (a .goal) (a .riders) (a .dests .now) (a .sides .now) (a .waiters) (a .demand) (a .xs .now) (a .n) (a .j)
     (asked .before .before .point .ensures) (asked .before .has .ensures) (asked .pair-is-useful .ensures)
-    (c .before .before .before .before .if1 .taken) (c .before .before .if2 .taken) (c .before .fair-cost .ensures) (c .finite-rank .ensures)
+    (c .before .before .before .before .if1 .taken) (c .before .before .if2 .taken) (cost-by (a .policy) (a .car) (a .goal) (a .riders .count) (a .dests .now) (a .sides .now) (a .waiters) (a .demand) (a .xs .now) (a .n) _ (c .before .cost-terms .ensures)) (c .finite-rank .ensures)
 
 returns-2 : tie.Need-returns-2
 returns-2 c =

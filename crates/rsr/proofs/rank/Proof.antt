@@ -14,7 +14,7 @@ use Rattle.manifest.specs.declared.Waiters.{Waiters}
 use Rattle.mask.specs.Mask.{has}
 use Rattle.riders.specs.declared.Riders.{Riders}
 use Rattle.rsr.specs.Pairs.{rankBy}
-use Rattle.rsr.specs.Rsr.{rsrCostOf}
+use Rattle.rsr.specs.Rsr.{rsrCostOf, cost-by}
 use borrow.Author.Needs.{needs}
 use lib.Ieee.{Float, le}
 use mathlib.Core.Bool.{Bool, true, false}
@@ -70,7 +70,7 @@ returns-2 c =
     let a = asked .before .before .before .before .before .before .args in
     moves (a .policy) (a .car) (a .goal) (a .riders) (a .dests .now) (a .waiters) (a .xs .now) (a .j) (asked .before .before .before .point .ensures) (asked .before .before .has .ensures)
     (asked .before .has2 .ensures) (asked .pair-is-useful .ensures) (c .before .before .before .before .if1 .taken)
-    (c .before .before .if2 .left) (c .before .compute-cost .ensures) (c .finite-rank .ensures)
+    (c .before .before .if2 .left) (cost-by (a .policy) (a .car) (a .goal) (a .waiters .waitsum) _ _ (c .before .cost-terms .ensures)) (c .finite-rank .ensures)
 
 returns-3 : tie.Need-returns-3
 returns-3 c =
