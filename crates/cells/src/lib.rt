@@ -158,7 +158,17 @@ pub fn row_of<'a>(
     fill_aboard(s, c, &mut acar, &mut adest);
     let car = sheet::car_at(s, c, i);
     rows::row_for(
-        s, c, car, limit, ids, xs, &acar, &adest, masks, dests, sides,
+        s,
+        c,
+        car,
+        limit,
+        ids,
+        xs,
+        &acar,
+        &adest,
+        masks,
+        dests,
+        sides,
     )
 }
 

@@ -88,29 +88,29 @@ termsBy y c goal count dests sides w demand xs n p =
 
 module _ (y : Policy) (c : Car) (goal : Place) (count : ℕ) (dests sides : List Float) (w : Waiters) (demand : ℕ) (xs : List Float) (n : ℕ) (p : Point)
   where
-  pub cost-by : {t : Terms} → t ≡ termsBy y c goal count dests sides w demand xs n p → t .cost ≡ fairCostBy y c goal count dests sides w demand xs n p
-  unfolding termsBy
-  cost-by e = ap (λ (t : Terms). t .cost) e
+    pub cost-by : {t : Terms} → t ≡ termsBy y c goal count dests sides w demand xs n p → t .cost ≡ fairCostBy y c goal count dests sides w demand xs n p
+    unfolding termsBy
+    cost-by e = ap (λ (t : Terms). t .cost) e
 
-  -- term by term
-  pub terms-by : {away riders doors bonus whole squared fair : Float} {stops : ℕ}
-      → away ≡ distance (c .position) p → stops ≡ interveningIn (c .position .along) (p .along) demand xs n
-      → doors ≡ doorCost stops (c .transition) (c .dwell) (y .rate) → riders ≡ delayIn (c .position) p (c .speed) dests sides count
-      → bonus ≡ directionBonus (c .phase) goal (c .position .along) (p .along) (over away (c .speed))
-      → whole ≡ weighted (y .w0) (y .w1) (y .w2) (over away (c .speed)) riders doors bonus
-      → squared ≡ withBonus whole (y .w3) (w .squares) → fair ≡ withBonus squared (y .w4) (w .waitsum)
-      → record {
-        travel = over away (c .speed);
-        delay = riders;
-        doors = doors;
-        bonus = bonus;
-        squares = w .squares;
-        waitsum = w .waitsum;
-        sum = whole;
-        cost = fair;
-      } ≡ termsBy y c goal count dests sides w demand xs n p
-  unfolding termsBy costBy fairCostBy
-  terms-by ea es ed er eb ew eq ef = rw (ef, eq, ew, eb, er, ed, es, ea)
+    -- term by term
+    pub terms-by : {away riders doors bonus whole squared fair : Float} {stops : ℕ}
+        → away ≡ distance (c .position) p → stops ≡ interveningIn (c .position .along) (p .along) demand xs n
+        → doors ≡ doorCost stops (c .transition) (c .dwell) (y .rate) → riders ≡ delayIn (c .position) p (c .speed) dests sides count
+        → bonus ≡ directionBonus (c .phase) goal (c .position .along) (p .along) (over away (c .speed))
+        → whole ≡ weighted (y .w0) (y .w1) (y .w2) (over away (c .speed)) riders doors bonus
+        → squared ≡ withBonus whole (y .w3) (w .squares) → fair ≡ withBonus squared (y .w4) (w .waitsum)
+        → record {
+          travel = over away (c .speed);
+          delay = riders;
+          doors = doors;
+          bonus = bonus;
+          squares = w .squares;
+          waitsum = w .waitsum;
+          sum = whole;
+          cost = fair;
+        } ≡ termsBy y c goal count dests sides w demand xs n p
+    unfolding termsBy costBy fairCostBy
+    terms-by ea es ed er eb ew eq ef = rw (ef, eq, ew, eb, er, ed, es, ea)
 
 -- rank, of stop j
 unfoldable pub rankBy : Policy → Car → Place → Riders → List Float → List Float → Waiters → ℕ → List Float → ℕ → ℕ → Rank

@@ -233,7 +233,17 @@ pub fn rank(
     if dispatch::pair_is_useful(car, goal, riders, dests, waiters, here, p.along, false) {
         if car.speed > 0.0 {
             let t = cost_terms(
-                policy, car, goal, count, dests, sides, waiters, demand, xs, n, p,
+                policy,
+                car,
+                goal,
+                count,
+                dests,
+                sides,
+                waiters,
+                demand,
+                xs,
+                n,
+                p,
             );
             dispatch::finite_rank(t.cost)
         } else {

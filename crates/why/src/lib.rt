@@ -113,7 +113,17 @@ fn terms_of<'a>(
     let strategy = policy.strategy;
     match strategy {
         Strategy::Etd => etd_slots(etd::cost_terms(
-            policy, car, goal, count, dests, sides, v, row.demand, xs, n, p,
+            policy,
+            car,
+            goal,
+            count,
+            dests,
+            sides,
+            v,
+            row.demand,
+            xs,
+            n,
+            p,
         )),
         Strategy::Rsr => rsr_slots(rsr::cost_terms(policy, car, goal, v, call, p)),
         Strategy::Scan => scan_slots(x.distance(p)),
@@ -138,32 +148,13 @@ fn rank_reason(obstacle: u32, rank: Rank) -> u32
     ensures { λ r. ⌜ r ≡ rankReason obstacle rank ⌝ }
 {
     match rank {
-        Rank::Never => {
-            if obstacle == 0 {
-                12
-            } else {
-                7 + obstacle
-            }
-        }
-        Rank::Cost(_) => {
-            if obstacle == 0 {
-                0
-            } else {
-                7 + obstacle
-            }
-        }
+        Rank::Never => { if obstacle == 0 { 12 } else { 7 + obstacle } }
+        Rank::Cost(_) => { if obstacle == 0 { 0 } else { 7 + obstacle } }
     }
 }
 
 // The first reason in the order in which a pass asks.
-fn first_reason(
-    listed: bool,
-    waits: bool,
-    served: bool,
-    shut: bool,
-    near: bool,
-    rest: u32,
-) -> u32
+fn first_reason(listed: bool, waits: bool, served: bool, shut: bool, near: bool, rest: u32) -> u32
     ensures { λ r. ⌜ r ≡ firstReason listed waits served shut near rest ⌝ }
 {
     if listed {
@@ -209,7 +200,14 @@ fn reason_of<'a>(
     let rank = ranking::rank(row, dests, sides, v, xs, n, j);
     let shut = mask::has(car.restricted, j);
     let near = mask::has(row.kept, j);
-    first_reason(car.listed, waits, served, shut, near, rank_reason(obstacle, rank))
+    first_reason(
+        car.listed,
+        waits,
+        served,
+        shut,
+        near,
+        rank_reason(obstacle, rank),
+    )
 }
 
 // A reason of 0 is a rank.
