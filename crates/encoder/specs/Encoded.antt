@@ -15,7 +15,7 @@ use Rattle.components.specs.declared.Kind.the-variants as kind
 use Rattle.components.specs.Codes.{kindCode}
 use Rattle.layout.specs.Offsets.{bodyLength, acrossIn}
 use Rattle.layout.specs.Table.{Field, record·kind, record·stated, row}
-use Rattle.encoder.specs.Values.{policyValues, stopValues, lineValues, carValues, aboardValues, waitingValues, demandValues, closedValues}
+use Rattle.values.specs.Values.{policyValues, stopValues, lineValues, carValues, aboardValues, waitingValues, demandValues, closedValues}
 
 -- fields of what starts at bit at, each with its number
 unfoldable pub fieldsPut : List ℕ → ℕ → List Field → List ℕ → List ℕ

@@ -1,3 +1,3 @@
 -- A record's fields put at a bit.
-pub mod Values
 pub mod Encoded
+pub mod EncodedLaws

@@ -1,15 +1,12 @@
 // The records of a sheet, each put in place at the bit where it starts: what the crate records reads, the other way round. Where second coordinates
-// have some bits, none or 64, a stop and a car have one.
-mod car;
-pub mod codes;
-mod parts;
+// have some bits, none or 64, a stop has one; the crate encoder_car has the car.
+pub mod parts;
 mod policy;
 
 ghost use mathlib.Core.Path.{_≡_};
 ghost use Prim.Native.Nat.{_≤_};
-ghost use Rattle.encoder.specs.Encoded.{policyAt, stopAt, lineAt, carAt, aboardAt, waitingAt, demandAt, closedAt};
+ghost use Rattle.encoder.specs.Encoded.{policyAt, stopAt, lineAt, aboardAt, waitingAt, demandAt, closedAt};
 use components::Aboard;
-use components::Car;
 use components::Demand;
 use components::Kind;
 use components::Line;
@@ -53,18 +50,6 @@ pub fn put_line(s: &mut [u8], at: u32, across: u32, x: Line)
     put(s, at, line::SERVES, 64, x.serves);
 }
 
-pub fn put_car(s: &mut [u8], at: u32, across: u32, x: Car)
-    requires { ⌜ across ≤ 64 ⌝ }
-    ensures { λ _. ⌜ now (s .exit) ≡ carAt (now (s .entry)) at across x ⌝ }
-{
-    parts::put_front(s, at, across, Kind::Car);
-    car::put_errand(s, at, x);
-    car::put_flags(s, at, x);
-    car::put_motion(s, at, across, x);
-    car::put_thresholds(s, at, across, x);
-    car::put_doors(s, at, across, x);
-}
-
 pub fn put_aboard(s: &mut [u8], at: u32, across: u32, x: Aboard)
     requires { ⌜ across ≤ 64 ⌝ }
     ensures { λ _. ⌜ now (s .exit) ≡ aboardAt (now (s .entry)) at across x ⌝ }
@@ -105,7 +90,7 @@ pub fn put_demand(s: &mut [u8], at: u32, across: u32, x: Demand)
     parts::put_front(s, at, across, Kind::Demand);
     put(s, at, demand::STOP, 32, x.stop as u64);
     put(s, at, demand::RIDING, 16, x.riding as u64);
-    put(s, at, demand::CALL, 1, codes::bit_of(x.call));
+    put(s, at, demand::CALL, 1, values::bit_of(x.call));
 }
 
 // A closed landing: the stop's id.

@@ -6,9 +6,8 @@ ghost use Rattle.components.specs.Codes.{kindCode};
 ghost use Rattle.layout.specs.Offsets.{bodyLength, acrossIn};
 ghost use Rattle.layout.specs.Table.{field, record·kind, record·stated};
 ghost use Rattle.put.specs.Put.{putAt};
-ghost use Rattle.encoder.specs.Values.{bitsOf, present};
+ghost use Rattle.values.specs.Values.{bitsOf, present};
 ghost use Rattle.encoder.specs.Encoded.{fieldsPut};
-use crate::codes;
 use components::Kind;
 use components::Point;
 use layout::record;
@@ -35,7 +34,7 @@ pub fn put_point(s: &mut [u8], at: u32, along: u32, across: u32, bits: u32, p: P
 pub fn put_optional(s: &mut [u8], at: u32, has: u32, off: u32, id: u32)
     ensures { λ _. ⌜ now (s .exit) ≡ fieldsPut (now (s .entry)) at (field has 1 ∷ field off 32 ∷ []) (present id ∷ id ∷ []) ⌝ }
 {
-    put(s, at, has, 1, codes::bit_of(id != 0));
+    put(s, at, has, 1, values::bit_of(id != 0));
     put(s, at, off, 32, id as u64);
 }
 
@@ -45,6 +44,6 @@ pub fn put_front(s: &mut [u8], at: u32, across: u32, kind: Kind)
     ensures { λ _. ⌜ now (s .exit) ≡ fieldsPut (now (s .entry)) at (record·kind ∷ record·stated ∷ [])
         (kindCode kind ∷ (bodyLength kind + acrossIn across kind) ∷ []) ⌝ }
 {
-    put(s, at, record::KIND, 6, codes::kind_code(kind));
+    put(s, at, record::KIND, 6, values::kind_code(kind));
     put(s, at, record::STATED, 16, layout::body_length(kind, across));
 }

@@ -4,9 +4,8 @@ ghost use mathlib.Core.List.{[], _∷_};
 ghost use Rattle.components.specs.Codes.{strategyCode, trafficCode};
 ghost use Rattle.layout.specs.Table.{policy·strategy, policy·limit, policy·rate, policy·traffic};
 ghost use Rattle.layout.specs.Table.{policy·w0, policy·w1, policy·w2, policy·w3, policy·w4, policy·w5};
-ghost use Rattle.encoder.specs.Values.{bitsOf};
+ghost use Rattle.values.specs.Values.{bitsOf};
 ghost use Rattle.encoder.specs.Encoded.{fieldsPut};
-use crate::codes;
 use crate::parts::put_double;
 use components::Policy;
 use layout::policy;
@@ -19,10 +18,10 @@ pub fn put_terms(s: &mut [u8], at: u32, limit: u16, x: Policy)
 {
     let strategy = x.strategy;
     let traffic = x.traffic;
-    put(s, at, policy::STRATEGY, 2, codes::strategy_code(strategy));
+    put(s, at, policy::STRATEGY, 2, values::strategy_code(strategy));
     put(s, at, policy::LIMIT, 16, limit as u64);
     put_double(s, at, policy::RATE, x.rate);
-    put(s, at, policy::TRAFFIC, 2, codes::traffic_code(traffic));
+    put(s, at, policy::TRAFFIC, 2, values::traffic_code(traffic));
 }
 
 pub fn put_weights(s: &mut [u8], at: u32, x: Policy)

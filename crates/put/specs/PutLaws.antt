@@ -4,10 +4,10 @@ use Prim.Native.Nat.{ℕ, zero, suc, _+_, _-_, _*_, _/_, _%_, _^_, _≤_, _<_}
 use mathlib.Core.Path.{_≡_, refl, sym, ap, _∙_, subst}
 use mathlib.Core.List.{List}
 use mathlib.Core.Logic.{⊎-elim, _≢_, _⊎_, inl, inr}
-use native.Mathlib.Nat.{add-suc, add-zero, add-assoc, mul-assoc, pow-suc, pow-zero, mod-lt, mod-eq-of-lt, mul-add, add-mul, mod-one, zero-add, div-one}
+use native.Mathlib.Nat.{add-suc, add-zero, add-assoc, mul-assoc, pow-zero, mod-lt, mod-eq-of-lt, add-mul, mod-one, zero-add, div-one}
 use native.Mathlib.Numerals.{add-one, one-add}
 use native.Mathlib.Omega.{arith}
-use lib.ListN.{length, getD, set, length-set, List·getD-eq-default}
+use lib.ListN.{length, getD, set, length-set}
 use lib.Seq.{getD-set-same, getD-set-other, set-out, set-set, set-getD}
 use lib.Arith.{digits-lt}
 use lib.Pow.{pow-add, pow-pos, split, high, low, field, mod-pow-add, mod-mod-pow, shr-shr, shr-lt}

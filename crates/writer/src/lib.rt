@@ -103,7 +103,7 @@ pub fn put_car(s: &mut [u8], c: Counts, x: Car) -> Put
 {
     let r = room::answer(s.len(), c, Kind::Car);
     if room::is_written(r) {
-        encoder::put_car(s, c.end_of(), c.across, x);
+        encoder_car::put_car(s, c.end_of(), c.across, x);
     }
     r
 }

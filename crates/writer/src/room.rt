@@ -51,7 +51,7 @@ pub fn answer(n: usize, c: Counts, kind: Kind) -> Put
     if n < bits::bytes_for(end) {
         return Put::NoRoom;
     }
-    if c.out_of_order(encoder::codes::kind_code(kind)) {
+    if c.out_of_order(values::kind_code(kind)) {
         return Put::OutOfOrder;
     }
     if c.is_full(kind) {

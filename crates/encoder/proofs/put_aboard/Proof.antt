@@ -1,6 +1,6 @@
 -- encoder::put_aboard meets its contract.
 use Rattle.encoder.specs.Encoded.{fieldsPut, recordAt}
-use Rattle.encoder.specs.Values.{aboardValues}
+use Rattle.values.specs.Values.{aboardValues}
 use borrow.Author.Needs.{needs}
 use Rattle.encoder.proofs.put_aboard.Statement.{statement}
 use Rattle.encoder.proofs.put_aboard.Tie as tie

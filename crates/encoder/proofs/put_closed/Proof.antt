@@ -1,6 +1,6 @@
 -- encoder::put_closed meets its contract.
 use Rattle.encoder.specs.Encoded.{fieldsPut, recordAt}
-use Rattle.encoder.specs.Values.{closedValues}
+use Rattle.values.specs.Values.{closedValues}
 use borrow.Author.Needs.{needs}
 use Rattle.encoder.proofs.put_closed.Statement.{statement}
 use Rattle.encoder.proofs.put_closed.Tie as tie

@@ -1,6 +1,6 @@
 -- encoder::put_demand meets its contract.
 use Rattle.encoder.specs.Encoded.{fieldsPut, recordAt}
-use Rattle.encoder.specs.Values.{demandValues}
+use Rattle.values.specs.Values.{demandValues}
 use borrow.Author.Needs.{needs}
 use Rattle.encoder.proofs.put_demand.Statement.{statement}
 use Rattle.encoder.proofs.put_demand.Tie as tie

@@ -1,6 +1,6 @@
 -- encoder::put_line meets its contract.
 use Rattle.encoder.specs.Encoded.{fieldsPut, recordAt}
-use Rattle.encoder.specs.Values.{lineValues}
+use Rattle.values.specs.Values.{lineValues}
 use borrow.Author.Needs.{needs}
 use Rattle.encoder.proofs.put_line.Statement.{statement}
 use Rattle.encoder.proofs.put_line.Tie as tie

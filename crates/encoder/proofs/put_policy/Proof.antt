@@ -1,6 +1,6 @@
 -- encoder::put_policy meets its contract.
 use Rattle.encoder.specs.Encoded.{fieldsPut, recordAt}
-use Rattle.encoder.specs.Values.{policyValues}
+use Rattle.values.specs.Values.{policyValues}
 use borrow.Author.Needs.{needs}
 use Rattle.encoder.proofs.put_policy.Statement.{statement}
 use Rattle.encoder.proofs.put_policy.Tie as tie

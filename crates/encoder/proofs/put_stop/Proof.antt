@@ -1,6 +1,6 @@
 -- encoder::put_stop meets its contract.
 use Rattle.encoder.specs.Encoded.{fieldsPut, recordAt}
-use Rattle.encoder.specs.Values.{stopValues}
+use Rattle.values.specs.Values.{stopValues}
 use borrow.Author.Needs.{needs}
 use Rattle.encoder.proofs.put_stop.Statement.{statement}
 use Rattle.encoder.proofs.put_stop.Tie as tie

@@ -1,6 +1,6 @@
 -- encoder::put_waiting meets its contract.
 use Rattle.encoder.specs.Encoded.{fieldsPut, recordAt}
-use Rattle.encoder.specs.Values.{waitingValues}
+use Rattle.values.specs.Values.{waitingValues}
 use borrow.Author.Needs.{needs}
 use Rattle.encoder.proofs.put_waiting.Statement.{statement}
 use Rattle.encoder.proofs.put_waiting.Tie as tie

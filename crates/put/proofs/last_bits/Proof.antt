@@ -1,9 +1,9 @@
 -- put::last_bits meets its contract.
-use Prim.Native.Nat.{ℕ, _+_, _-_, _*_, _%_, _^_, _≤_}
-use mathlib.Core.Path.{_≡_, refl, _∙_, subst}
+use Prim.Native.Nat.{ℕ, _*_, _%_, _^_, _≤_}
+use mathlib.Core.Path.{_≡_, refl, _∙_}
 use native.Mathlib.Nat.{one-mul, mod-lt}
 use native.Mathlib.Omega.{arith}
-use lib.Bits.{bitAnd, and-mask}
+use lib.Bits.{and-mask}
 use lib.Pow.{shl-exact, pow-pos}
 use borrow.Author.Needs.{needs}
 use Rattle.put.proofs.last_bits.Statement.{statement}

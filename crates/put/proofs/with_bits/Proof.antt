@@ -1,6 +1,6 @@
 -- put::with_bits meets its contract. The sum is the number with the bits inserted, and that is a byte.
 use Prim.Native.Nat.{ℕ, _+_, _-_, _*_, _/_, _%_, _^_, _≤_, _<_}
-use mathlib.Core.Path.{_≡_, refl, _∙_, subst}
+use mathlib.Core.Path.{_≡_, subst}
 use native.Mathlib.Nat.{mod-lt, lt-of-le-of-lt}
 use native.Mathlib.Omega.{arith}
 use lib.Pow.{shl-exact, pow-pos, shr-le}

@@ -1,6 +1,5 @@
 -- writer::room::record_bits meets its contract.
 use Prim.Native.Nat.{ℕ, _+_, _≤_}
-use mathlib.Core.Path.{_≡_}
 use native.Mathlib.Omega.{arith}
 use borrow.Author.Needs.{needs}
 use Rattle.components.specs.declared.Kind.{Kind}

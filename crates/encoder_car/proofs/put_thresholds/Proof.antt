@@ -1,8 +1,8 @@
--- encoder::car::put_thresholds meets its contract.
+-- encoder_car::put_thresholds meets its contract.
 use Rattle.encoder.specs.Encoded.{fieldsPut}
 use borrow.Author.Needs.{needs}
-use Rattle.encoder.proofs.car.put_thresholds.Statement.{statement}
-use Rattle.encoder.proofs.car.put_thresholds.Tie as tie
+use Rattle.encoder_car.proofs.put_thresholds.Statement.{statement}
+use Rattle.encoder_car.proofs.put_thresholds.Tie as tie
 
 returns : tie.Need-returns
 unfolding fieldsPut

@@ -1,9 +1,9 @@
--- encoder::put_car meets its contract.
+-- encoder_car::put_car meets its contract.
 use Rattle.encoder.specs.Encoded.{fieldsPut, recordAt}
-use Rattle.encoder.specs.Values.{carValues}
+use Rattle.values.specs.Values.{carValues}
 use borrow.Author.Needs.{needs}
-use Rattle.encoder.proofs.put_car.Statement.{statement}
-use Rattle.encoder.proofs.put_car.Tie as tie
+use Rattle.encoder_car.proofs.put_car.Statement.{statement}
+use Rattle.encoder_car.proofs.put_car.Tie as tie
 
 returns : tie.Need-returns
 unfolding fieldsPut recordAt carValues

@@ -1,8 +1,8 @@
-// Document 01's number of each case.
+// The numbers that the fields of a record stand for, where they are not numbers: document 01's number of each case.
 ghost use mathlib.Core.Path.{_≡_};
 ghost use Rattle.laws.specs.Bools.{bit};
 ghost use Rattle.components.specs.Codes.{kindCode, strategyCode, trafficCode, phaseCode, directionCode, modeCode};
-ghost use Rattle.encoder.specs.Values.{phaseStop, thresholdPresent, thresholdBits};
+ghost use Rattle.values.specs.Values.{phaseStop, thresholdPresent, thresholdBits};
 use components::Direction;
 use components::Kind;
 use components::Mode;

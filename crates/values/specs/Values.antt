@@ -2,7 +2,7 @@
 -- present bit and the field, zeros where absent": an id of 0 is none. A double is its 64 bits; every NaN is one NaN, and has the bits of the quiet
 -- one. Assumes nothing.
 use Prim.Native.Nat.{ℕ}
-use mathlib.Core.Bool.{Bool, not}
+use mathlib.Core.Bool.{not}
 use mathlib.Core.List.{List, [], _∷_}
 use lib.Dec.{eqb}
 use lib.Ieee.{Float, binary64, toBits}
