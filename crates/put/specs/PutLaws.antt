@@ -75,7 +75,10 @@ module _ (b p x : ℕ) where
   above k = sym (shr-shr (inserted b 1 p x) (1 + p) k) ∙ ap (λ (y : ℕ). y / 2 ^ k) (inserted-high b 1 p x) ∙ shr-shr b (1 + p) k
 
   below : (k q : ℕ) → p ≡ k + (1 + q) → inserted b 1 p x / 2 ^ q % 2 ≡ b / 2 ^ q % 2
-  below k q e = sym (field (inserted b 1 p x) 1 q) ∙ ap (λ (y : ℕ). y / 2 ^ q) (kept (inserted b 1 p x) ∙ ap (λ (y : ℕ). y % 2 ^ (1 + q)) (inserted-rest b 1 p x) ∙ sym (kept b)) ∙ field b 1 q
+  below k q e =
+      sym (field (inserted b 1 p x) 1 q)
+      ∙ ap (λ (y : ℕ). y / 2 ^ q) (kept (inserted b 1 p x) ∙ ap (λ (y : ℕ). y % 2 ^ (1 + q)) (inserted-rest b 1 p x) ∙ sym (kept b))
+      ∙ field b 1 q
     where
       kept : (y : ℕ) → y % 2 ^ (1 + q) ≡ y % 2 ^ p % 2 ^ (1 + q)
       kept y = sym (mod-mod-pow y k (1 + q)) ∙ ap (λ (z : ℕ). y % 2 ^ z % 2 ^ (1 + q)) (sym e)
@@ -94,7 +97,9 @@ module _ (b p x : ℕ) where
 module _ (s : List ℕ) (i x : ℕ) where
   bit-there : i < 8 * length s → bitAt (bitPut s i x) i ≡ x % 2
   unfolding bitAt bitPut
-  bit-there l = rw (getD-set-same s (i / 8) (inserted (getD s (i / 8) 0) 1 (7 - i % 8) x) 0 (omega arith)) (inserted-there (getD s (i / 8) 0) (7 - i % 8) x)
+  bit-there l =
+      rw (getD-set-same s (i / 8) (inserted (getD s (i / 8) 0) 1 (7 - i % 8) x) 0 (omega arith))
+      (inserted-there (getD s (i / 8) 0) (7 - i % 8) x)
 
   bit-elsewhere : (j : ℕ) → j ≢ i → bitAt (bitPut s i x) j ≡ bitAt s j
   unfolding bitAt bitPut
@@ -159,7 +164,8 @@ unfolding putAt fieldAt
 put-read s at zero v r = rw (pow-zero) (omega arith)
 put-read s at (suc w) v r =
     let t = putAt s at w (v / 2) in
-    let f : fieldAt (bitPut t (at + w) v) at w ≡ fieldAt t at w = field-same (bitPut t (at + w) v) t at w (λ i l. bit-elsewhere t (at + w) v (at + i) (λ q. omega arith)) in
+    let f : fieldAt (bitPut t (at + w) v) at w ≡ fieldAt t at w =
+    field-same (bitPut t (at + w) v) t at w (λ i l. bit-elsewhere t (at + w) v (at + i) (λ q. omega arith)) in
     let b : bitAt (bitPut t (at + w) v) (at + w) ≡ v % 2 = bit-there t (at + w) v (omega (arith, put-length s at w (v / 2))) in
     rw (f, b, put-read s at w (v / 2) (omega arith)) (sym (mod-pow-add v w 1) ∙ ap (λ (x : ℕ). v % 2 ^ x) (add-one w))
 

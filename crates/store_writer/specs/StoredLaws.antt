@@ -1,4 +1,5 @@
--- A record of the store that was put is read back, the others are kept, and the first n records are a store of n records. Assumes nothing.
+-- A record of the store that was put is read back, the others are kept, and the first n records are a store of n records, each refused by its own
+-- values alone. Assumes nothing.
 use Prim.Native.Nat.{ℕ, _+_, _*_, _^_, _≤_, _<_}
 use mathlib.Core.Path.{_≡_, _∙_}
 use mathlib.Core.List.{List, [], _∷_}
@@ -7,10 +8,13 @@ use native.Mathlib.Nat.{mod-eq-of-lt}
 use native.Mathlib.Omega.{arith}
 use lib.ListN.{length, take}
 use lib.Seq.{length-take-le}
+use borrow.Author.Tests.{le-ltb, lt-leb}
 use Rattle.laws.specs.Bools.{less?}
-use Rattle.bits.specs.Field.{fieldAt}
+use Rattle.bits.specs.Field.{fieldAt, field-take}
 use Rattle.put.specs.PutLaws.{field-same}
 use Rattle.weight_store.specs.Entries.{Entry, entryLength, entryOf, entryCount, entry-covered}
+use Rattle.layout.specs.Verdict.{pick, firstOf}
+use Rattle.weight_store.specs.Refusals.{refusal2Store, refusal7Store, refusal8Store, refusal11Store, entryRefusal}
 use Rattle.encoder.specs.EncodedLaws.{Reads, fields-read, fields-elsewhere, fields-length}
 use Rattle.store_writer.specs.Stored.{entryFields, entryPut}
 
@@ -63,3 +67,23 @@ module _ (s : List ℕ) (i : ℕ) (x : Entry) where
 pub stored-count : (s : List ℕ) (n : ℕ) → 15 * n ≤ length s → entryCount (take (15 * n) s) ≡ n
 unfolding entryCount
 stored-count s n h = omega (arith, length-take-le (15 * n) s h)
+
+module _ (s : List ℕ) (n i : ℕ) (h : 15 * n ≤ length s) (l : i < n) where
+  -- each is read there as in the buffer
+  pub stored-read : entryOf (take (15 * n) s) i ≡ entryOf s i
+  unfolding entryOf
+  stored-read =
+      λ k. record {
+        setting = field-take s (15 * n) (entryLength * i + 0) 8 (omega arith) k;
+        start = field-take s (15 * n) (entryLength * i + 8) 32 (omega arith) k;
+        issue = field-take s (15 * n) (entryLength * i + 40) 16 (omega arith) k;
+        value = field-take s (15 * n) (entryLength * i + 56) 64 (omega arith) k;
+      }
+
+  -- and of the refusals of one record only those of its values are left, 8 and 11
+  pub stored-refusal : n ≤ 256 → entryRefusal (take (15 * n) s) i
+      ≡ firstOf ((8, refusal8Store (entryOf s i)) ∷ (11, refusal11Store (entryOf s i)) ∷ [])
+  unfolding entryRefusal firstOf pick refusal2Store refusal7Store
+  stored-refusal m =
+      let q = length-take-le (15 * n) s h in
+      rw (stored-read, le-ltb (8 * length (take (15 * n) s)) (entryLength * i + entryLength) (omega arith), lt-leb 256 i (omega arith))

@@ -1,7 +1,7 @@
--- The writer's answers and what it leaves. Its state is the counts of the records so far, as the reader's is (layout: Offsets). It tests of the record
--- that is to be put what the reader would refuse there by 2, 6 and 7, in this order: the buffer ends before the record does, kinds out of order, more
--- records than the table allows or than the head can count. Raw bits that no record of components holds, a NaN's other patterns for one, are not
--- written by it: the crate put serves those. Assumes nothing.
+-- The writer's answers and what it leaves. Its state is the counts of the records so far, as the reader's is (layout: Offsets). It tests of the
+-- record that is to be put what the reader would refuse there by 2, 6 and 7, in this order: the buffer ends before the record does, kinds out of
+-- order, more records than the table allows or than the head can count. Raw bits that no record of components holds, a NaN's other patterns for one,
+-- are not written by it: the crate put serves those. Assumes nothing.
 use Prim.Native.Nat.{ℕ, _+_, _-_, _/_, _%_}
 use mathlib.Core.Bool.{Bool, true, false, cond}
 use mathlib.Core.List.{List, [], _∷_}

@@ -56,7 +56,8 @@ thresholdOf has x = cond (isSet has) (threshold.At x) threshold.Absent
 
 -- the stop is that of phases 1 and 2
 unfoldable pub carOf : ℕ → ℕ → ℕ → ℕ → ℕ → ℕ → ℕ → ℕ → ℕ → ℕ → Float → Float → Float → Float → Float → ℕ → Float → ℕ → Float → ℕ → ℕ → ℕ → ℕ → Car
-carOf id line phase stop target listed up down sweep mode position across speed capacity load hasbypassup bypassup hasbypassdown bypassdown transition dwell restricted calls =
+carOf id line phase stop target listed up down sweep mode position across speed capacity load
+    hasbypassup bypassup hasbypassdown bypassdown transition dwell restricted calls =
     record {
       id = id;
       line = line;

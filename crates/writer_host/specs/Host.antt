@@ -1,5 +1,5 @@
--- The writer for a host that is not Rattle: its state is nine numbers in a lent slice, and nothing is required of it. What a function answers, and what
--- it leaves in the sheet and in the state. Assumes nothing.
+-- The writer for a host that is not Rattle: its state is nine numbers in a lent slice, and nothing is required of it. What a function answers, and
+-- what it leaves in the sheet and in the state. Assumes nothing.
 use Prim.Native.Nat.{ℕ, _+_, _*_, _≤_}
 use mathlib.Core.Path.{_≡_, refl, subst}
 use mathlib.Core.Bool.{Bool, true, false, _&&_, _||_, cond}
@@ -140,7 +140,8 @@ module _ (l : List ℕ) (h : isState l ≡ true) where
 
 -- the nine numbers stored one after another
 pub stored : (c : Counts) (l : List ℕ) → 9 ≤ length l
-    → set (set (set (set (set (set (set (set (set l 0 (c .across)) 1 (c .policies)) 2 (c .stops)) 3 (c .lines)) 4 (c .cars)) 5 (c .aboards)) 6 (c .waits)) 7 (c .demands)) 8 (c .closures) ≡ stateWith c l
+    → set (set (set (set (set (set (set (set (set l 0 (c .across)) 1 (c .policies)) 2 (c .stops)) 3 (c .lines))
+    4 (c .cars)) 5 (c .aboards)) 6 (c .waits)) 7 (c .demands)) 8 (c .closures) ≡ stateWith c l
 unfolding stateWith
 stored q [] h = absurd (omega arith)
 stored q (x0 ∷ []) h = absurd (omega arith)

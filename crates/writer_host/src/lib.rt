@@ -1,5 +1,6 @@
-// The writer for a host, to be exported for C. The state is nine numbers that the host lends and start fills. Each function answers 0; or 1 where the
-// state is none, 2, 6 or 7 where a record has no room, is out of order or one too many, 8 where a code stands for nothing, and nothing is written then.
+// The writer for a host, to be exported for C. The state is nine numbers that the host lends and start fills. Each function answers 0; or 1 where
+// the state is none, 2, 6 or 7 where a record has no room, is out of order or one too many, 8 where a code stands for nothing, and nothing is
+// written then.
 mod state;
 
 ghost use mathlib.Core.Path.{_≡_};
@@ -8,7 +9,8 @@ ghost use lib.ListN.{length};
 ghost use Rattle.layout.specs.Offsets.{endOf};
 ghost use Rattle.encoder.specs.Encoded.{policyAt, stopAt, lineAt, carAt, aboardAt, waitingAt, demandAt, closedAt};
 ghost use Rattle.writer.specs.Puts.{startOf, headPut, sheetBytes, finished};
-ghost use Rattle.writer.specs.Puts.{putNumber, leftOf, policyAnswer, stopAnswer, lineAnswer, carAnswer, aboardAnswer, waitingAnswer, demandAnswer, closedAnswer};
+ghost use Rattle.writer.specs.Puts.{putNumber, leftOf, policyAnswer, stopAnswer, lineAnswer, carAnswer, aboardAnswer, waitingAnswer};
+ghost use Rattle.writer.specs.Puts.{demandAnswer, closedAnswer};
 ghost use Rattle.writer_host.specs.Host.{countsIn, hostRefusal, startRefusal, editionOf, finishRefusal, hostNumber, hostLeft, stateLeft};
 ghost use mathlib.Core.Bool.{cond};
 ghost use lib.Dec.{eqb};
@@ -306,7 +308,8 @@ fn car_of(
     restricted: u64,
     calls: u64,
 ) -> Car
-    ensures { λ r. ⌜ r ≡ carOf id line phase stop target listed up down sweep mode position across speed capacity load hasbypassup bypassup hasbypassdown bypassdown transition dwell restricted calls ⌝ }
+    ensures { λ r. ⌜ r ≡ carOf id line phase stop target listed up down sweep mode position across speed capacity load
+        hasbypassup bypassup hasbypassdown bypassdown transition dwell restricted calls ⌝ }
 {
     let place = Point {
         along: position,
@@ -366,7 +369,8 @@ pub extern "C" fn dispatch_bench_put_car(
 ) -> u32
     ensures { λ r. let l = now (state .entry) in let s = now (sheet .entry) in let c = countsIn l in
         let f = hostRefusal l (phaseKnown phase) in let p = carAnswer (length s) c in
-        let x = carOf id line phase stop target listed up down sweep mode position across speed capacity load hasbypassup bypassup hasbypassdown bypassdown transition dwell restricted calls in
+        let x = carOf id line phase stop target listed up down sweep mode position across speed capacity load
+        hasbypassup bypassup hasbypassdown bypassdown transition dwell restricted calls in
         ⌜ (r ≡ hostNumber f (putNumber p))
         × (now (sheet .exit) ≡ hostLeft f (leftOf p s (carAt s (endOf c) (c .across) x)) s)
         × (now (state .exit) ≡ hostLeft f (stateLeft p l) l) ⌝ }

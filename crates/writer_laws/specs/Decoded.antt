@@ -1,5 +1,6 @@
 -- A record that was put is decoded as that record. A number below its field's bound comes back, as every number of its type is; a double comes back
--- that the format holds, as every double is, a NaN as the one NaN. In edition 1 a second coordinate is not written, and is read as 0. Assumes nothing.
+-- that the format holds, as every double is, a NaN as the one NaN. In edition 1 a second coordinate is not written, and is read as 0. Assumes
+-- nothing.
 use Prim.Native.Nat.{ℕ, _%_, _^_, _<_}
 use mathlib.Core.Path.{_≡_, ap, ap₂, _∙_}
 use mathlib.Core.Bool.{Bool, true, false, cond}
@@ -257,12 +258,15 @@ module _ (e : Edition) (t : List ℕ) (at : ℕ) where
         down = flag _ (x .down) (h .1 .1 .1 .1 .1 .1 .1 .1 .1 .1 .0) i;
         direction = direction-back _ (x .direction) (h .1 .1 .1 .1 .1 .1 .1 .1 .1 .1 .1 .0) i;
         mode = mode-back _ (x .mode) (h .1 .1 .1 .1 .1 .1 .1 .1 .1 .1 .1 .1 .0) i;
-        position = point e _ _ (x .position) (h .1 .1 .1 .1 .1 .1 .1 .1 .1 .1 .1 .1 .1 .0) (h .1 .1 .1 .1 .1 .1 .1 .1 .1 .1 .1 .1 .1 .1 .0) (d .position) i;
+        position = point e _ _ (x .position) (h .1 .1 .1 .1 .1 .1 .1 .1 .1 .1 .1 .1 .1 .0)
+            (h .1 .1 .1 .1 .1 .1 .1 .1 .1 .1 .1 .1 .1 .1 .0) (d .position) i;
         speed = double _ (x .speed) (h .1 .1 .1 .1 .1 .1 .1 .1 .1 .1 .1 .1 .1 .1 .1 .0) (d .speed) i;
         capacity = double _ (x .capacity) (h .1 .1 .1 .1 .1 .1 .1 .1 .1 .1 .1 .1 .1 .1 .1 .1 .0) (d .capacity) i;
         load = double _ (x .load) (h .1 .1 .1 .1 .1 .1 .1 .1 .1 .1 .1 .1 .1 .1 .1 .1 .1 .0) (d .load) i;
-        bypassup = threshold-back _ _ (x .bypassup) (h .1 .1 .1 .1 .1 .1 .1 .1 .1 .1 .1 .1 .1 .1 .1 .1 .1 .1 .0) (h .1 .1 .1 .1 .1 .1 .1 .1 .1 .1 .1 .1 .1 .1 .1 .1 .1 .1 .1 .0) (d .bypassup) i;
-        bypassdown = threshold-back _ _ (x .bypassdown) (h .1 .1 .1 .1 .1 .1 .1 .1 .1 .1 .1 .1 .1 .1 .1 .1 .1 .1 .1 .1 .0) (h .1 .1 .1 .1 .1 .1 .1 .1 .1 .1 .1 .1 .1 .1 .1 .1 .1 .1 .1 .1 .1 .0) (d .bypassdown) i;
+        bypassup = threshold-back _ _ (x .bypassup) (h .1 .1 .1 .1 .1 .1 .1 .1 .1 .1 .1 .1 .1 .1 .1 .1 .1 .1 .0)
+            (h .1 .1 .1 .1 .1 .1 .1 .1 .1 .1 .1 .1 .1 .1 .1 .1 .1 .1 .1 .0) (d .bypassup) i;
+        bypassdown = threshold-back _ _ (x .bypassdown) (h .1 .1 .1 .1 .1 .1 .1 .1 .1 .1 .1 .1 .1 .1 .1 .1 .1 .1 .1 .1 .0)
+            (h .1 .1 .1 .1 .1 .1 .1 .1 .1 .1 .1 .1 .1 .1 .1 .1 .1 .1 .1 .1 .1 .0) (d .bypassdown) i;
         transition = number _ (x .transition) 32 (h .1 .1 .1 .1 .1 .1 .1 .1 .1 .1 .1 .1 .1 .1 .1 .1 .1 .1 .1 .1 .1 .1 .0) (d .transition) i;
         dwell = number _ (x .dwell) 32 (h .1 .1 .1 .1 .1 .1 .1 .1 .1 .1 .1 .1 .1 .1 .1 .1 .1 .1 .1 .1 .1 .1 .1 .0) (d .dwell) i;
         restricted = number _ (x .restricted) 64 (h .1 .1 .1 .1 .1 .1 .1 .1 .1 .1 .1 .1 .1 .1 .1 .1 .1 .1 .1 .1 .1 .1 .1 .1 .0) (d .restricted) i;

@@ -5,3 +5,4 @@ pub mod Verdicts
 pub mod Decoded
 pub mod Sheets
 pub mod Optional
+pub mod Worked

@@ -1,5 +1,5 @@
--- What is absent or unused is written as zeros, and what is present is not 0: of a car, an aboard and a waiting rider that were put, condition 8 holds
--- only of a car in phase 7, and condition 9 not by an optional id. Assumes nothing.
+-- What is absent or unused is written as zeros, and what is present is not 0: of a car, an aboard and a waiting rider that were put, condition 8
+-- holds only of a car in phase 7, and condition 9 not by an optional id. Assumes nothing.
 use Prim.Native.Nat.{ℕ, _+_, _%_, _^_, _<_}
 use mathlib.Core.Path.{_≡_, refl, ap, ap₂, _∙_}
 use mathlib.Core.Bool.{Bool, true, false, not, _&&_, _||_}
@@ -19,7 +19,8 @@ use Rattle.components.specs.Codes.{phaseOf, phaseCode}
 use Rattle.layout.specs.declared.Counts.{Counts}
 use Rattle.layout.specs.Records.{from}
 use Rattle.layout.specs.Refusals.{refusal8Car, refusal8Aboard, refusal8Waiting, unusedStop, presentZero}
-use Rattle.layout.specs.Table.{car·hasTarget, car·target, aboard·hasDestination, aboard·destination, waiting·hasLine, waiting·line, waiting·hasDestination, waiting·destination}
+use Rattle.layout.specs.Table.{car·hasTarget, car·target, aboard·hasDestination, aboard·destination, waiting·hasLine, waiting·line}
+use Rattle.layout.specs.Table.{waiting·hasDestination, waiting·destination}
 use Rattle.values.specs.Values.{present, phaseStop, thresholdPresent, thresholdBits, carValues, aboardValues, waitingValues}
 use Rattle.encoder.specs.Encoded.{recordFields, recordValues}
 use Rattle.encoder.specs.EncodedLaws.{Reads}
@@ -81,33 +82,40 @@ module _ (e : Edition) (t : List ℕ) (at : ℕ) where
   unfolding Reads aboardValues refusal8Aboard
   aboard-8 x d h = id-clear _ _ (x .destination) (h .1 .1 .1 .0) (h .1 .1 .1 .1 .0) (d .destination)
 
-  pub aboard-present : (x : Aboard) → AboardFits x → ItemReads e t at (aboard x) → presentZero (from t at) aboard·hasDestination aboard·destination ≡ false
+  pub aboard-present : (x : Aboard) → AboardFits x → ItemReads e t at (aboard x)
+      → presentZero (from t at) aboard·hasDestination aboard·destination ≡ false
   unfolding Reads aboardValues
   aboard-present x d h = id-nonzero _ _ (x .destination) (h .1 .1 .1 .0) (h .1 .1 .1 .1 .0) (d .destination)
 
   pub waiting-8 : (x : Waiting) → WaitingFits x → ItemReads e t at (waiting x) → refusal8Waiting (from t at) ≡ false
   unfolding Reads waitingValues refusal8Waiting
   waiting-8 x d h =
-      ap₂ _||_ (id-clear _ _ (x .line) (h .1 .1 .1 .0) (h .1 .1 .1 .1 .0) (d .line)) (id-clear _ _ (x .destination) (h .1 .1 .1 .1 .1 .0) (h .1 .1 .1 .1 .1 .1 .0) (d .destination))
+      ap₂ _||_ (id-clear _ _ (x .line) (h .1 .1 .1 .0) (h .1 .1 .1 .1 .0) (d .line))
+      (id-clear _ _ (x .destination) (h .1 .1 .1 .1 .1 .0) (h .1 .1 .1 .1 .1 .1 .0) (d .destination))
 
   pub waiting-present : (x : Waiting) → WaitingFits x → ItemReads e t at (waiting x)
       → (presentZero (from t at) waiting·hasLine waiting·line ≡ false) × (presentZero (from t at) waiting·hasDestination waiting·destination ≡ false)
   unfolding Reads waitingValues
-  waiting-present x d h =
-      (id-nonzero _ _ (x .line) (h .1 .1 .1 .0) (h .1 .1 .1 .1 .0) (d .line), id-nonzero _ _ (x .destination) (h .1 .1 .1 .1 .1 .0) (h .1 .1 .1 .1 .1 .1 .0) (d .destination))
+  waiting-present x d h = (
+    id-nonzero _ _ (x .line) (h .1 .1 .1 .0) (h .1 .1 .1 .1 .0) (d .line),
+    id-nonzero _ _ (x .destination) (h .1 .1 .1 .1 .1 .0) (h .1 .1 .1 .1 .1 .1 .0) (d .destination),
+  )
 
   pub car-8 : (c : Counts) (x : Car) → c .across ≡ acrossOf e → CarFits x → ItemReads e t at (car x)
       → refusal8Car c (from t at) ≡ eqb (phaseCode (x .phase)) 7
   unfolding Reads carValues refusal8Car
   car-8 c x q d h =
-      let p : phaseOf (fieldAt t (at + 86) 3) (fieldAt t (at + 89) 32) ≡ x .phase = phase-back _ _ (x .phase) (h .1 .1 .1 .1 .0) (h .1 .1 .1 .1 .1 .0) (d .phase) in
+      let p : phaseOf (fieldAt t (at + 86) 3) (fieldAt t (at + 89) 32) ≡ x .phase =
+      phase-back _ _ (x .phase) (h .1 .1 .1 .1 .0) (h .1 .1 .1 .1 .1 .0) (d .phase) in
       rw (
         q,
         p,
         stop-clear _ (x .phase) (h .1 .1 .1 .1 .1 .0),
         id-clear _ _ (x .target) (h .1 .1 .1 .1 .1 .1 .0) (h .1 .1 .1 .1 .1 .1 .1 .0) (d .target),
-        threshold-clear _ _ (x .bypassup) (h .1 .1 .1 .1 .1 .1 .1 .1 .1 .1 .1 .1 .1 .1 .1 .1 .1 .1 .0) (h .1 .1 .1 .1 .1 .1 .1 .1 .1 .1 .1 .1 .1 .1 .1 .1 .1 .1 .1 .0),
-        threshold-clear _ _ (x .bypassdown) (h .1 .1 .1 .1 .1 .1 .1 .1 .1 .1 .1 .1 .1 .1 .1 .1 .1 .1 .1 .1 .0) (h .1 .1 .1 .1 .1 .1 .1 .1 .1 .1 .1 .1 .1 .1 .1 .1 .1 .1 .1 .1 .1 .0),
+        threshold-clear _ _ (x .bypassup) (h .1 .1 .1 .1 .1 .1 .1 .1 .1 .1 .1 .1 .1 .1 .1 .1 .1 .1 .0)
+            (h .1 .1 .1 .1 .1 .1 .1 .1 .1 .1 .1 .1 .1 .1 .1 .1 .1 .1 .1 .0),
+        threshold-clear _ _ (x .bypassdown) (h .1 .1 .1 .1 .1 .1 .1 .1 .1 .1 .1 .1 .1 .1 .1 .1 .1 .1 .1 .1 .0)
+            (h .1 .1 .1 .1 .1 .1 .1 .1 .1 .1 .1 .1 .1 .1 .1 .1 .1 .1 .1 .1 .1 .0),
       ) (no-more (eqb (phaseCode (x .phase)) 7))
     where
       no-more : (b : Bool) → (b || false) ≡ b

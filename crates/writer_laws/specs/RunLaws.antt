@@ -30,7 +30,8 @@ use Rattle.writer.specs.declared.Edition.the-variants.{First, Second}
 use Rattle.writer.specs.declared.Put.{Put}
 use Rattle.writer.specs.declared.Put.the-variants.{NoRoom, OutOfOrder, Full}
 use Rattle.writer.specs.Puts.{bytesFor, mostRecords, answerOf, startOf, isWritten, headPut, editionCode, finished, padding, sheetBytes}
-use Rattle.writer_laws.specs.Run.{Item, policy, stop, line, car, aboard, waiting, demand, closed, itemKind, itemValues, acrossOf, countsAt, bufferAt, AllWritten, sheetAt}
+use Rattle.writer_laws.specs.Run.{Item, policy, stop, line, car, aboard, waiting, demand, closed, itemKind, itemValues, acrossOf}
+use Rattle.writer_laws.specs.Run.{countsAt, bufferAt, AllWritten, sheetAt}
 
 -- ---- what an answer says
 
@@ -198,7 +199,8 @@ module _ (s : List ℕ) (e : Edition) (r : ℕ → Item) where
         length-take-le (sheetBytes (countsAt s e r n)) (finished (bufferAt s e r n) (countsAt s e r n)) (rw buffer-whole room)
 
     -- a field before the tail and outside of the head's count is as after the last item
-    field-kept : (o v : ℕ) → o + v ≤ endOf (countsAt s e r n) → (o + v ≤ 8) ⊎ (24 ≤ o) → fieldAt (sheetAt s e r n) o v ≡ fieldAt (bufferAt s e r n) o v
+    field-kept : (o v : ℕ) → o + v ≤ endOf (countsAt s e r n) → (o + v ≤ 8) ⊎ (24 ≤ o)
+        → fieldAt (sheetAt s e r n) o v ≡ fieldAt (bufferAt s e r n) o v
     unfolding sheetAt finished
     field-kept o v l h =
         let c = countsAt s e r n in
@@ -220,10 +222,10 @@ module _ (s : List ℕ) (e : Edition) (r : ℕ → Item) where
         let q = room-at i l in
         let z = ends-rise (suc i) n l in
         let x : Reads (bufferAt s e r (suc i)) (endOf c) (recordFields (acrossOf e) k) (recordValues (acrossOf e) k (itemValues (r i))) =
-        fields-read (bufferAt s e r i) (endOf c) 0 m (recordFields (acrossOf e) k) (recordValues (acrossOf e) k (itemValues (r i))) (record-covered e k)
-        (omega (arith, buffer-length i)) in
-        reads-same (bufferAt s e r (suc i)) (sheetAt s e r n) (endOf c) 0 m (recordFields (acrossOf e) k) (recordValues (acrossOf e) k (itemValues (r i)))
-        (record-covered e k)
+        fields-read (bufferAt s e r i) (endOf c) 0 m (recordFields (acrossOf e) k) (recordValues (acrossOf e) k (itemValues (r i)))
+        (record-covered e k) (omega (arith, buffer-length i)) in
+        reads-same (bufferAt s e r (suc i)) (sheetAt s e r n) (endOf c) 0 m (recordFields (acrossOf e) k)
+        (recordValues (acrossOf e) k (itemValues (r i))) (record-covered e k)
         (λ o v _ h.
         field-kept (endOf c + o) v (omega arith) (inr (omega arith))
         ∙ field-same (bufferAt s e r n) (bufferAt s e r (suc i)) (endOf c + o) v (λ j y. item-kept (suc i) n l (endOf c + o + j) (omega arith)))

@@ -23,11 +23,13 @@ use Rattle.layout.specs.Records.{from, read, policyOf, stopOf, lineOf, carOf, a
 use Rattle.components.specs.declared.Kind.{Kind}
 use Rattle.components.specs.Codes.{kindOf, kindCode}
 use Rattle.layout.specs.declared.Counts.{Counts}
-use Rattle.layout.specs.Offsets.{none, next, endOf, acrossBits, headLength, stopStart, lineStart, carStart, aboardStart, waitingStart, demandStart, closedStart, lastKind}
+use Rattle.layout.specs.Offsets.{none, next, endOf, acrossBits, headLength, stopStart, lineStart, carStart, aboardStart, waitingStart}
+use Rattle.layout.specs.Offsets.{demandStart, closedStart, lastKind}
 use Rattle.layout.specs.PlaceLaws.{all}
 use Rattle.accepted.specs.Accepted.{Each, counts, and-next, no-records}
 use Rattle.writer.specs.declared.Edition.{Edition}
-use Rattle.writer_laws.specs.Run.{Item, policy, stop, line, car, aboard, waiting, demand, closed, itemKind, acrossOf, countsAt, AllWritten, sheetAt}
+use Rattle.writer_laws.specs.Run.{Item, policy, stop, line, car, aboard, waiting, demand, closed, itemKind, acrossOf, countsAt}
+use Rattle.writer_laws.specs.Run.{AllWritten, sheetAt}
 use Rattle.writer_laws.specs.RunLaws.{taken-at, item-reads, all-at, across-at}
 use Rattle.writer_laws.specs.Verdicts.{kind-back, edition-is}
 use Rattle.writer_laws.specs.Decoded.{ItemFits, Decoded, decoded, stopIn, carIn}
@@ -120,37 +122,44 @@ module _ (s : List ℕ) (e : Edition) (r : ℕ → Item) (n : ℕ) (w : AllWritt
     stop-there : (j : ℕ) → j < countsAt s e r n .stops → (i : ℕ) × (i < n) × AsKind (stopStart (countsAt s e r n) j) (r i) kind.Stop
     stop-there j l =
         let c = countsAt s e r n in
-        there (counts (c .across) (c .policies) j 0 0 0 0 0 0) kind.Stop (stopStart c j) (omega arith) (each-put fit .stops j l)
+        there (counts (c .across) (c .policies) j 0 0 0 0 0 0)
+        kind.Stop (stopStart c j) (omega arith) (each-put fit .stops j l)
 
     line-there : (j : ℕ) → j < countsAt s e r n .lines → (i : ℕ) × (i < n) × AsKind (lineStart (countsAt s e r n) j) (r i) kind.Line
     line-there j l =
         let c = countsAt s e r n in
-        there (counts (c .across) (c .policies) (c .stops) j 0 0 0 0 0) kind.Line (lineStart c j) (omega arith) (each-put fit .lines j l)
+        there (counts (c .across) (c .policies) (c .stops) j 0 0 0 0 0)
+        kind.Line (lineStart c j) (omega arith) (each-put fit .lines j l)
 
     car-there : (j : ℕ) → j < countsAt s e r n .cars → (i : ℕ) × (i < n) × AsKind (carStart (countsAt s e r n) j) (r i) kind.Car
     car-there j l =
         let c = countsAt s e r n in
-        there (counts (c .across) (c .policies) (c .stops) (c .lines) j 0 0 0 0) kind.Car (carStart c j) (omega arith) (each-put fit .cars j l)
+        there (counts (c .across) (c .policies) (c .stops) (c .lines) j 0 0 0 0)
+        kind.Car (carStart c j) (omega arith) (each-put fit .cars j l)
 
     aboard-there : (j : ℕ) → j < countsAt s e r n .aboards → (i : ℕ) × (i < n) × AsKind (aboardStart (countsAt s e r n) j) (r i) kind.Aboard
     aboard-there j l =
         let c = countsAt s e r n in
-        there (counts (c .across) (c .policies) (c .stops) (c .lines) (c .cars) j 0 0 0) kind.Aboard (aboardStart c j) (omega arith) (each-put fit .aboards j l)
+        there (counts (c .across) (c .policies) (c .stops) (c .lines) (c .cars) j 0 0 0)
+        kind.Aboard (aboardStart c j) (omega arith) (each-put fit .aboards j l)
 
     waiting-there : (j : ℕ) → j < countsAt s e r n .waits → (i : ℕ) × (i < n) × AsKind (waitingStart (countsAt s e r n) j) (r i) kind.Waiting
     waiting-there j l =
         let c = countsAt s e r n in
-        there (counts (c .across) (c .policies) (c .stops) (c .lines) (c .cars) (c .aboards) j 0 0) kind.Waiting (waitingStart c j) (omega arith) (each-put fit .waits j l)
+        there (counts (c .across) (c .policies) (c .stops) (c .lines) (c .cars) (c .aboards) j 0 0)
+        kind.Waiting (waitingStart c j) (omega arith) (each-put fit .waits j l)
 
     demand-there : (j : ℕ) → j < countsAt s e r n .demands → (i : ℕ) × (i < n) × AsKind (demandStart (countsAt s e r n) j) (r i) kind.Demand
     demand-there j l =
         let c = countsAt s e r n in
-        there (counts (c .across) (c .policies) (c .stops) (c .lines) (c .cars) (c .aboards) (c .waits) j 0) kind.Demand (demandStart c j) (omega arith) (each-put fit .demands j l)
+        there (counts (c .across) (c .policies) (c .stops) (c .lines) (c .cars) (c .aboards) (c .waits) j 0)
+        kind.Demand (demandStart c j) (omega arith) (each-put fit .demands j l)
 
     closed-there : (j : ℕ) → j < countsAt s e r n .closures → (i : ℕ) × (i < n) × AsKind (closedStart (countsAt s e r n) j) (r i) kind.Closed
     closed-there j l =
         let c = countsAt s e r n in
-        there (counts (c .across) (c .policies) (c .stops) (c .lines) (c .cars) (c .aboards) (c .waits) (c .demands) j) kind.Closed (closedStart c j) (omega arith) (each-put fit .closures j l)
+        there (counts (c .across) (c .policies) (c .stops) (c .lines) (c .cars) (c .aboards) (c .waits) (c .demands) j)
+        kind.Closed (closedStart c j) (omega arith) (each-put fit .closures j l)
 
     -- the first item is a policy
     first-kind : 0 < n → itemKind (r 0) ≡ kind.Policy
@@ -175,9 +184,17 @@ module _ (s : List ℕ) (e : Edition) (r : ℕ → Item) (n : ℕ) (w : AllWritt
         record {
           policies = λ h. let p = first-there h in
               one 0 h _ _ (p .2) (ap₂ policy (sym (p .4)) (sym (p .3)));
-          stops = λ j l. let p = stop-there j l in (p .2 .0, one (p .0) (p .1) _ _ (p .2 .1) refl, ap (λ (x : ℕ). stopOf x (from (sheetAt s e r n) (stopStart (countsAt s e r n) j))) q ∙ p .2 .2);
+          stops = λ j l. let p = stop-there j l in (
+            p .2 .0,
+            one (p .0) (p .1) _ _ (p .2 .1) refl,
+            ap (λ (x : ℕ). stopOf x (from (sheetAt s e r n) (stopStart (countsAt s e r n) j))) q ∙ p .2 .2,
+          );
           lines = λ j l. let p = line-there j l in one (p .0) (p .1) _ _ (p .2 .1) (ap line (sym (p .2 .2)));
-          cars = λ j l. let p = car-there j l in (p .2 .0, one (p .0) (p .1) _ _ (p .2 .1) refl, ap (λ (x : ℕ). carOf x (from (sheetAt s e r n) (carStart (countsAt s e r n) j))) q ∙ p .2 .2);
+          cars = λ j l. let p = car-there j l in (
+            p .2 .0,
+            one (p .0) (p .1) _ _ (p .2 .1) refl,
+            ap (λ (x : ℕ). carOf x (from (sheetAt s e r n) (carStart (countsAt s e r n) j))) q ∙ p .2 .2,
+          );
           aboards = λ j l. let p = aboard-there j l in one (p .0) (p .1) _ _ (p .2 .1) (ap aboard (sym (p .2 .2)));
           waits = λ j l. let p = waiting-there j l in one (p .0) (p .1) _ _ (p .2 .1) (ap waiting (sym (p .2 .2)));
           demands = λ j l. let p = demand-there j l in one (p .0) (p .1) _ _ (p .2 .1) (ap demand (sym (p .2 .2)));

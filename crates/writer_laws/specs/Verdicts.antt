@@ -20,7 +20,8 @@ use Rattle.layout.specs.declared.Reading.{Reading}
 use Rattle.layout.specs.declared.Reading.the-variants.{Refused, Accepted}
 use Rattle.layout.specs.Offsets.{none, endOf, bodyLength, acrossIn}
 use Rattle.layout.specs.Records.{from}
-use Rattle.layout.specs.Refusals.{edition, recordCount, kindAt, lengthAt, refusal2Head, refusal3, refusal6Empty, refusal2, refusal5, refusal6, tailFits, refusal16}
+use Rattle.layout.specs.Refusals.{edition, recordCount, kindAt, lengthAt, refusal2Head, refusal3, refusal6Empty, refusal2, refusal5}
+use Rattle.layout.specs.Refusals.{refusal6, tailFits, refusal16}
 use Rattle.layout.specs.Verdict.{pick, firstOf, given, headRules, rulesOf, bodyRefusal, recordRefusal, tailVerdict, recordsVerdict, verdict}
 use Rattle.layout.specs.Readings.{refused≢accepted}
 use Rattle.encoder.specs.EncodedLaws.{Reads}
@@ -28,7 +29,8 @@ use Rattle.writer.specs.declared.Edition.{Edition}
 use Rattle.writer.specs.declared.Edition.the-variants.{First, Second}
 use Rattle.writer.specs.Puts.{padding, editionCode}
 use Rattle.writer_laws.specs.Run.{Item, itemKind, acrossOf, countsAt, AllWritten, sheetAt}
-use Rattle.writer_laws.specs.RunLaws.{known, across-at, end-at, ends-rise, taken-at, item-reads, sheet-length, edition-read, count-read, tail-read}
+use Rattle.writer_laws.specs.RunLaws.{known, across-at, end-at, ends-rise, taken-at, item-reads, sheet-length, edition-read}
+use Rattle.writer_laws.specs.RunLaws.{count-read, tail-read}
 
 -- ---- numbers that their fields can hold
 
