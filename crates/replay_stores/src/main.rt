@@ -18,7 +18,6 @@ use weights::answer::SixWeights;
 use weights::answer::Weights;
 ghost use mathlib.Core.Path.{_≡_};
 ghost use Prim.Native.Nat.{_+_, _≤_, _<_};
-ghost use lib.Ieee.{binary64, toBits};
 ghost use lib.ListN.{length};
 ghost use Rattle.laws.specs.Bools.{bit};
 ghost use Rattle.replay_stores.specs.Cases.{foundOf, answerOf, storedAt, caseAt, agree, comparedAt, cutAt, Counted, Turned, Replayed};
@@ -60,28 +59,18 @@ fn list_buffer() -> [u8; 262144]
     [0; 262144]
 }
 
-// The bits of a double.
-fn bits_of(x: f64) -> u64
-    ensures { λ r. ⌜ r ≡ toBits binary64 x ⌝ }
-{
-    if x != x {
-        return 0x7ff8_0000_0000_0000;
-    }
-    f64::to_bits(x)
-}
-
 fn found(six: SixWeights) -> Answer
     ensures { λ r. ⌜ r ≡ foundOf six ⌝ }
 {
     Answer {
         number: 0,
         offset: 0,
-        w0: bits_of(six.w0),
-        w1: bits_of(six.w1),
-        w2: bits_of(six.w2),
-        w3: bits_of(six.w3),
-        w4: bits_of(six.w4),
-        w5: bits_of(six.w5),
+        w0: double_bits::bits_of(six.w0),
+        w1: double_bits::bits_of(six.w1),
+        w2: double_bits::bits_of(six.w2),
+        w3: double_bits::bits_of(six.w3),
+        w4: double_bits::bits_of(six.w4),
+        w5: double_bits::bits_of(six.w5),
     }
 }
 

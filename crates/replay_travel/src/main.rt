@@ -15,7 +15,7 @@ use libc::STDOUT_FILENO;
 use travel::TravelTime;
 ghost use mathlib.Core.Path.{_≡_};
 ghost use Prim.Native.Nat.{_+_, _≤_, _<_};
-ghost use lib.Ieee.{binary64, ofBits, toBits};
+ghost use lib.Ieee.{binary64, ofBits};
 ghost use lib.ListN.{length};
 ghost use Rattle.laws.specs.Bools.{bit};
 ghost use Rattle.lists.specs.Lists.{number};
@@ -52,23 +52,13 @@ fn list_buffer() -> [u8; 65536]
     [0; 65536]
 }
 
-// The bits of a double.
-fn bits_of(x: f64) -> u64
-    ensures { λ r. ⌜ r ≡ toBits binary64 x ⌝ }
-{
-    if x != x {
-        return 0x7ff8_0000_0000_0000;
-    }
-    f64::to_bits(x)
-}
-
 fn answer_of(answer: TravelTime) -> Answer
     ensures { λ r. ⌜ r ≡ answerOf answer ⌝ }
 {
     match answer {
         TravelTime::Seconds(x) => Answer {
             number: 0,
-            time: bits_of(x),
+            time: double_bits::bits_of(x),
         },
         TravelTime::Refused => Answer {
             number: 21,

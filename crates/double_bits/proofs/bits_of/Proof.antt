@@ -1,12 +1,12 @@
--- replay_travel::bits_of meets its contract.
+-- double_bits::bits_of meets its contract.
 use Rattle.fp.specs.Fields.{not-nan}
 use denote.Floats.{passes}
 use lib.Ieee.{binary64, toBits}
 use lib.Ieee.Compare.{differs-from-itself}
 use borrow.Author.Needs.{needs}
 use mathlib.Core.Path.{sym, ap}
-use Rattle.replay_travel.proofs.bits_of.Statement.{statement}
-use Rattle.replay_travel.proofs.bits_of.Tie as tie
+use Rattle.double_bits.proofs.bits_of.Statement.{statement}
+use Rattle.double_bits.proofs.bits_of.Tie as tie
 
 returns : tie.Need-returns
 unfolding toBits

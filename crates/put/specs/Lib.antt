@@ -1,0 +1,3 @@
+-- Fields of bits that are put into a list of bytes.
+pub mod Put
+pub mod PutLaws

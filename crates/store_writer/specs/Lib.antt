@@ -1,0 +1,3 @@
+-- What the store's writer answers and leaves, and how it is read.
+pub mod Stored
+pub mod StoredLaws

@@ -1,0 +1,2 @@
+-- The numbers that a record's fields stand for.
+pub mod Values

@@ -1,0 +1,3 @@
+-- The writer for a host.
+pub mod Host
+pub mod Given
