@@ -3,9 +3,9 @@
 
 sum_of_input() { sha256sum | cut -d' ' -f1; }
 
-# CRATE: the lines of crates.txt for it and for every crate below it.
+# CRATE ..: the lines of crates.txt for them and for every crate below them.
 crates_below() {
-    awk -F: -v top="$1" '
+    awk -F: -v tops="$*" '
         function visit(crate,    names, count, i) {
             if (!(crate in below) || crate in seen) return
             seen[crate] = 1
@@ -14,14 +14,14 @@ crates_below() {
             for (i = 1; i <= count; i++) visit(names[i])
         }
         { sub(/#.*/, ""); below[$1] = $2 }
-        END { visit(top) }' crates.txt | LC_ALL=C sort
+        END { count = split(tops, top, " "); for (i = 1; i <= count; i++) visit(top[i]) }' crates.txt | LC_ALL=C sort
 }
 
-# CRATE: the SHA-256 of those lines and of the crates' code, definitions and proofs, by name.
+# CRATE ..: the SHA-256 of those lines and of the crates' code, definitions and proofs, by name.
 sources_of() {
     {
-        crates_below "$1"
-        for crate in $(crates_below "$1" | cut -d: -f1); do
+        crates_below "$@"
+        for crate in $(crates_below "$@" | cut -d: -f1); do
             for part in src specs proofs; do
                 [ ! -d "crates/$crate/$part" ] || find "crates/$crate/$part" -type f
             done
