@@ -7,9 +7,12 @@ use sheetgen::Sheet;
 use crate::cut::{Cut, Record};
 use crate::faults;
 use crate::fields::KINDS;
+use crate::foreign::Foreign;
 use crate::numbers::grouped;
 use crate::show::number_of;
-use crate::{remedies, show, text};
+use crate::source::Source;
+use crate::usage::capital;
+use crate::{remedies, repair, show};
 
 /// A refusal in words.
 pub struct Reason {
@@ -23,28 +26,60 @@ pub struct Reason {
     pub remedy: String,
 }
 
-/// The most characters of a record's line in `explain`, with fields and without; `show` prints all of them.
-const TEXT: usize = 480;
-const RAW_TEXT: usize = 120;
+/// The lines of `sheet explain` for the bytes of a sheet.
+pub fn explain(bytes: &[u8]) -> String {
+    of(&Source::of_sheet(bytes.to_vec()))
+}
 
 /// The lines of `sheet explain`.
-pub fn explain(bytes: &[u8]) -> String {
-    let cut = Cut::new(bytes);
-    let Err(refusal) = dispatch_bench::read(bytes) else {
+pub fn of(source: &Source) -> String {
+    let cut = Cut::new(&source.bytes);
+    let Err(refusal) = dispatch_bench::read(&source.bytes) else {
         return accepted(&cut);
     };
     let Refusal { number, offset } = refusal;
     let reason = reason(&cut, refusal);
-    let mut lines = format!("refused {number} at {offset}\n{}\n", reason.sentence);
+    let before = before(source, &cut, refusal);
+    let mut lines = format!(
+        "refused {number} at {offset}\n{before}{}\n",
+        reason.sentence
+    );
     lines += &format!("rule {number}: {}\n", refusal.rule());
-    lines += &format!("to do: {}\n", reason.remedy);
-    if let Some(record) = reason.record {
-        lines += &as_text(&cut, &record);
-    }
-    if text::is_text(bytes) {
-        lines += &format!("hint: {}\n", text::HINT);
+    match source.foreign {
+        Some(Foreign { is, to_do }) => {
+            lines += &format!("file: This is {is}, and no sheet.\n");
+            let to_do = to_do.replace("FILE", &repair::name(source));
+            lines += &format!("to do: {}.\n", capital(&to_do));
+        }
+        None => {
+            lines += &format!("to do: {}\n", reason.remedy);
+            lines += &repair::lines(source, &cut, &reason, refusal);
+        }
     }
     lines
+}
+
+/// `FILE:LINE: ` of what is refused, where the sheet was a text.
+fn before(source: &Source, cut: &Cut, refusal: Refusal) -> String {
+    let is_empty = cut.head.is_some_and(|head| head.count == 0);
+    let bit = (!is_empty).then_some(refusal.offset as usize);
+    source.before(bit)
+}
+
+/// What `pass` and `draw` say beside what they print: the line where a text is refused, or what a file is that is no sheet.
+pub fn beside(source: &Source) -> Option<String> {
+    let refusal = dispatch_bench::read(&source.bytes).err()?;
+    if let Some(Foreign { is, to_do }) = source.foreign {
+        let file = &source.file;
+        return Some(format!("{file}: is {is}: {}", to_do.replace("FILE", file)));
+    }
+    source.places.as_ref()?;
+    let cut = Cut::new(&source.bytes);
+    let (before, reason) = (before(source, &cut, refusal), reason(&cut, refusal));
+    Some(format!(
+        "{before}{} `sheet explain` says what to do.",
+        reason.sentence
+    ))
 }
 
 /// An accepted sheet, and what to ask where a host does not accept it.
@@ -105,32 +140,6 @@ fn bound_for_closed(stops: &[u32]) -> String {
 fn weighs_loads(cut: &Cut, policy: &Record) -> bool {
     let load = cut.named(policy, "load").map(f64::from_bits);
     load.is_some_and(|load| load > 0.0)
-}
-
-/// The record's line of text, and how to put it right there; bits without fields are nothing to edit where they are many.
-fn as_text(cut: &Cut, record: &Record) -> String {
-    let whole = show::record_line(cut, record, &cut.stops());
-    let most = if record.has_fields() { TEXT } else { RAW_TEXT };
-    let text = cropped(&whole, most);
-    if text != whole && !record.has_fields() {
-        return format!("text: {text}\n");
-    }
-    let line = grouped(show::line_number(cut, record) as u64);
-    format!(
-        "text: {text}\nrepair: If the file is as its writer wrote it: `sheet show FILE >a.txt`, put right line {line} of a.txt, which is this record, `sheet write a.txt FILE`.\n"
-    )
-}
-
-/// A line, or how it begins.
-fn cropped(line: &str, most: usize) -> String {
-    match line.char_indices().nth(most) {
-        Some((end, _)) => {
-            let all = grouped(line.chars().count() as u64);
-            let start = &line[..end];
-            format!("{start}.. ({all} characters, `sheet show` prints them)")
-        }
-        None => line.into(),
-    }
 }
 
 /// Why a sheet was refused.
@@ -207,11 +216,6 @@ fn place(cut: &Cut, record: &Record) -> String {
 pub fn bit_and_byte(at: usize) -> String {
     let (bit, byte) = (grouped(at as u64), grouped(at as u64 / 8));
     format!("bit {bit}; byte {byte}, bit {}", at % 8)
-}
-
-fn capital(word: &str) -> String {
-    let (first, others) = word.split_at(1);
-    first.to_uppercase() + others
 }
 
 fn passes_the_end(cut: &Cut, at: usize) -> String {

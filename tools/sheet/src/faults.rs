@@ -213,16 +213,14 @@ pub fn outside(field: &Field, held: Value) -> Option<String> {
         return None;
     };
     let value = f64::from_bits(held.bits);
-    let (inside, words) = match range {
-        Range::Position => (within(value, -1e6, 1e6), "-1,000,000 to 1,000,000"),
-        Range::Speed => {
-            let inside = value == 0.0 || within(value, 1.0 / 1_024.0, 1e3);
-            (inside, "0, or 1/1,024 to 1,000")
-        }
-        Range::Amount => (within(value, 0.0, 1e9), "0 to 1,000,000,000"),
-        Range::Threshold => (within(value, 0.0, 1e3), "0 to 1,000"),
-        Range::TickRate => (within(value, 1.0, 1e6), "1 to 1,000,000"),
+    let inside = match range {
+        Range::Position => within(value, -1e6, 1e6),
+        Range::Speed => value == 0.0 || within(value, 1.0 / 1_024.0, 1e3),
+        Range::Amount => within(value, 0.0, 1e9),
+        Range::Threshold => within(value, 0.0, 1e3),
+        Range::TickRate => within(value, 1.0, 1e6),
     };
+    let words = range.words();
     let shown = value::show_double(held.bits);
     let shown = if value.is_nan() {
         format!("not a number ({shown})")

@@ -1,0 +1,104 @@
+//! How a refused sheet is put right, in commands that can be typed as they stand.
+
+use dispatch_bench::Refusal;
+use sheetgen::bits;
+
+use crate::cut::{Cut, Record};
+use crate::explain::Reason;
+use crate::numbers::grouped;
+use crate::show;
+use crate::source::Source;
+
+/// The most characters of a record's line, with fields and without; `show` prints all of them.
+const TEXT: usize = 480;
+const RAW_TEXT: usize = 120;
+
+/// What the repair is good for.
+const AS_WRITTEN: &str = "If the file is as its writer wrote it:";
+
+/// The lines `text` and `repair` of a refusal.
+pub fn lines(source: &Source, cut: &Cut, reason: &Reason, refusal: Refusal) -> String {
+    if source.places.is_some() {
+        let before = source.before(Some(refusal.offset as usize));
+        return match before.trim_end_matches(": ") {
+            place if place == source.file => String::new(),
+            place => format!("repair: Put right {place}, then explain it again.\n"),
+        };
+    }
+    let file = name(source);
+    match (reason.record, refusal.number) {
+        (Some(record), _) => of_record(cut, &record, &file),
+        (None, 3) => of_head(cut, &file),
+        (None, 16) => of_tail(cut, refusal.offset as usize, &file),
+        _ => String::new(),
+    }
+}
+
+/// The file's name as a shell takes it; FILE where it has none.
+pub fn name(source: &Source) -> String {
+    let is_plain = |c: char| c.is_alphanumeric() || "_-./".contains(c);
+    match &*source.file {
+        "" | "-" => "FILE".into(),
+        file if file.chars().all(is_plain) && !file.starts_with('-') => file.into(),
+        file => format!("'{}'", file.replace('\'', "'\\''")),
+    }
+}
+
+/// Through the text of the sheet.
+fn through_text(file: &str, edit: &str) -> String {
+    format!(
+        "repair: {AS_WRITTEN} `sheet show {file} >a.txt`, {edit}, `sheet write a.txt {file}`.\n"
+    )
+}
+
+/// The record's line of text, and how to put it right there; bits without fields are nothing to edit where they are many.
+fn of_record(cut: &Cut, record: &Record, file: &str) -> String {
+    let whole = show::record_line(cut, record, &cut.stops());
+    let most = if record.has_fields() { TEXT } else { RAW_TEXT };
+    let text = cropped(&whole, most);
+    if text != whole && !record.has_fields() {
+        return format!("text: {text}\n");
+    }
+    let line = grouped(show::line_number(cut, record) as u64);
+    let edit = format!("put right line {line} of a.txt, which is this record");
+    format!("text: {text}\n{}", through_text(file, &edit))
+}
+
+/// An edition that there is not, of a file that can be cut into records by it.
+fn of_head(cut: &Cut, file: &str) -> String {
+    match cut.is_whole() && !cut.records.is_empty() {
+        true => through_text(
+            file,
+            "give edition= of line 2 of a.txt, which is the head, the edition of its records, 1 or 2",
+        ),
+        false => String::new(),
+    }
+}
+
+/// Bytes, or one bits, after the last record.
+fn of_tail(cut: &Cut, at: usize, file: &str) -> String {
+    let bytes = at.div_ceil(8);
+    let is_filled = bits::get(cut.bytes, at, 8 * bytes - at) == 0;
+    if !is_filled {
+        return through_text(
+            file,
+            "leave out the last lines of a.txt, which begin with rest",
+        );
+    }
+    let said = grouped(bytes as u64);
+    format!(
+        "repair: {AS_WRITTEN} cut it to {said} bytes: `head -c {bytes} {file} >a.sheet`, then explain a.sheet.\n"
+    )
+}
+
+/// A line, or how it begins.
+fn cropped(line: &str, most: usize) -> String {
+    match line.char_indices().nth(most) {
+        Some((end, _)) => {
+            let all = grouped(line.chars().count() as u64);
+            let start = &line[..end];
+            format!("{start}.. ({all} characters, `sheet show` prints them)")
+        }
+        None => line.into(),
+    }
+}

@@ -1,0 +1,95 @@
+//! A file that a command takes: a sheet, or a text of one. Every command that reads a sheet reads it here.
+
+use std::path::Path;
+
+use crate::files;
+use crate::foreign::{self, Foreign};
+use crate::line::Fault;
+use crate::names::Names;
+use crate::text::{self, Places};
+
+/// The bytes of a sheet, and what is known of them beside.
+#[derive(Clone, Debug, Default)]
+pub struct Source {
+    /// As it was named.
+    pub file: String,
+    pub bytes: Vec<u8>,
+    pub names: Names,
+    /// The lines of its records, where it was a text.
+    pub places: Option<Places>,
+    /// What it is, where it is a file of another kind.
+    pub foreign: Option<Foreign>,
+}
+
+impl Source {
+    /// The file as it is named, or why there are no bytes: it cannot be read, or it is a text that says no sheet.
+    pub fn read(path: &Path) -> Result<Self, String> {
+        Self::of(path, files::read(path)?)
+    }
+
+    /// The same of bytes that were read from there.
+    pub fn of(path: &Path, bytes: Vec<u8>) -> Result<Self, String> {
+        let file = path.display().to_string();
+        let foreign = foreign::find(&bytes);
+        if foreign.is_some() || !is_meant_as_text(&bytes) {
+            return Ok(Self {
+                file,
+                foreign,
+                ..Self::of_sheet(bytes)
+            });
+        }
+        let folder = path.parent().unwrap_or(Path::new(""));
+        let written = text::read(&bytes, folder).map_err(|faults| faulty(path, &faults))?;
+        Ok(Self {
+            file,
+            bytes: written.bytes,
+            names: written.names,
+            places: Some(written.places),
+            foreign: None,
+        })
+    }
+
+    /// Bytes without a file.
+    pub fn of_sheet(bytes: Vec<u8>) -> Self {
+        Self {
+            bytes,
+            ..Self::default()
+        }
+    }
+
+    /// `FILE:LINE: ` in front of what is said of a bit, where the sheet was a text; of a bit that no line says, `FILE: `.
+    pub fn before(&self, bit: Option<usize>) -> String {
+        let Some(places) = &self.places else {
+            return String::new();
+        };
+        let line = bit.map_or(places.head(), |bit| places.line(bit));
+        match line {
+            Some(line) => format!("{}:{line}: ", self.file),
+            None => format!("{}: ", self.file),
+        }
+    }
+}
+
+/// A text, if a damaged one: no accepted sheet begins with a printed character.
+fn is_meant_as_text(bytes: &[u8]) -> bool {
+    let text = bytes.strip_prefix(b"\xef\xbb\xbf").unwrap_or(bytes);
+    text::is_text(text)
+}
+
+/// The faults of a text, a line each.
+pub fn faulty(from: &Path, faults: &[Fault]) -> String {
+    let from = from.display();
+    let line = |f: &Fault| format!("{from}:{}:{}: {}", f.line, f.column, f.what);
+    faults.iter().map(line).collect::<Vec<_>>().join("\n")
+}
+
+/// A file of another kind in the place of a text.
+pub fn not_foreign(from: &Path, bytes: &[u8]) -> Result<(), String> {
+    match foreign::find(bytes) {
+        None => Ok(()),
+        Some(Foreign { is, to_do }) => {
+            let from = from.display().to_string();
+            Err(format!("{from}: is {is}: {}", to_do.replace("FILE", &from)))
+        }
+    }
+}
