@@ -8,10 +8,13 @@ use crate::cut::{Cut, Record};
 use crate::faults;
 use crate::fields::KINDS;
 use crate::foreign::Foreign;
+use crate::mend::{self, Also, End, Further};
+use crate::names::Names;
 use crate::numbers::grouped;
 use crate::show::number_of;
 use crate::source::Source;
 use crate::usage::capital;
+use crate::warnings::{self, Warning};
 use crate::{remedies, repair, show};
 
 /// A refusal in words.
@@ -35,26 +38,87 @@ pub fn explain(bytes: &[u8]) -> String {
 pub fn of(source: &Source) -> String {
     let cut = Cut::new(&source.bytes);
     let Err(refusal) = dispatch_bench::read(&source.bytes) else {
-        return accepted(&cut);
+        return accepted(&cut) + &warned(source, &cut, &[]);
     };
     let Refusal { number, offset } = refusal;
-    let reason = reason(&cut, refusal);
+    let reason = named_reason(&cut, refusal, &source.names);
     let before = before(source, &cut, refusal);
     let mut lines = format!(
         "refused {number} at {offset}\n{before}{}\n",
         reason.sentence
     );
     lines += &format!("rule {number}: {}\n", refusal.rule());
-    match source.foreign {
-        Some(Foreign { is, to_do }) => {
-            lines += &format!("file: This is {is}, and no sheet.\n");
-            let to_do = to_do.replace("FILE", &repair::name(source));
-            lines += &format!("to do: {}.\n", capital(&to_do));
+    if let Some(Foreign { is, to_do }) = source.foreign {
+        let to_do = capital(&to_do.replace("FILE", &repair::name(source)));
+        return lines + &format!("file: This is {is}, and no sheet.\nto do: {to_do}.\n");
+    }
+    lines += &format!("to do: {}\n", reason.remedy);
+    lines += &repair::lines(source, &cut, &reason, refusal);
+    let further = mend::further(&cut);
+    lines += &also(source, &cut, &further);
+    if further.end == End::Accepted {
+        let others = further.also.iter();
+        let others = others.filter_map(|o| Some((o.record?.at, o.fault.as_ref()?.field)));
+        let first = reason.record.map(|record| record.at).zip(reason.field);
+        lines += &warned(source, &cut, &others.chain(first).collect::<Vec<_>>());
+    }
+    lines
+}
+
+/// The faults that would be refused once the ones before them are mended, and how they were found.
+fn also(source: &Source, cut: &Cut, further: &Further) -> String {
+    let line = |also: &Also| {
+        let number = also.number;
+        let at = also.record.map_or(cut.end, |record| record.at);
+        let before = source.before(Some(at));
+        let Some(record) = also.record else {
+            let offset = at as u64;
+            let reason = reason(cut, Refusal { number, offset });
+            return format!("also {number}: {before}{}\n", reason.sentence);
+        };
+        let place = place(cut, &record, &source.names);
+        let fault = also.fault.as_ref();
+        let says = fault.map_or("see the rule", |fault| &fault.says);
+        let to_do = remedies::short(cut, &record, number, fault.map_or("", |f| f.field));
+        format!("also {number}: {before}{place}: {says}. To do: {to_do}\n")
+    };
+    let lines: String = further.also.iter().map(line).collect();
+    let found = match (further.end, further.also.len()) {
+        (End::Accepted, 0) => {
+            "In a copy this fault was mended, and the bench accepts the copy: there is no other one."
         }
-        None => {
-            lines += &format!("to do: {}\n", reason.remedy);
-            lines += &repair::lines(source, &cut, &reason, refusal);
+        (End::Accepted, _) => {
+            "In a copy these faults were mended one after the other; the bench named each line `also`, and accepts the copy with all of them mended."
         }
+        (End::More, _) => {
+            "In a copy these faults were mended one after the other; the bench named each line `also`. There are more: mend these first."
+        }
+        (End::Untold, 0) => {
+            "Nothing: records that follow cannot be told apart, or are not there, so no further fault can be named."
+        }
+        (End::Untold, _) => {
+            "In a copy these faults were mended one after the other; the bench named each line `also`. What follows the last one cannot be told apart, or is not there, so no further fault can be named."
+        }
+    };
+    lines + &format!("mended: {found}\n")
+}
+
+/// The most lines of warnings.
+const WARNINGS: usize = 20;
+
+/// What is allowed and hardly meant, but for the fields, by their records' offsets, that are named already.
+fn warned(source: &Source, cut: &Cut, named: &[(usize, &str)]) -> String {
+    let mut warnings = warnings::find(cut);
+    warnings.retain(|warning| !named.contains(&(warning.record.at, warning.field)));
+    let line = |warning: &Warning| {
+        let before = source.before(Some(warning.record.at));
+        let place = place(cut, &warning.record, &source.names);
+        format!("warning: {before}{place}: {}.\n", warning.says(cut))
+    };
+    let mut lines: String = warnings.iter().take(WARNINGS).map(line).collect();
+    if warnings.len() > WARNINGS {
+        let more = number_of(warnings.len() - WARNINGS, "more warning");
+        lines += &format!("warning: There are {more} like these.\n");
     }
     lines
 }
@@ -75,7 +139,8 @@ pub fn beside(source: &Source) -> Option<String> {
     }
     source.places.as_ref()?;
     let cut = Cut::new(&source.bytes);
-    let (before, reason) = (before(source, &cut, refusal), reason(&cut, refusal));
+    let before = before(source, &cut, refusal);
+    let reason = named_reason(&cut, refusal, &source.names);
     Some(format!(
         "{before}{} `sheet explain` says what to do.",
         reason.sentence
@@ -144,6 +209,11 @@ fn weighs_loads(cut: &Cut, policy: &Record) -> bool {
 
 /// Why a sheet was refused.
 pub fn reason(cut: &Cut, refusal: Refusal) -> Reason {
+    named_reason(cut, refusal, &Names::default())
+}
+
+/// The same, with the names that a text gives.
+fn named_reason(cut: &Cut, refusal: Refusal, names: &Names) -> Reason {
     let number = refusal.number;
     let at = usize::try_from(refusal.offset).unwrap_or(usize::MAX);
     let whole = |sentence: String| Reason {
@@ -162,7 +232,7 @@ pub fn reason(cut: &Cut, refusal: Refusal) -> Reason {
     let Some(record) = cut.records.iter().find(|record| record.at == at) else {
         return whole(format!("The refusal is at {}.", bit_and_byte(at)));
     };
-    let place = place(cut, record);
+    let place = place(cut, record, names);
     let fault = faults::find(cut, record, number);
     let says = fault.as_ref().map_or("see the rule", |fault| &fault.says);
     let field = fault.as_ref().map(|fault| fault.field);
@@ -190,8 +260,8 @@ fn no_record(at: usize) -> Reason {
     }
 }
 
-/// `Car record 2 (id 8, bit 1,723; byte 215, bit 3)`.
-fn place(cut: &Cut, record: &Record) -> String {
+/// `Car record 2 (id 8, bit 1,723; byte 215, bit 3)`; a name stands behind the id.
+fn place(cut: &Cut, record: &Record, names: &Names) -> String {
     let earlier = cut.records.iter().take_while(|other| other.at < record.at);
     let nth = 1 + earlier
         .clone()
@@ -206,9 +276,11 @@ fn place(cut: &Cut, record: &Record) -> String {
             grouped(1 + earlier.count() as u64)
         ),
     };
-    let id = cut
-        .named(record, "id")
-        .map_or(String::new(), |id| format!("id {id}, "));
+    let id = cut.named(record, "id").map_or(String::new(), |id| {
+        let name = names.of(record.kind, id as u32);
+        let name = name.map_or(String::new(), |name| format!(" \"{name}\""));
+        format!("id {id}{name}, ")
+    });
     format!("{place} ({id}{})", bit_and_byte(record.at))
 }
 
@@ -233,7 +305,7 @@ fn passes_the_end(cut: &Cut, at: usize) -> String {
             )
         }
         Some(stated) => {
-            let place = place(cut, &stated);
+            let place = place(cut, &stated, &Names::default());
             let [length, left] = [stated.length, left - 22].map(|bits| grouped(bits as u64));
             format!(
                 "{place}: length is {length}, but {left} bits are left after the record's 22; {whole}."

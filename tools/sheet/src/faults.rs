@@ -13,6 +13,7 @@ use crate::value::{self, Value};
 const IDS_IN_A_LIST: usize = 16;
 
 /// What a refusal is about.
+#[derive(Clone)]
 pub struct Fault {
     /// The field's name; kind and length stand in front of the body.
     pub field: &'static str,
@@ -183,7 +184,7 @@ fn missing(cut: &Cut, record: &Record, field: &Field, held: Value) -> Option<Str
 }
 
 /// 10: no record of the kind, in front of the one that names it, has the id.
-fn unnamed(cut: &Cut, name: &str, kind: usize, id: u64) -> String {
+pub fn unnamed(cut: &Cut, name: &str, kind: usize, id: u64) -> String {
     let noun = KINDS[kind];
     let ids = cut.ids(kind);
     if ids.contains(&id) {

@@ -22,6 +22,8 @@ pub mod grade;
 pub mod grades;
 pub mod line;
 pub mod man;
+#[cfg(feature = "pass")]
+mod mend;
 pub mod names;
 pub mod near;
 mod numbers;
@@ -42,5 +44,7 @@ pub mod text;
 pub mod travel;
 pub mod usage;
 pub mod value;
+#[cfg(feature = "pass")]
+mod warnings;
 #[cfg(feature = "pass")]
 pub mod weights;

@@ -20,6 +20,14 @@ pub fn instead(number: u32, words: &str) -> String {
     }
 }
 
+/// What to do about a fault, without what is said of a file that was changed on its way.
+pub fn short(cut: &Cut, record: &Record, number: u32, name: &str) -> String {
+    let of_rule = || rules::rule(number).map_or("", |rule| rule.remedy);
+    let found = find(cut, record, number, name);
+    let words = found.unwrap_or_else(|| of_rule().into());
+    words.trim_end_matches(rules::CHANGED).trim_end().into()
+}
+
 /// `None` where the rule's own words fit.
 pub fn find(cut: &Cut, record: &Record, number: u32, name: &str) -> Option<String> {
     let fields = cut.fields(record);

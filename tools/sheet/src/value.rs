@@ -34,14 +34,14 @@ impl Stops {
     }
 
     /// The bits of the stop records from one id to another, both of which must be there.
-    fn from_to(&self, first: u32, last: u32) -> Result<u64, String> {
+    fn between(&self, first: u32, last: u32) -> Result<u64, String> {
         if first > last {
             return Err(format!("{first}-{last} runs down; write {last}-{first}"));
         }
         let mask = self.bit(first)? | self.bit(last)?;
-        let between = self.0.iter().flatten();
-        let mut between = between.filter(|id| (first..=last).contains(id));
-        between.try_fold(mask, |mask, id| Ok(mask | self.bit(*id)?))
+        let ids = self.0.iter().flatten();
+        let mut ids = ids.filter(|id| (first..=last).contains(id));
+        ids.try_fold(mask, |mask, id| Ok(mask | self.bit(*id)?))
     }
 
     /// The bit of the stop record with this id.
@@ -244,7 +244,7 @@ fn mask(text: &str, stops: &Stops) -> Result<u64, String> {
     let mut mask = 0;
     for part in text.split(',') {
         mask |= match part.split_once('-') {
-            Some((first, last)) => stops.from_to(id(first)?, id(last)?)?,
+            Some((first, last)) => stops.between(id(first)?, id(last)?)?,
             None => stops.bit(id(part)?)?,
         };
     }

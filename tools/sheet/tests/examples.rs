@@ -321,6 +321,8 @@ fn has_sentence(sheet: &[u8]) {
     assert_eq!(lines[3].ends_with(rules::CHANGED), by_damage, "{said}");
     assert!(!lines[3].contains("the field"), "{said}");
     assert!(said.lines().all(|line| line.len() < 700), "{said}");
+    let mended = lines.iter().filter(|line| line.starts_with("mended: "));
+    assert_eq!(mended.count(), 1, "{said}");
     has_its_line(sheet, &said);
 }
 
@@ -400,4 +402,93 @@ fn the_manual_has_an_example_of_every_number() {
         let shown = examples.filter(|n| is_shown(n));
         assert_eq!(shown.count(), 1, "refusal {number}");
     }
+}
+
+/// What is wrong with a text: what stands there, what is put in its place, and the number that it is refused by.
+type Spoilt = (&'static str, &'static str, u32);
+
+/// Faults of the text of `small_etd`, in the order of their records, and by rising number within one.
+const SPOILT: [Spoilt; 16] = [
+    ("age=0.005", "age=0.005 weight_6=1", 8),
+    ("tick_rate=60", "tick_rate=0x7ff8000000000000", 11),
+    ("limit=none", "limit=0", 12),
+    (
+        "stop id=1 position=0\nstop id=2 position=4",
+        "stop id=2 position=4\nstop id=1 position=0",
+        9,
+    ),
+    ("position=8\n", "position=2000000\n", 11),
+    ("serves=all", "serves=0xf000000000000000", 10),
+    ("id=7 line=1", "id=7 line=5", 10),
+    ("max_speed=2 ", "max_speed=0.0005 ", 11),
+    ("phase=moving stop=3", "phase=moving", 9),
+    ("load=75", "load=-75", 11),
+    ("aboard car=8", "aboard car=9", 10),
+    ("waiting stop=2", "waiting stop=0", 9),
+    ("weight=75", "weight=-75", 11),
+    ("wait_ticks=600", "wait_ticks=9007199254740993", 14),
+    ("demand stop=3", "demand stop=7", 10),
+    (
+        "riderless_call=no",
+        "riderless_call=no\nrest length=16 bits=000a",
+        16,
+    ),
+];
+
+/// The numbers that `explain` names, the refusal's first.
+fn numbers_of(said: &str) -> Vec<u32> {
+    let number = |line: &str| {
+        let after = line
+            .strip_prefix("refused ")
+            .or(line.strip_prefix("also "))?;
+        after.split([' ', ':']).next()?.parse().ok()
+    };
+    said.lines().filter_map(number).collect()
+}
+
+/// Twenty warnings are printed, and how many more there are.
+#[test]
+fn many_warnings() {
+    let start = text(&std::fs::read(here("examples/small_etd.txt")).unwrap());
+    let (above, below) = start.split_at(start.find("demand").unwrap());
+    let riders = "waiting stop=2 destination=2 weight=75 wait_ticks=1\n".repeat(25);
+    let bytes = sheet::text::write([above, &riders, below].concat().as_bytes(), Path::new(""));
+    let said = explain::explain(&bytes.unwrap());
+    let warnings = said.lines().filter(|line| line.starts_with("warning: "));
+    assert_eq!(warnings.count(), 21, "{said}");
+    assert!(
+        said.ends_with("warning: There are 5 more warnings like these.\n"),
+        "{said}"
+    );
+}
+
+/// Whichever faults a text has, `explain` names them all and no other: one, two or three of them.
+#[test]
+fn every_fault_is_named() {
+    let file = text(&std::fs::read(here("examples/small_etd.txt")).unwrap());
+    let mut tried = 0;
+    for a in 0..SPOILT.len() {
+        for b in a..SPOILT.len() {
+            for c in b..SPOILT.len() {
+                let mut chosen = vec![a, b, c];
+                chosen.dedup();
+                let mut spoilt = file.clone();
+                for k in &chosen {
+                    let (right, wrong, _) = SPOILT[*k];
+                    assert!(spoilt.contains(right), "{right}");
+                    spoilt = spoilt.replacen(right, wrong, 1);
+                }
+                let bytes = sheet::text::write(spoilt.as_bytes(), Path::new("")).unwrap();
+                let said = explain::explain(&bytes);
+                let numbers: Vec<u32> = chosen.iter().map(|k| SPOILT[*k].2).collect();
+                assert_eq!(numbers_of(&said), numbers, "{chosen:?}\n{said}");
+                assert!(
+                    said.contains("\nmended: ") && said.contains("accepts the copy"),
+                    "{said}"
+                );
+                tried += 1;
+            }
+        }
+    }
+    assert_eq!(tried, 16 * 17 * 18 / 6);
 }
