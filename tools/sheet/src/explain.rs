@@ -15,7 +15,7 @@ use crate::show::number_of;
 use crate::source::Source;
 use crate::usage::capital;
 use crate::warnings::{self, Warning};
-use crate::{remedies, repair, show};
+use crate::{remedies, repair, rules, show};
 
 /// A refusal in words.
 pub struct Reason {
@@ -49,10 +49,15 @@ pub fn of(source: &Source) -> String {
     );
     lines += &format!("rule {number}: {}\n", refusal.rule());
     if let Some(Foreign { is, to_do }) = source.foreign {
-        let to_do = capital(&to_do.replace("FILE", &repair::name(source)));
+        let to_do = capital(&to_do.replace("FILE", &source.shell_name()));
         return lines + &format!("file: This is {is}, and no sheet.\nto do: {to_do}.\n");
     }
-    lines += &format!("to do: {}\n", reason.remedy);
+    // A text is no file that a carrier changed.
+    let remedy = match source.places {
+        Some(_) => reason.remedy.trim_end_matches(rules::CHANGED).trim_end(),
+        None => &reason.remedy,
+    };
+    lines += &format!("to do: {remedy}\n");
     lines += &repair::lines(source, &cut, &reason, refusal);
     let further = mend::further(&cut);
     lines += &also(source, &cut, &further);
@@ -133,9 +138,8 @@ fn before(source: &Source, cut: &Cut, refusal: Refusal) -> String {
 /// What `pass` and `draw` say beside what they print: the line where a text is refused, or what a file is that is no sheet.
 pub fn beside(source: &Source) -> Option<String> {
     let refusal = dispatch_bench::read(&source.bytes).err()?;
-    if let Some(Foreign { is, to_do }) = source.foreign {
-        let file = &source.file;
-        return Some(format!("{file}: is {is}: {}", to_do.replace("FILE", file)));
+    if let Some(foreign) = source.foreign {
+        return Some(foreign.named(&source.file));
     }
     source.places.as_ref()?;
     let cut = Cut::new(&source.bytes);

@@ -1,10 +1,20 @@
 //! Files that are no sheet and no text of one, known by how they begin. Whether a sheet is accepted is for the library alone to say.
 
+use crate::source::shell_name;
+
 /// What a file is, and what to do with it; FILE stands for its name.
 #[derive(Clone, Copy, Debug, PartialEq, Eq)]
 pub struct Foreign {
     pub is: &'static str,
     pub to_do: &'static str,
+}
+
+impl Foreign {
+    /// What is said of such a file in a line.
+    pub fn named(&self, file: &str) -> String {
+        let to_do = self.to_do.replace("FILE", &shell_name(file));
+        format!("{file}: is {}: {to_do}", self.is)
+    }
 }
 
 const fn foreign(is: &'static str, to_do: &'static str) -> Foreign {

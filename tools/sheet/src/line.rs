@@ -128,8 +128,8 @@ impl<'t> Line<'t> {
         fields.filter(|name| !names.contains(name)).collect()
     }
 
-    /// Every field but these is a fault.
-    pub fn beside(&self, names: &[&str]) -> Vec<Fault> {
+    /// Every field but these is a fault, which may be named elsewhere.
+    pub fn beside(&self, names: &[&str], elsewhere: &[&str]) -> Vec<Fault> {
         let fault = |name: &str| {
             let (word, list) = (self.word, names.join(", "));
             let expected = match nearest(name, names) {
@@ -138,12 +138,14 @@ impl<'t> Line<'t> {
             };
             self.fault_in(name, &format!("{word} has no such field; {expected}"))
         };
-        self.others(names).into_iter().map(fault).collect()
+        let others = self.others(names).into_iter();
+        let others = others.filter(|name| !elsewhere.contains(name));
+        others.map(fault).collect()
     }
 
     /// No field but these.
     pub fn only(&self, names: &[&str]) -> Result<(), Fault> {
-        match self.beside(names).into_iter().next() {
+        match self.beside(names, &[]).into_iter().next() {
             None => Ok(()),
             Some(fault) => Err(fault),
         }

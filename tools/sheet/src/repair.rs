@@ -25,22 +25,12 @@ pub fn lines(source: &Source, cut: &Cut, reason: &Reason, refusal: Refusal) -> S
             place => format!("repair: Put right {place}, then explain it again.\n"),
         };
     }
-    let file = name(source);
+    let file = source.shell_name();
     match (reason.record, refusal.number) {
         (Some(record), _) => of_record(cut, &record, &file),
         (None, 3) => of_head(cut, &file),
         (None, 16) => of_tail(cut, refusal.offset as usize, &file),
         _ => String::new(),
-    }
-}
-
-/// The file's name as a shell takes it; FILE where it has none.
-pub fn name(source: &Source) -> String {
-    let is_plain = |c: char| c.is_alphanumeric() || "_-./".contains(c);
-    match &*source.file {
-        "" | "-" => "FILE".into(),
-        file if file.chars().all(is_plain) && !file.starts_with('-') => file.into(),
-        file => format!("'{}'", file.replace('\'', "'\\''")),
     }
 }
 

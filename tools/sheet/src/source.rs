@@ -57,6 +57,10 @@ impl Source {
         }
     }
 
+    pub fn shell_name(&self) -> String {
+        shell_name(&self.file)
+    }
+
     /// `FILE:LINE: ` in front of what is said of a bit, where the sheet was a text; of a bit that no line says, `FILE: `.
     pub fn before(&self, bit: Option<usize>) -> String {
         let Some(places) = &self.places else {
@@ -67,6 +71,16 @@ impl Source {
             Some(line) => format!("{}:{line}: ", self.file),
             None => format!("{}: ", self.file),
         }
+    }
+}
+
+/// A file's name as a shell takes it; FILE where it has none.
+pub fn shell_name(file: &str) -> String {
+    let is_plain = |c: char| c.is_alphanumeric() || "_-./".contains(c);
+    match file {
+        "" | "-" => "FILE".into(),
+        file if file.chars().all(is_plain) && !file.starts_with('-') => file.into(),
+        file => format!("'{}'", file.replace('\'', "'\\''")),
     }
 }
 
@@ -87,9 +101,6 @@ pub fn faulty(from: &Path, faults: &[Fault]) -> String {
 pub fn not_foreign(from: &Path, bytes: &[u8]) -> Result<(), String> {
     match foreign::find(bytes) {
         None => Ok(()),
-        Some(Foreign { is, to_do }) => {
-            let from = from.display().to_string();
-            Err(format!("{from}: is {is}: {}", to_do.replace("FILE", &from)))
-        }
+        Some(foreign) => Err(foreign.named(&from.display().to_string())),
     }
 }

@@ -142,7 +142,7 @@ fn head(line: &Line) -> Result<u64, Fault> {
 fn record(writer: &mut Writer, line: &Line, strategy: Option<u64>) -> Result<(), Vec<Fault>> {
     let fields = fields::store_fields(strategy);
     let names = fields.each_ref().map(|field| field.name);
-    let (mut values, mut faults) = (Vec::new(), line.beside(&names));
+    let (mut values, mut faults) = (Vec::new(), line.beside(&names, &[]));
     for field in fields {
         match line.get(field.name) {
             None if line.may_mean(field.name, &names) => {}

@@ -138,11 +138,13 @@ fn place(line: &Line, before: Before) -> Result<(), Fault> {
 
 fn counted(records: usize) -> Result<u64, String> {
     match records {
-        0 => Err("the text has no record: the first is a line policy, and `sheet example` prints a text to start from".into()),
-        1..65_536 => Ok(records as u64),
+        0..65_536 => Ok(records as u64),
         _ => Err(format!("records: expected at most 65535, found {records}")),
     }
 }
+
+/// Said of a text that has neither a record nor a line that says so.
+const NO_RECORD: &str = "the text has no record: the first is a line policy, and `sheet example` prints a text to start from";
 
 /// What a policy says in the place of its six weights.
 const OF_A_STORE: [&str; 2] = ["weights", "day"];
@@ -180,6 +182,16 @@ impl Reader<'_> {
                 _ => before.max(Before::Record),
             };
         }
+        let head = lines.first().filter(|line| line.word == "sheet");
+        let is_said =
+            head.is_some_and(|head| ["records", "head"].iter().any(|f| head.get(f).is_some()));
+        if self.records == 0 && !is_said && self.faults.is_empty() {
+            self.faults.push(Fault {
+                line: 1,
+                column: 1,
+                what: NO_RECORD.into(),
+            });
+        }
     }
 
     fn line(&mut self, line: &Line) {
@@ -212,13 +224,10 @@ impl Reader<'_> {
 
     /// Edition 1 and the number of records there are.
     fn default_head(&mut self, lines: &[Line]) {
-        // A line that cannot be read is named in its own place.
-        let is_empty = self.records == 0 && !lines.is_empty() && !self.faults.is_empty();
         let line = lines.last().map_or(1, |line| line.number);
         self.writer.put(8, 1);
         match counted(self.records) {
             Ok(count) => self.writer.put(16, count),
-            Err(_) if is_empty => {}
             Err(what) => self.faults.push(Fault {
                 line,
                 column: 1,
@@ -261,7 +270,7 @@ impl Reader<'_> {
             2 | 4 => names.push(names::NAME),
             _ => {}
         }
-        self.beside(line, kind, &names);
+        self.beside(line, kind, &names, &[]);
         self.writer.put(6, kind as u64);
         self.writer.put(16, body_bits(self.edition, kind) as u64);
         for field in own {
@@ -283,14 +292,12 @@ impl Reader<'_> {
         }
     }
 
-    /// The fields of a line that its kind does not have.
-    fn beside(&mut self, line: &Line, kind: usize, names: &[&str]) {
+    /// The fields of a line that its kind does not have; some are named elsewhere.
+    fn beside(&mut self, line: &Line, kind: usize, names: &[&str], elsewhere: &[&str]) {
         let early = across_at(kind).is_some() && self.edition != 2 && line.get(ACROSS).is_some();
-        let names = match early {
-            true => &[names, &[ACROSS]].concat(),
-            false => names,
-        };
-        self.faults.extend(line.beside(names));
+        let across = if early { &[ACROSS][..] } else { &[] };
+        let elsewhere = [elsewhere, across].concat();
+        self.faults.extend(line.beside(names, &elsewhere));
         if early {
             let what =
                 "is a field of edition 2; the first line of such a text is `sheet edition=2`";
@@ -324,12 +331,12 @@ impl Reader<'_> {
         let fields = fields::fields(self.edition, kind);
         let shared = fields.iter().filter(|field| field.name != "id");
         let names: Vec<&str> = shared.clone().map(|field| field.name).collect();
-        let own = ["id", names::NAME].map(|name| line.get(name).map(|_| name));
-        for name in own.into_iter().flatten() {
+        let own = ["id", names::NAME];
+        for name in own.iter().filter(|name| line.get(name).is_some()) {
             let what = "is for each car to say; `car default` says what holds for all later ones";
             self.faults.push(line.fault_in(name, what));
         }
-        self.beside(line, kind, &[&names[..], &["id", names::NAME]].concat());
+        self.beside(line, kind, &names, &own);
         for field in shared {
             if let Some(text) = line.get(field.name) {
                 let value = value::parse(field, text, &self.stops);
