@@ -268,7 +268,11 @@ fn grade(args: &Args) -> Result<(), Stop> {
     let grades = sheet::grades::read(&files::read(text)?);
     let grades = grades.map_err(|faults| source::faulty(text, &faults))?;
     of_the_interface()?;
-    print(&sheet::grade::grade(&source.bytes, &grades))
+    // A refused text is explained with its lines.
+    match source.places.is_some() && dispatch_bench::read(&source.bytes).is_err() {
+        true => print(&sheet::explain::of(&source)),
+        false => print(&sheet::grade::grade(&source.bytes, &grades)),
+    }
 }
 
 /// The six weights, or the refusal explained.

@@ -59,6 +59,7 @@ pub fn of(source: &Source) -> String {
     };
     lines += &format!("to do: {remedy}\n");
     lines += &repair::lines(source, &cut, &reason, refusal);
+    lines += &carried(source);
     let further = mend::further(&cut);
     lines += &also(source, &cut, &further);
     if further.end == End::Accepted {
@@ -68,6 +69,23 @@ pub fn of(source: &Source) -> String {
         lines += &warned(source, &cut, &others.chain(first).collect::<Vec<_>>());
     }
     lines
+}
+
+/// A hint, where the bytes look as those of a sheet that was carried as a text.
+fn carried(source: &Source) -> String {
+    let bytes = &source.bytes;
+    let feeds = bytes.iter().filter(|b| **b == b'\n').count();
+    let ends = bytes.windows(2).filter(|pair| pair == b"\r\n").count();
+    let says = if source.places.is_some() {
+        return String::new();
+    } else if feeds >= 2 && feeds == ends {
+        "Each byte 0a of the file stands behind a 0d, as where a carrier changed line ends"
+    } else if !bytes.is_ascii() && std::str::from_utf8(bytes).is_ok() {
+        "The bytes above 7f are those of UTF-8, as where a carrier recoded a file"
+    } else {
+        return String::new();
+    };
+    format!("hint: {says}: fetch it again, in binary.\n")
 }
 
 /// The faults that would be refused once the ones before them are mended, and how they were found.

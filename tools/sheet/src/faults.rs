@@ -174,10 +174,15 @@ fn missing(cut: &Cut, record: &Record, field: &Field, held: Value) -> Option<Str
                 .take_while(|other| other.at < record.at)
                 .count();
             let past = (stops..64).find(|k| held.bits >> (63 - k) & 1 == 1)?;
-            let (nth, stops) = (past + 1, number_of(stops, "stop record"));
-            Some(format!(
-                "{name} has a one bit for stop record {nth}, but the sheet has {stops} before it"
-            ))
+            let (nth, before) = (past + 1, number_of(stops, "stop record"));
+            Some(match past < cut.of_kind(2).count() {
+                true => format!(
+                    "{name} has a one bit for stop record {nth}, but that stop comes after it"
+                ),
+                false => format!(
+                    "{name} has a one bit for stop record {nth}, but the sheet has {before} before it"
+                ),
+            })
         }
         _ => None,
     }

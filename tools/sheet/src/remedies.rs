@@ -141,7 +141,11 @@ fn id(record: &Record, field: &Field, held: Value) -> String {
 fn missing(cut: &Cut, record: &Record, field: &Field, held: Value) -> Option<String> {
     let name = field.name;
     let Form::Id(Names::Record(kind)) = field.form else {
-        let words = || format!("Give {name}= stops that have a record: their ids, all, or none.");
+        let is_late = |stop: &Record| stop.at > record.at;
+        let words = || match cut.of_kind(2).any(is_late) {
+            true => "Put all stops in front of the lines and cars.".into(),
+            false => format!("Give {name}= stops that have a record: their ids, all, or none."),
+        };
         return (field.form == Form::Mask).then(words);
     };
     let (noun, id, ids) = (KINDS[kind], held.bits, cut.ids(kind));

@@ -2,12 +2,14 @@
 
 use dispatch_bench::Refusal;
 use sheetgen::bits;
+use sheetgen::sheet::HEAD_BITS;
 
 use crate::cut::{Cut, Record};
 use crate::explain::Reason;
 use crate::numbers::grouped;
 use crate::show;
 use crate::source::Source;
+use crate::usage::capital;
 
 /// The most characters of a record's line, with fields and without; `show` prints all of them.
 const TEXT: usize = 480;
@@ -19,18 +21,53 @@ const AS_WRITTEN: &str = "If the file is as its writer wrote it:";
 /// The lines `text` and `repair` of a refusal.
 pub fn lines(source: &Source, cut: &Cut, reason: &Reason, refusal: Refusal) -> String {
     if source.places.is_some() {
-        let before = source.before(Some(refusal.offset as usize));
-        return match before.trim_end_matches(": ") {
-            place if place == source.file => String::new(),
-            place => format!("repair: Put right {place}, then explain it again.\n"),
-        };
+        return of_text(source, cut, reason, refusal);
     }
     let file = source.shell_name();
     match (reason.record, refusal.number) {
-        (Some(record), _) => of_record(cut, &record, &file),
+        (Some(record), number) => of_record(cut, &record, number, &file),
         (None, 3) => of_head(cut, &file),
         (None, 16) => of_tail(cut, refusal.offset as usize, &file),
         _ => String::new(),
+    }
+}
+
+/// In the planner's own text.
+fn of_text(source: &Source, cut: &Cut, reason: &Reason, refusal: Refusal) -> String {
+    let place = |bit: usize| source.before(Some(bit)).trim_end_matches(": ").to_string();
+    let there = place(refusal.offset as usize);
+    if there == source.file {
+        return String::new();
+    }
+    let line = |record: &Record| match place(record.at).rsplit_once(':') {
+        Some((_, line)) => line.to_string(),
+        None => String::new(),
+    };
+    let edit = match reason.record {
+        Some(record) => edit(cut, &record, refusal.number, &there, &line),
+        None => format!("put right {there}"),
+    };
+    format!("repair: {}, then explain it again.\n", capital(&edit))
+}
+
+/// What is to be done with the line of a record, which is `this`; `line` says the line of another one.
+fn edit(
+    cut: &Cut,
+    record: &Record,
+    number: u32,
+    this: &str,
+    line: &dyn Fn(&Record) -> String,
+) -> String {
+    let earlier = cut.records.iter().take_while(|r| r.at < record.at);
+    let above = earlier.into_iter().find(|other| other.kind > record.kind);
+    let policy = cut.records.iter().find(|other| other.kind == 1);
+    match (number, above, policy) {
+        // A second policy, and a record that is one too many or of no known kind, has no place.
+        (6, Some(_), _) if record.kind == 1 => format!("leave out {this}"),
+        (4 | 7, ..) if record.at > HEAD_BITS => format!("leave out {this}"),
+        (6, Some(above), _) => format!("move {this} above line {}", line(above)),
+        (6, None, Some(policy)) => format!("move line {}, the policy, above {this}", line(policy)),
+        _ => format!("put right {this}"),
     }
 }
 
@@ -42,16 +79,20 @@ fn through_text(file: &str, edit: &str) -> String {
 }
 
 /// The record's line of text, and how to put it right there; bits without fields are nothing to edit where they are many.
-fn of_record(cut: &Cut, record: &Record, file: &str) -> String {
+fn of_record(cut: &Cut, record: &Record, number: u32, file: &str) -> String {
     let whole = show::record_line(cut, record, &cut.stops());
     let most = if record.has_fields() { TEXT } else { RAW_TEXT };
     let text = cropped(&whole, most);
     if text != whole && !record.has_fields() {
         return format!("text: {text}\n");
     }
-    let line = grouped(show::line_number(cut, record) as u64);
-    let edit = format!("put right line {line} of a.txt, which is this record");
-    format!("text: {text}\n{}", through_text(file, &edit))
+    let line = |record: &Record| grouped(show::line_number(cut, record) as u64);
+    let this = format!("line {} of a.txt, which is this record,", line(record));
+    let edit = edit(cut, record, number, &this, &line);
+    format!(
+        "text: {text}\n{}",
+        through_text(file, edit.trim_end_matches(','))
+    )
 }
 
 /// An edition that there is not, of a file that can be cut into records by it.

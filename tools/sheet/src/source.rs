@@ -84,10 +84,13 @@ pub fn shell_name(file: &str) -> String {
     }
 }
 
-/// A text, if a damaged one: no accepted sheet begins with a printed character.
+/// A text, or one with a few bytes that are none of UTF-8 or not printed. No accepted sheet begins with a printed character.
 fn is_meant_as_text(bytes: &[u8]) -> bool {
     let text = bytes.strip_prefix(b"\xef\xbb\xbf").unwrap_or(bytes);
-    text::is_text(text)
+    let is_printed = |b: &u8| matches!(b, b'\t' | b'\r' | b'\n' | b' '..=b'~');
+    let printed = text.iter().filter(|b| is_printed(b)).count();
+    let is_mostly = text.first().is_some_and(is_printed) && 8 * printed >= 7 * text.len();
+    text::is_text(text) || is_mostly
 }
 
 /// The faults of a text, a line each.

@@ -414,6 +414,7 @@ fn unknown(line: &Line) -> Fault {
     let names = KINDS[1..].join(", ");
     let words = [&["sheet", "record", "rest"], &KINDS[1..]].concat();
     let meant = did_you_mean(word, &words);
+    let word = word.escape_debug();
     line.fault(format!(
         "\"{word}\": expected sheet, {names}, record or rest{meant}"
     ))

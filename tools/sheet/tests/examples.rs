@@ -186,8 +186,8 @@ fn riders_bound_for_closed_stops_are_named() {
 /// The number of the line that `explain` says is to be put right.
 fn line_to_repair(said: &str) -> Option<usize> {
     let repair = said.lines().find(|line| line.starts_with("repair: "))?;
-    let (_, after) = repair.split_once("put right line ")?;
-    let (number, _) = after.split_once(" of a.txt")?;
+    let (before, _) = repair.split_once(" of a.txt, which is this record")?;
+    let (_, number) = before.rsplit_once(' ')?;
     number.replace(',', "").parse().ok()
 }
 

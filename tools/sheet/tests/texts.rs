@@ -72,6 +72,34 @@ fn no_sheet_is_said() {
     }
 }
 
+/// A text with a byte that is none of UTF-8, or with the mark that ended files once, is taken for a text.
+#[test]
+fn texts_with_odd_bytes() {
+    let lobby = std::fs::read(here("examples/lobby.txt")).unwrap();
+    let mut latin = lobby.clone();
+    latin.splice(2..2, [0xe9]);
+    let dos = [&lobby[..], b"\x1a"].concat();
+    let line = 1 + lobby.iter().filter(|b| **b == b'\n').count();
+    for (bytes, said) in [
+        (
+            latin,
+            "-:1:3: expected text in UTF-8; `sheet show` makes text of a sheet\n".into(),
+        ),
+        (
+            dos,
+            format!(
+                "-:{line}:1: \"\\u{{1a}}\": expected sheet, policy, stop, line, car, aboard, waiting, demand, closed, record or rest\n"
+            ),
+        ),
+    ] {
+        for command in ["write", "explain", "pass"] {
+            let output = run(&[command, "-"], &bytes);
+            assert_eq!(output.status.code(), Some(1), "{command}");
+            assert_eq!(text(&output.stderr), said, "{command}");
+        }
+    }
+}
+
 /// What is said of a text names its file, its lines and its names.
 #[cfg(feature = "pass")]
 #[test]
