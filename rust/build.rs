@@ -43,10 +43,11 @@ fn main() {
     }
 }
 
-/// The first 32 bits of the fraction of a root of the k-th prime, from 0; `root` is 2 or 3. Exact: the whole root of the prime times 2 to the 64 or 96.
+/// The first 32 bits of the fraction of a root of the k-th prime, from 0; `root` is 2 or 3. They are the last of the whole root of the prime times 2 to
+/// the 64 or 96.
 fn fraction(k: usize, root: u32) -> u32 {
-    let primes = (2u128..).filter(|n| (2..*n).all(|d| !n.is_multiple_of(d)));
-    let prime = primes.skip(k).next().unwrap_or(2);
+    let mut primes = (2u128..).filter(|n| (2..*n).all(|d| !n.is_multiple_of(d)));
+    let prime = primes.nth(k).unwrap_or(2);
     let (mut low, mut high) = (0u128, 1 << 40);
     while high - low > 1 {
         let middle = (low + high) / 2;
