@@ -41,6 +41,9 @@ impl Names {
 /// What is wrong with a name.
 pub fn check(name: &str) -> Result<(), String> {
     match name.chars().count() {
+        _ if name.contains(char::is_control) => {
+            Err("expected printed characters, found another one".into())
+        }
         0 => Err("expected a name, found none; leave name= out where there is none".into()),
         1..=MOST => Ok(()),
         long => Err(format!("expected at most {MOST} characters, found {long}")),

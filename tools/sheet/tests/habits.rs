@@ -375,7 +375,22 @@ fn fish_completes() {
     }
 }
 
-/// zsh is asked what it is given to complete with: its own functions stand for themselves.
+/// What zsh is given to complete a line with: its own functions stand for themselves, and print what they are told.
+fn zsh_told(room: &Room, line: &str) -> String {
+    let body = r#"
+        _describe() { print -rl "$1" ${(P)2} }
+        _arguments() { print -rl "at $CURRENT of $words" "$@" }
+        . ./_sheet
+        words=("$@") CURRENT=$#
+        _sheet"#;
+    let body = format!("cd {}\n{body}", room.0.display());
+    let words: Vec<&str> = line.split(' ').collect();
+    let args = [&["-f", "-c", &body, "zsh"], &words[..]].concat();
+    let (told, faults) = piped("zsh", &args, b"");
+    assert_eq!(faults, "", "{line}");
+    told
+}
+
 #[test]
 fn zsh_completes() {
     if !is_there("zsh") {
@@ -383,50 +398,45 @@ fn zsh_completes() {
     }
     let room = completed_in("zsh");
     let script = text(&run(&["completions", "zsh"], b"").stdout);
-    room.put("_sheet", script.as_bytes());
-    let body = r#"
-        _describe() { print -rl "$1" ${(P)2} }
-        _arguments() { print -rl "at $CURRENT of $words" "$@" }
-        . ./_sheet
-        words=("$@") CURRENT=$#
-        _sheet"#;
-    let complete = |line: &str| {
-        let words: Vec<&str> = line.split(' ').collect();
-        let body = format!("cd {}\n{body}", room.0.display());
-        let args = [&["-f", "-c", &body, "zsh"], &words[..]].concat();
-        let (found, faults) = piped("zsh", &args, b"");
-        assert_eq!(faults, "", "{line}");
-        found
-    };
-    let (_, faults) = piped("zsh", &["-n", room.0.join("_sheet").to_str().unwrap()], b"");
-    assert_eq!(faults, "");
-    let first = complete("sheet dr");
-    assert!(
-        first.starts_with("command\nexample:print a text to start from\\: ETD"),
-        "{first}"
-    );
-    assert!(
-        first.contains("\nstore:write, show and ask stores of weights\n"),
-        "{first}"
-    );
-    let store = complete("sheet store w");
-    assert!(
-        store.contains("\nweights:print the six weights of a day"),
-        "{store}"
-    );
-    let draw = complete("sheet draw a");
-    assert!(
-        draw.starts_with("at 2 of draw a\n--acceleration[the rate"),
-        "{draw}"
-    );
-    assert!(
-        draw.contains("]:A:\n") && draw.contains("\n1:SHEET:_files\n2::OUT:_files\n"),
-        "{draw}"
-    );
-    let weights = complete("sheet store weights a 1 E");
-    assert!(weights.contains("at 4 of weights a 1 E\n"), "{weights}");
-    assert!(
-        weights.ends_with("\n2:DAY:()\n3::STRATEGY:(ETD RSR SCAN)\n"),
-        "{weights}"
-    );
+    let file = room.put("_sheet", script.as_bytes());
+    assert_eq!(piped("zsh", &["-n", &file], b"").1, "");
+    for (line, told) in [
+        (
+            "sheet dr",
+            &[
+                "command\nexample:print a text to start from\\: ETD",
+                "\ndraw:draw a sheet and",
+                "\nstore:write, show and ask stores of weights\n",
+            ][..],
+        ),
+        (
+            "sheet store w",
+            &[
+                "command\nexample:print the text",
+                "\nweights:print the six weights of a day",
+            ],
+        ),
+        (
+            "sheet draw a",
+            &[
+                "at 2 of draw a\n--acceleration[the rate",
+                "]:A:\n",
+                "\n1:SHEET:_files\n2::OUT:_files\n",
+            ],
+        ),
+        (
+            "sheet store weights a 1 E",
+            &[
+                "at 4 of weights a 1 E\n",
+                "\n2:DAY:()\n3::STRATEGY:(ETD RSR SCAN)\n",
+            ],
+        ),
+        ("sheet completions f", &["\n1:SHELL:(bash zsh fish)\n"]),
+    ] {
+        let found = zsh_told(&room, line);
+        assert!(
+            told.iter().all(|words| found.contains(words)),
+            "{line}: {found}"
+        );
+    }
 }
