@@ -4,7 +4,7 @@ use std::ffi::{OsStr, OsString};
 use std::path::Path;
 
 use crate::near::did_you_mean;
-use crate::usage::{self, Choice, Command};
+use crate::usage::{self, Choice, Command, Takes};
 
 /// What a command line asks for.
 pub enum Asked {
@@ -120,11 +120,17 @@ fn unknown(name: &str) -> String {
 /// The words and options that follow a command.
 fn read(command: &'static Command, args: &[OsString]) -> Result<Args, String> {
     let (mut words, mut options) = (Vec::new(), Vec::new());
-    let mut args = args.iter();
+    let mut args = args.iter().peekable();
     while let Some(arg) = args.next() {
         match option(command, arg)? {
             Some(choice) => {
-                let value = choice.value.and_then(|_| args.next().cloned());
+                let value = value(choice, args.next_if(|_| choice.value.is_some()))?;
+                if options
+                    .iter()
+                    .any(|(other, _): &(&Choice, _)| other.name == choice.name)
+                {
+                    return Err(format!("{} is named twice", choice.name));
+                }
                 options.push((choice, value));
             }
             None if arg == "--" => words.extend(args.by_ref().cloned()),
@@ -142,6 +148,20 @@ fn read(command: &'static Command, args: &[OsString]) -> Result<Args, String> {
             options,
         }),
     }
+}
+
+/// What follows an option, where something must.
+fn value(choice: &Choice, next: Option<&OsString>) -> Result<Option<OsString>, String> {
+    let Some(word) = &choice.value else {
+        return Ok(None);
+    };
+    let noun = match word.takes {
+        Takes::File => "file",
+        Takes::Number => "number",
+        Takes::One(_) | Takes::Command => "word",
+    };
+    let missing = || format!("no {noun} is named after {}", choice.name);
+    next.cloned().map(Some).ok_or_else(missing)
 }
 
 /// The option that a word is; a word that looks like one must be one.

@@ -61,24 +61,31 @@ fn options(command: &Command) -> String {
 fn bash() -> String {
     let (mut places, mut all) = (String::new(), String::new());
     for command in &COMMANDS {
+        let name = command.name;
         for (k, word) in command.words.iter().enumerate() {
-            let does = match (word.takes, choices(word).join(" ")) {
-                (Takes::File, _) => "files=yes".into(),
-                (_, choices) => format!("words='{choices}'"),
-            };
-            places += &format!("        '{} {k}') {does} ;;\n", command.name);
+            places += &bash_place(name, &k.to_string(), word);
         }
-        all += &format!(
-            "            '{}') words='{}' ;;\n",
-            command.name,
-            options(command)
-        );
+        for option in command.options {
+            let value = option.value.as_ref();
+            places += &value.map_or(String::new(), |word| bash_place(name, option.name, word));
+        }
+        let options = options(command);
+        all += &format!("            '{name}') words='{options}' ;;\n");
     }
     BASH.replace("FIRSTS", &firsts().join(" "))
         .replace("SECONDS_", &seconds().join(" "))
         .replace("VALUES", &with_values().join(" | "))
         .replace("        PLACES\n", &places)
         .replace("            OPTIONS\n", &all)
+}
+
+/// What can stand in a place: the number of a word, or behind an option.
+fn bash_place(name: &str, place: &str, word: &Word) -> String {
+    let does = match (word.takes, choices(word).join(" ")) {
+        (Takes::File, _) => "files=yes".into(),
+        (_, choices) => format!("words='{choices}'"),
+    };
+    format!("        '{name} {place}') {does} ;;\n")
 }
 
 const BASH: &str = r#"# Completions of the program sheet for bash.
@@ -98,7 +105,7 @@ _sheet() {
     fi
     for ((k = first; k < COMP_CWORD; k++)); do
         case ${COMP_WORDS[k]} in
-        VALUES) ((++k < COMP_CWORD)) || return ;;
+        VALUES) ((++k < COMP_CWORD)) || place=${COMP_WORDS[k - 1]} ;;
         -?*) ;;
         *) ((++place)) ;;
         esac
@@ -190,27 +197,21 @@ fi
 "#;
 
 fn zsh_case(command: &Command) -> String {
+    let action = |word: &Word| match (word.takes, choices(word)) {
+        (Takes::File, _) => "_files".into(),
+        (_, choices) => format!("({})", choices.join(" ")),
+    };
     let option = |option: &Choice| {
-        let value = option
-            .value
-            .map_or(String::new(), |value| format!(":{value}:"));
-        quoted(&format!(
-            "{}[{}]{value}",
-            option.name,
-            described(option.says)
-        ))
+        let value = option.value.as_ref().map_or(String::new(), |word| {
+            format!(":{}:{}", described(word.name), action(word))
+        });
+        let (name, says) = (option.name, described(option.says));
+        quoted(&format!("{name}[{says}]{value}"))
     };
     let word = |(k, word): (usize, &Word)| {
         let colons = if word.is_needed { ":" } else { "::" };
-        let action = match (word.takes, choices(word)) {
-            (Takes::File, _) => "_files".into(),
-            (_, choices) => format!("({})", choices.join(" ")),
-        };
-        quoted(&format!(
-            "{}{colons}{}:{action}",
-            k + 1,
-            described(word.name)
-        ))
+        let (name, action) = (described(word.name), action(word));
+        quoted(&format!("{}{colons}{name}:{action}", k + 1))
     };
     let help = quoted("--help[say what the command does]");
     let options = command.options.iter().map(option).chain([help]);
@@ -261,7 +262,11 @@ fn fish_lines(command: &Command) -> String {
         }
     }
     for option in command.options {
-        let value = if option.value.is_some() { " -x" } else { "" };
+        let value = match option.value.as_ref().map(|word| word.takes) {
+            Some(Takes::File) => " -r -F",
+            Some(_) => " -x",
+            None => "",
+        };
         let name = option.name.trim_start_matches('-');
         lines += &format!("{start} -l {name}{value} -d {}\n", quoted(option.says));
     }

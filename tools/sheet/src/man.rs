@@ -31,10 +31,7 @@ fn of_command(command: &Command) -> String {
         lines += &format!("{}\n", escaped(command.more));
     }
     for option in command.options {
-        let value = option
-            .value
-            .map_or(String::new(), |value| format!(" {value}"));
-        let name = escaped(&format!("{}{value}", option.name));
+        let name = escaped(&option.line());
         lines += &format!(".br\n.B {name}\n{}.\n", escaped(&capital(option.says)));
     }
     lines

@@ -29,7 +29,7 @@ pub struct Word {
 pub struct Choice {
     pub name: &'static str,
     /// What follows it, where something does.
-    pub value: Option<&'static str>,
+    pub value: Option<Word>,
     /// The name of the group that the usage names in its place.
     pub group: Option<&'static str>,
     pub says: &'static str,
@@ -48,12 +48,16 @@ pub struct Command {
     pub examples: &'static [&'static str],
 }
 
-const fn file(name: &'static str) -> Word {
+const fn needed(name: &'static str, takes: Takes) -> Word {
     Word {
         name,
-        takes: Takes::File,
+        takes,
         is_needed: true,
     }
+}
+
+const fn file(name: &'static str) -> Word {
+    needed(name, Takes::File)
 }
 
 const fn maybe(name: &'static str, takes: Takes) -> Word {
@@ -85,7 +89,7 @@ pub const SHELLS: &[&str] = &["bash", "zsh", "fish"];
 const fn rate(name: &'static str, value: &'static str, says: &'static str) -> Choice {
     Choice {
         name,
-        value: Some(value),
+        value: Some(needed(value, Takes::Number)),
         group: Some("RATES"),
         says,
     }
@@ -206,14 +210,7 @@ pub static COMMANDS: [Command; 16] = [
         )
     },
     Command {
-        words: &[
-            file("STORE"),
-            Word {
-                is_needed: true,
-                ..maybe("DAY", Takes::Number)
-            },
-            STRATEGY,
-        ],
+        words: &[file("STORE"), needed("DAY", Takes::Number), STRATEGY],
         examples: &["sheet store weights corrections.store 20500 ETD"],
         ..plain(
             "store weights",
@@ -225,10 +222,7 @@ pub static COMMANDS: [Command; 16] = [
         ..plain("man", "print this program's manual page")
     },
     Command {
-        words: &[Word {
-            is_needed: true,
-            ..maybe("SHELL", Takes::One(SHELLS))
-        }],
+        words: &[needed("SHELL", Takes::One(SHELLS))],
         more: "Where they belong: bash reads ~/.local/share/bash-completion/completions/sheet, fish reads ~/.config/fish/completions/sheet.fish, and zsh a file _sheet in a folder of its fpath.",
         examples: &[
             "sheet completions fish >~/.config/fish/completions/sheet.fish",
@@ -264,6 +258,16 @@ pub fn command(name: &str) -> Option<&'static Command> {
     COMMANDS.iter().find(|command| command.name == name)
 }
 
+impl Choice {
+    /// Its name, and what follows it: `--speed V`.
+    pub fn line(&self) -> String {
+        match &self.value {
+            Some(value) => format!("{} {}", self.name, value.name),
+            None => self.name.into(),
+        }
+    }
+}
+
 impl Command {
     pub fn option(&self, name: &str) -> Option<&'static Choice> {
         self.options.iter().find(|option| option.name == name)
@@ -284,10 +288,9 @@ impl Command {
         let words = self.words.iter().map(word);
         let mut parts: Vec<String> = [self.name.to_string()].into_iter().chain(words).collect();
         for option in self.options {
-            let shown = match (option.group, option.value) {
-                (Some(group), _) => format!("[{group}]"),
-                (None, Some(value)) => format!("[{} {value}]", option.name),
-                (None, None) => format!("[{}]", option.name),
+            let shown = match option.group {
+                Some(group) => format!("[{group}]"),
+                None => format!("[{}]", option.line()),
             };
             if !parts.contains(&shown) {
                 parts.push(shown);
@@ -304,8 +307,7 @@ impl Command {
             help += &wrapped(self.more, 0);
         }
         for option in self.options {
-            let left = format!("{} {}", option.name, option.value.unwrap_or(""));
-            help += &entry(left.trim_end(), option.says);
+            help += &entry(&option.line(), option.says);
         }
         for example in self.examples {
             help += &format!("example: {example}\n");

@@ -420,7 +420,7 @@ fn zsh_completes() {
             "sheet draw a",
             &[
                 "at 2 of draw a\n--acceleration[the rate",
-                "]:A:\n",
+                "]:A:()\n",
                 "\n1:SHEET:_files\n2::OUT:_files\n",
             ],
         ),
