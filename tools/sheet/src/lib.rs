@@ -2,7 +2,7 @@
 //! proved library refuses one, `draw` draws a sheet and its pass. `fields` is the one table of the
 //! format that they read. `store` writes and shows stores of weights, `weights` looks a day's weights up.
 //! `grades` reads what a site sent to be graded, `grade` says what came of it. `ramps` reads the rates of a run
-//! from a command line, `travel` has the seconds that it takes.
+//! from a command line, `travel` has the seconds that it takes; `view` reads how a sheet is to be drawn.
 //! Verdicts, passes, weights, grades and seconds come from the crate dispatch-bench, with the feature `pass`.
 
 pub mod cut;
@@ -32,5 +32,6 @@ pub mod text;
 #[cfg(feature = "pass")]
 pub mod travel;
 pub mod value;
+pub mod view;
 #[cfg(feature = "pass")]
 pub mod weights;

@@ -8,6 +8,7 @@ use std::process::ExitCode;
 
 use sheet::line::Fault;
 use sheet::ramps::{self, Ramps};
+use sheet::view::{self, View};
 use sheet::{near, rules, show, store, text};
 
 const USAGE: &str = "\
@@ -17,8 +18,9 @@ usage: sheet COMMAND
   write IN.txt [OUT]   turn text into a sheet, in OUT or on standard output
   show SHEET           print a sheet as text that `write` turns into the same bytes
   explain SHEET        say whether the bench accepts a sheet, and if not, what to do
-  draw SHEET [OUT] [RATES]
-                       draw a sheet and its pass, or where it is refused, as SVG; cells that are held at the ceiling are marked
+  draw SHEET [OUT] [--html OUT.html] [--fold] [RATES]
+                       draw a sheet and its pass, or where it is refused, as SVG, or as a page for a browser (--html); with --fold
+                       lines without an idle-listed car are drawn as a strip
   pass SHEET [RATES]   print the pass, or the refusal, in the lines of the program passprint; the first ends with the number of held cells
   grade SHEET GRADES.txt
                        say whether the prices that a site sent show its choice of columns to be least, and if not, the first
@@ -48,7 +50,7 @@ const COMMANDS: [Command; 13] = [
     ("write", " IN.txt [OUT]", 1),
     ("show", " SHEET", 1),
     ("explain", " SHEET", 1),
-    ("draw", " SHEET [OUT] [RATES]", 1),
+    ("draw", " SHEET [OUT] [--html OUT.html] [--fold] [RATES]", 1),
     ("pass", " SHEET [RATES]", 1),
     ("grade", " SHEET GRADES.txt", 2),
     ("rule", " [NUMBER]", 0),
@@ -137,13 +139,49 @@ fn with_ramps(command: &str, words: &[&str], args: &[OsString]) -> Result<(), St
     let words: Vec<&str> = others.iter().map(|k| words[*k]).collect();
     match (command, words.as_slice()) {
         ("pass", [_]) => print(made(path(0), |bytes| pass(bytes, ramps))?.as_bytes()),
-        ("draw", [_] | [_, "-"]) => print(made(path(0), |bytes| draw(bytes, ramps))?.as_bytes()),
-        ("draw", [_, _]) => {
-            let drawing = made(path(0), |bytes| draw(bytes, ramps))?;
-            replace(path(1), drawing.as_bytes())
+        ("draw", _) => {
+            let (view, places) = view::split(&words).map_err(Stop::Usage)?;
+            let page = view.html.map(path);
+            match places[..] {
+                [from] => drawn(path(from), None, page, &view, ramps),
+                [from, to] => drawn(path(from), Some(path(to)), page, &view, ramps),
+                _ => {
+                    let words: Vec<&str> = places.iter().map(|k| words[*k]).collect();
+                    Err(Stop::Usage(no_meaning(&[&[command], &words[..]].concat())))
+                }
+            }
         }
         _ => Err(Stop::Usage(no_meaning(&[&[command], &words[..]].concat()))),
     }
+}
+
+/// Draws into a file, into a page, or into both; without either on standard output.
+fn drawn(
+    from: &Path,
+    to: Option<&Path>,
+    page: Option<&Path>,
+    view: &View,
+    ramps: Option<&Ramps>,
+) -> Result<(), Stop> {
+    let is_output = |path: Option<&Path>| path == Some(Path::new("-"));
+    if is_output(to) && is_output(page) {
+        return Err(failed(
+            "- stands for the drawing and for the page: standard output is written once",
+        ));
+    }
+    let bytes = input(from)?;
+    let put = |path: Option<&Path>, text: String| match path {
+        Some(path) if path != Path::new("-") => replace(path, text.as_bytes()),
+        _ => print(text.as_bytes()),
+    };
+    if page.is_some() {
+        put(page, draw(&bytes, from, true, view, ramps)?)?;
+    }
+    if page.is_none() || to.is_some() {
+        put(to, draw(&bytes, from, false, view, ramps)?)?;
+    }
+    hint(from, &bytes);
+    Ok(())
 }
 
 /// What is wrong with a command line that no command takes.
@@ -196,10 +234,14 @@ fn input(path: &Path) -> Result<Vec<u8>, Stop> {
 fn made(path: &Path, make: impl Fn(&[u8]) -> Result<String, Stop>) -> Result<String, Stop> {
     let bytes = input(path)?;
     let made = make(&bytes)?;
-    if text::is_text(&bytes) {
+    hint(path, &bytes);
+    Ok(made)
+}
+
+fn hint(path: &Path, bytes: &[u8]) {
+    if text::is_text(bytes) {
         complain(&format!("{}: hint: {}\n", path.display(), text::HINT));
     }
-    Ok(made)
 }
 
 fn shown(bytes: &[u8]) -> Result<String, Stop> {
@@ -282,15 +324,29 @@ fn in_the_domain(ramps: Option<&Ramps>) -> Result<(), Stop> {
     }
 }
 
+/// The drawing, or the page with it.
 #[cfg(feature = "pass")]
-fn draw(bytes: &[u8], ramps: Option<&Ramps>) -> Result<String, Stop> {
+fn draw(
+    bytes: &[u8],
+    from: &Path,
+    is_page: bool,
+    view: &View,
+    ramps: Option<&Ramps>,
+) -> Result<String, Stop> {
     of_the_interface()?;
     in_the_domain(ramps)?;
+    let file = from.file_name().filter(|name| *name != "-");
+    let file = file.map(|name| name.to_string_lossy());
     let about = sheet::draw::About {
+        file: file.as_deref(),
         ramps,
+        fold: view.fold,
         ..Default::default()
     };
-    Ok(sheet::draw::draw(bytes, &about))
+    Ok(match is_page {
+        true => sheet::draw::html(bytes, &about),
+        false => sheet::draw::draw(bytes, &about),
+    })
 }
 
 #[cfg(feature = "pass")]
@@ -304,7 +360,12 @@ fn pass(bytes: &[u8], ramps: Option<&Ramps>) -> Result<String, Stop> {
 }
 
 #[cfg(not(feature = "pass"))]
-use {unlinked as explain, unlinked_with as draw, unlinked_with as pass};
+use {unlinked as explain, unlinked_with as pass};
+
+#[cfg(not(feature = "pass"))]
+fn draw(bytes: &[u8], _: &Path, _: bool, _: &View, _: Option<&Ramps>) -> Result<String, Stop> {
+    unlinked(bytes)
+}
 
 #[cfg(not(feature = "pass"))]
 fn unlinked_with(bytes: &[u8], _: Option<&Ramps>) -> Result<String, Stop> {

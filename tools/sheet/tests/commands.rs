@@ -63,7 +63,11 @@ fn too_few_or_too_many_words() {
         ),
         (&["grade", "a"], "few", " SHEET GRADES.txt"),
         (&["grade", "a", "b", "c"], "many", " SHEET GRADES.txt"),
-        (&["draw", "a", "b", "c"], "many", " SHEET [OUT] [RATES]"),
+        (
+            &["draw", "a", "b", "c"],
+            "many",
+            " SHEET [OUT] [--html OUT.html] [--fold] [RATES]",
+        ),
         (&["example", "ETD", "RSR"], "many", " [STRATEGY|sideways]"),
         (&["rule", "1", "2"], "many", " [NUMBER]"),
         (&["help", "a"], "many", ""),

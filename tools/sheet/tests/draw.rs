@@ -63,21 +63,44 @@ fn is_well_formed(svg: &str) {
     assert!(!svg.contains("<title></title>"));
 }
 
-/// What is drawn beside the legends' marks.
-fn without_legends(svg: &str) -> String {
-    let mut parts = svg.split("<g class=\"legend\">");
+/// A drawing and its legends: what stands in the groups of class key.
+fn apart(svg: &str) -> (String, Vec<String>) {
+    let mut parts = svg.split("<g class=\"key\">\n");
     let mut kept = parts.next().unwrap().to_string();
+    let mut legends = Vec::new();
     for part in parts {
-        kept += part.split_once("</g>").unwrap().1;
+        let mut depth = 1;
+        let end = part.lines().take_while(|line| {
+            depth += usize::from(line.starts_with("<g"));
+            depth -= usize::from(*line == "</g>");
+            depth > 0
+        });
+        let legend: String = end.map(|line| format!("{line}\n")).collect();
+        let rest = part.strip_prefix(&legend).unwrap();
+        kept += rest.strip_prefix("</g>\n").unwrap();
+        legends.push(legend);
     }
-    kept
+    (kept, legends)
 }
 
-/// The words of each cell, row by row.
+/// What is drawn beside the legends.
+fn without_legends(svg: &str) -> String {
+    apart(svg).0
+}
+
+/// The texts of a drawing, with blanks between: a sentence may stand in two lines.
+fn words(svg: &str) -> String {
+    let texts = svg.split("<text ").skip(1);
+    let texts = texts.map(|text| text.split_once('>').unwrap().1.split_once('<').unwrap().0);
+    texts.collect::<Vec<_>>().join(" ")
+}
+
+/// The words of each cell, row by row, and its number.
 fn cells(svg: &str) -> Vec<(&str, &str)> {
     let tips = svg.split("<title>").skip(1);
     let tips = tips.filter_map(|tip| tip.split_once("</title></rect>"));
     tips.filter_map(|(tip, _)| tip.split_once(" (cell "))
+        .map(|(words, number)| (words, number.split_once(')').unwrap().0))
         .collect()
 }
 
@@ -115,7 +138,7 @@ fn explained(svg: &str, sheet: &Sheet, answered: &Pass) -> [usize; 5] {
     let mut seen = [0; 5];
     for (k, (words, number)) in cells(svg).into_iter().enumerate() {
         let value = answered.matrix[k];
-        assert_eq!(number, format!("{value})"));
+        assert_eq!(number, value.to_string());
         let (place, said) = words.split_once(": ").unwrap();
         let (_, column) = place.split_once(", ").unwrap();
         if value < SENTINEL {
@@ -143,41 +166,166 @@ fn has_total(svg: &str, pass: &Pass) {
     let sent = pass.decisions.iter().flatten().count();
     let idle = pass.cars - sent;
     let costs = pass.total - SENTINEL * idle as u64;
-    assert!(svg.contains(&format!(">Answered total {}: ", pass.total)));
-    if sent > 0 {
-        assert!(svg.contains(&format!(": {costs} for the cost (1,000,000 for 1)")));
-    }
-    match idle {
-        0 => assert!(svg.contains("for the cost (1,000,000 for 1)<") || pass.cars == 0),
-        1 => assert!(svg.contains(&format!(" {SENTINEL} for the car that stays idle<"))),
-        _ => {
-            let words = format!(" {idle} × {SENTINEL} for the cars that stay idle<");
-            assert!(svg.contains(&words));
-        }
-    }
+    let of_costs = format!("{costs} for the cost (1,000,000 for 1)");
+    let holds = match (sent, idle) {
+        (0, 0) => "there is no idle car".into(),
+        (_, 0) => of_costs,
+        (0, 1) => format!("{SENTINEL} for the car that stays idle"),
+        (0, _) => format!("{idle} × {SENTINEL} for the cars that stay idle"),
+        (_, 1) => format!("{of_costs} + {SENTINEL} for the car that stays idle"),
+        _ => format!("{of_costs} + {idle} × {SENTINEL} for the cars that stay idle"),
+    };
+    let total = format!("Answered total {}: {holds}. Held cells: ", pass.total);
+    assert!(words(svg).contains(&total), "{total}");
 }
 
-/// The title says how many cells are held; each of them has its bar and its words, and they are cells at the ceiling.
+/// The title block says how many cells are held; each of them has its bar and its words, and they are cells at the ceiling.
 fn has_held(svg: &str, pass: &Pass) {
-    let words = match pass.held {
-        0 => "",
-        1 => "; 1 cell held at the ceiling<",
-        held => &format!("; {held} cells held at the ceiling<"),
+    let number = match pass.held {
+        0 => "none".into(),
+        held => held.to_string(),
     };
-    let (title, _) = svg.split_once("</text>").unwrap();
-    assert_eq!(title.contains("held at"), pass.held > 0, "{title}");
-    assert!(svg.contains(words), "{title}");
+    let said = format!("Held cells: {number}. Pending");
+    assert!(words(svg).contains(&said), "{said}");
     let legends = svg.matches(">held at the ceiling, the cost is larger<");
     assert_eq!(legends.count(), usize::from(pass.held > 0));
     let svg = without_legends(svg);
     assert_eq!(count(&svg, "<rect class=\"held\"") as u64, pass.held);
-    let ceiling = format!("{CEILING})");
+    let ceiling = CEILING.to_string();
     let held = cells(&svg).into_iter().filter(|cell| {
         let is = cell.0.contains(": &gt; 2.81e8, held at the ceiling");
         assert!(!is || cell.1 == ceiling, "{cell:?}");
         is
     });
     assert_eq!(held.count() as u64, pass.held);
+}
+
+/// The title block names the pending stops that no car is sent to, and the cars that are sent by the rule of ties: without the cell that was
+/// chosen for one the library answers the same total. Answers how many there are.
+fn has_notes(svg: &str, bytes: &[u8], answered: &Pass) -> usize {
+    let sent_to = |stop: &u32| {
+        answered
+            .decisions
+            .iter()
+            .flatten()
+            .any(|id| id.get() == *stop)
+    };
+    let mut pending = dispatch_bench::pending(bytes).unwrap();
+    pending.retain(|stop| !sent_to(stop));
+    let pending: Vec<String> = pending.iter().map(u32::to_string).collect();
+    let left = match pending.len() {
+        0 => "none".into(),
+        1 => format!("stop {}", pending[0]),
+        many => format!("{many}, the stops {}", pending.join(", ")),
+    };
+    let sheet = Sheet::of_accepted(bytes);
+    let idle = sheet.cars.iter().filter(|car| car.idle);
+    let columns = choose(answered.cars, answered.columns(), &answered.matrix);
+    let columns = columns.unwrap().columns;
+    let tied = idle.zip(&columns).enumerate().filter(|(row, (_, column))| {
+        let mut without = answered.matrix.clone();
+        let cell = &mut without[row * answered.columns() + **column as usize];
+        let is_sent = std::mem::replace(cell, SENTINEL) < SENTINEL;
+        let other = choose(answered.cars, answered.columns(), &without).unwrap();
+        is_sent && other.total == answered.total
+    });
+    let tied: Vec<String> = tied
+        .map(|(_, (car, _))| format!("car {}", car.id))
+        .collect();
+    let sent = answered.decisions.iter().flatten().count();
+    let ties = match tied.len() {
+        0 => "none".into(),
+        many => format!("{many} of {sent}, {}", tied.join(", ")),
+    };
+    let said = format!(
+        "Pending stops that no car is sent to: {left}. Decided by the rule of ties: {ties}."
+    );
+    assert!(words(svg).contains(&said), "{said}");
+    let svg = without_legends(svg);
+    assert_eq!(count(&svg, "<circle class=\"tie\""), tied.len());
+    assert_eq!(
+        count(&svg, "by the rule of ties: another choice"),
+        tied.len()
+    );
+    tied.len()
+}
+
+/// Who is aboard each car and for where, its target, where it is going; the ring where it is sent to the stop where it is.
+fn has_ways(svg: &str, sheet: &Sheet, answered: &Pass) {
+    let stop = |id: Option<u32>| sheet.stops.iter().find(|stop| Some(stop.id) == id);
+    for car in &sheet.cars {
+        let riders: Vec<_> = sheet.aboard.iter().filter(|a| a.car == car.id).collect();
+        let tip = match riders.len() {
+            0 => "\nnobody aboard<".into(),
+            many => format!("\n{many} aboard: "),
+        };
+        let at = format!("<title>car {} at {}", car.id, car.position);
+        let (_, said) = svg.split_once(&at).unwrap();
+        let (said, _) = said.split_once("/title>").unwrap();
+        assert!(said.contains(&tip), "{at}{said}");
+        for to in &sheet.stops {
+            let bound = riders
+                .iter()
+                .filter(|r| r.destination == Some(to.id))
+                .count();
+            let who = if bound == 1 {
+                "1 rider"
+            } else {
+                &format!("{bound} riders")
+            };
+            let tip = format!("<title>{who} aboard car {} to {}<", car.id, to.id);
+            assert_eq!(count(svg, &tip), usize::from(bound > 0), "{tip}");
+        }
+    }
+    let targets = sheet.cars.iter().filter(|car| stop(car.target).is_some());
+    assert_eq!(count(svg, "<rect class=\"target\""), targets.count());
+    let moves = |car: &&Car| {
+        let to = stop(Some(car.stop).filter(|id| *id != 0));
+        to.is_some_and(|to| to.position != car.position)
+    };
+    let going = sheet.cars.iter().filter(moves).count();
+    assert_eq!(count(svg, "<line class=\"going\""), going);
+    let idle = sheet.cars.iter().filter(|car| car.idle);
+    let sent = idle
+        .zip(&answered.decisions)
+        .filter_map(|(car, id)| Some((car, stop(Some((*id)?.get()))?)));
+    let rings =
+        sent.filter(|(car, stop)| (car.position, car.across) == (stop.position, stop.across));
+    assert_eq!(count(svg, "<circle class=\"arrow\""), rings.count());
+}
+
+/// Legends are shorter than what they explain, and have no mark and no word that the drawing has not.
+fn has_short_legends(svg: &str) {
+    let (drawing, legends) = apart(svg);
+    let heights = |part: &str| {
+        let texts = part.split("<text ").skip(1);
+        let ys = texts.map(|text| {
+            text.split_once(" y=\"")
+                .unwrap()
+                .1
+                .split_once('"')
+                .unwrap()
+                .0
+        });
+        let ys: Vec<f64> = ys.map(|y| y.parse().unwrap()).collect();
+        let most = ys.iter().copied().fold(f64::MIN, f64::max);
+        most - ys.iter().copied().fold(f64::MAX, f64::min)
+    };
+    let all: f64 = legends.iter().map(|legend| heights(legend)).sum();
+    assert!(
+        all < heights(&drawing) / 2.0,
+        "{all} of {}",
+        heights(&drawing)
+    );
+    for legend in &legends {
+        for mark in legend.split("<g class=\"legend\">").skip(1) {
+            let (mark, _) = mark.split_once("</g>").unwrap();
+            for class in mark.split("class=\"").skip(1) {
+                let (class, _) = class.split_once('"').unwrap();
+                assert!(drawing.contains(&format!("class=\"{class}")), "{class}");
+            }
+        }
+    }
 }
 
 /// The drawing of a pass: the chosen columns' total is the answered one, each sent car has its arrow, each idle
@@ -191,13 +339,20 @@ fn drawn(bytes: &[u8], pass: &Pass, file: &str) -> [usize; 5] {
     is_well_formed(&svg);
     has_total(&svg, pass);
     has_held(&svg, pass);
+    has_notes(&svg, bytes, pass);
+    has_short_legends(&svg);
     let svg = without_legends(&svg);
+    has_ways(&svg, &Sheet::of_accepted(bytes), pass);
     let sent = pass.decisions.iter().flatten().count();
     let arrows = count(&svg, "<line class=\"arrow\"") + count(&svg, "<circle class=\"arrow\"");
     assert_eq!(arrows, sent, "{file}");
     assert_eq!(count(&svg, "<rect class=\"chosen\""), sent, "{file}");
     assert_eq!(count(&svg, "<rect class=\"unsent\""), pass.cars - sent);
-    assert_eq!(count(&svg, ">stays idle<"), pass.cars - sent);
+    let stay = svg
+        .lines()
+        .filter(|line| line.starts_with("<text class=\"name\""));
+    let stay = stay.filter(|line| line.contains(">stays idle<"));
+    assert_eq!(stay.count(), pass.cars - sent);
     assert_eq!(cells(&svg).len(), pass.cars * pass.columns(), "{file}");
     let sheet = Sheet::of_accepted(bytes);
     assert_eq!(count(&svg, "a waiting rider, "), sheet.waiting.len());
@@ -274,21 +429,24 @@ fn passes_of_edition_2() {
             drawn(&bytes, &pass, &format!("{profile:?}_{index}"));
             let sheet = Sheet::of_accepted(&bytes);
             let svg = without_legends(&draw(&bytes, &About::default()));
-            let tips = |what: &str| count(&svg, &format!("<title>{what} "));
             let sent = pass.decisions.iter().flatten().count();
             let planned = usize::from(sheet.runs_sideways());
-            assert_eq!(tips("stop"), planned * sheet.stops.len(), "{index}");
+            for stop in &sheet.stops {
+                let (id, position, across) = (stop.id, stop.position, stop.across);
+                let tip = format!("<title>stop {id} at {position}, across {across}");
+                assert_eq!(count(&svg, &format!("{tip}<")), planned, "{index}");
+                assert_eq!(count(&svg, &format!("{tip}\n")), 1, "{index}");
+            }
             assert_eq!(
                 count(&svg, "<line class=\"sent\""),
                 planned * sent,
                 "{index}"
             );
             for car in &sheet.cars {
-                let tip = format!(
-                    "<title>car {} at {}, across {}<",
-                    car.id, car.position, car.across
-                );
-                assert_eq!(count(&svg, &tip), 1 + planned, "{index}");
+                let (id, position, across) = (car.id, car.position, car.across);
+                let tip = format!("<title>car {id} at {position}, across {across}");
+                assert_eq!(count(&svg, &format!("{tip}<")), planned, "{index}");
+                assert_eq!(count(&svg, &format!("{tip}\n")), 1, "{index}");
             }
             plans += planned;
         }
@@ -309,7 +467,9 @@ fn sideways_as_stored() {
         ">2 at 20, 0<",
         ">across -2.5<",
         "<title>stop 3 at 20, across 40<",
-        "sent to a stop at its height",
+        "sent aside, to a stop at its height",
+        "<path class=\"head aside\"",
+        "<line class=\"way\"",
     ] {
         assert!(drawn.contains(part), "{part}");
     }
@@ -346,9 +506,15 @@ fn small_rsr_as_stored() {
     assert_eq!(drawn, stored);
     let svg = without_legends(&drawn);
     for part in [
-        "<rect class=\"hatched\"",
+        "fill=\"url(#hatch)\"",
         "<line class=\"barred\"",
-        "<circle class=\"served\"",
+        "<circle class=\"button\"",
+        "<rect class=\"target\"",
+        "<line class=\"going\"",
+        "<path class=\"aboard\"",
+        ">2 aboard<",
+        "<path class=\"lit\"",
+        "<path class=\"dark\"",
         "<circle class=\"call\"",
         "<circle class=\"arrow\"",
         "<line class=\"arrow\"",
@@ -409,8 +575,10 @@ fn ceiling_as_stored() {
         "car 1, stop 3: 2.81e8",
     ];
     assert_eq!(costs, wanted);
-    let title = "1 sent at a cost above 281474976.710655; 2 cells held at the ceiling<";
-    assert!(svg.contains(title) && svg.contains(">to 1<"));
+    let title = "1 sent at a cost above 281474976.710655";
+    let said = "Held cells: 2. Pending stops that no car is sent to: 2, the stops 2, 3. Decided by the rule of ties: 1 of 1, car 1.";
+    let all = words(&svg);
+    assert!(all.contains(title) && all.contains(said) && svg.contains(">to 1<"));
     let lower = drawn(&sheet.replace("wait=140737488.3553275", "wait=1"));
     assert!(lower.contains("3 pending stops; 1 sent at a cost of 2<") && lower.contains(">to 3<"));
 }
@@ -436,8 +604,8 @@ fn document_01_as_stored() {
 fn refused_as_stored() {
     for (example, hatched, lines) in [
         ("refusal_02_cut_body", 2, 3),
-        ("refusal_03_edition", 1, 4),
-        ("refusal_08_phase", 1, 3),
+        ("refusal_03_edition", 0, 4),
+        ("refusal_08_phase", 0, 3),
     ] {
         let path = here(&format!("examples/{example}.txt"));
         let written = run(&["write", path.to_str().unwrap()], b"");
@@ -505,11 +673,7 @@ fn closed_landings_are_marked() {
     assert!(said.iter().all(|often| *often > 20), "{said:?}");
     let open = draw(&Sheet::example().write(), &About::default());
     assert_eq!(count(&open, "shut halo"), 0);
-    assert_eq!(
-        count(&open, "<rect class=\"closed\""),
-        1,
-        "that of the legend"
-    );
+    assert_eq!(count(&open, "<rect class=\"closed\""), 0);
 }
 
 /// A closed landing where somebody waits, one that a rider of an idle-listed car is bound for, and one where nobody is.
