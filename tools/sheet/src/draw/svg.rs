@@ -52,6 +52,7 @@ fn c(value: f64) -> String {
     text.strip_suffix(".0").unwrap_or(&text).into()
 }
 
+// What stands on a cell or a car takes no pointer: the details are those of the cell or the car.
 const STYLE: &str = "\
 text{font-family:DejaVu Sans,Verdana,sans-serif;font-size:10px;fill:#222}\
 .title{font-size:15px;font-weight:bold}\
@@ -103,6 +104,7 @@ text{font-family:DejaVu Sans,Verdana,sans-serif;font-size:10px;fill:#222}\
 .tie{fill:#fff;stroke:#d55e00}\
 .equal{stroke:#222;stroke-width:0.9}\
 .unsent{fill:none;stroke:#222;stroke-width:1.6;stroke-dasharray:3 2}\
+.number,.tiny,.inside,.chosen,.unsent,.tie,.equal,.held,.barred,.cut,.dash,.gauge,.full,.lit,.dark{pointer-events:none}\
 .field{fill:#fff;stroke:#999}\
 .wrong{fill:#ffd9dd;stroke:#b00020;stroke-width:2}";
 
