@@ -5,7 +5,7 @@ mod common;
 
 use common::{files, here, name, run, text};
 use dispatch_bench::{CEILING, Pass, SENTINEL, choose, pass};
-use sheet::draw::{About, draw};
+use sheet::draw::{About, draw, html};
 use sheetgen::generate::{self, Profile};
 use sheetgen::rng::Rng;
 use sheetgen::sheet::{NO_LIMIT, mask_bit};
@@ -701,4 +701,279 @@ fn closed_examples() {
     let mut sheet = Sheet::example();
     sheet.closed = vec![1];
     assert!(draw(&sheet.write(), &About::default()).contains(">closed<"));
+}
+
+/// The example with a car at 97 and stops at 100 and 0, sent to 100; then at 100.
+#[test]
+fn a_ring_is_for_equal_positions() {
+    let drawn = |position: f64| {
+        let mut sheet = Sheet::example();
+        sheet.cars.truncate(1);
+        sheet.stops[2].position = 1000.0;
+        sheet.stops[1].position = 100.0;
+        (sheet.cars[0].position, sheet.demands) = (position, sheet.demands[..1].to_vec());
+        let bytes = sheet.write();
+        let sent = pass(&bytes).unwrap().decisions;
+        assert_eq!(sent[0].map(|id| id.get()), Some(2));
+        without_legends(&draw(&bytes, &About::default()))
+    };
+    let marks = |svg: &str| {
+        ["<circle class=\"arrow\"", "<line class=\"arrow\""].map(|mark| count(svg, mark))
+    };
+    assert_eq!(marks(&drawn(100.0)), [1, 0]);
+    let near = drawn(97.0);
+    assert_eq!(marks(&near), [0, 1]);
+    // The arrow is short, and points up.
+    let (_, arrow) = near.split_once("<line class=\"arrow\"").unwrap();
+    let value = |name: &str| -> f64 {
+        let (_, value) = arrow.split_once(&format!(" {name}=\"")).unwrap();
+        value.split_once('"').unwrap().0.parse().unwrap()
+    };
+    let length = value("y1") - value("y2");
+    assert!(length > 5.0 && length < 20.0, "{length}");
+}
+
+/// Two stops at the same distance: the decision is by the rule of ties, and named so; with one of them nearer it is not.
+#[test]
+fn ties_are_named() {
+    let notes = |position: f64| {
+        let mut sheet = Sheet::example();
+        sheet.cars.truncate(1);
+        sheet.cars[0].position = 15.0;
+        sheet.cars[0].lenient = true;
+        sheet.stops[1].position = position;
+        let bytes = sheet.write();
+        let pass = pass(&bytes).unwrap();
+        has_notes(&draw(&bytes, &About::default()), &bytes, &pass)
+    };
+    assert_eq!((notes(20.0), notes(19.0)), (1, 0));
+}
+
+/// The names of a text may have any characters; the file's name too.
+#[test]
+fn names_and_file() {
+    let mut names = sheet::names::Names::default();
+    let lobby = "Lobby <&\"> ]]>\u{1}\n of the old tower";
+    names.stops.insert(2, lobby.into());
+    names.cars.insert(7, "goods".into());
+    let about = About {
+        file: Some("a <b> & \"c\".sheet"),
+        names,
+        ..Default::default()
+    };
+    let bytes = Sheet::example().write();
+    let svg = draw(&bytes, &about);
+    is_well_formed(&svg);
+    let shown = "Lobby &lt;&amp;&quot;&gt; ]]&gt;\u{fffd}";
+    for part in [
+        ">a &lt;b&gt; &amp; &quot;c&quot;.sheet<",
+        &format!("<title>stop 2 {shown}\n of the old tower at 10\npending, a car is sent to it<"),
+        &format!(">2 {shown}\n.. at 10<"),
+        &format!(">stop 2 {shown}\n..<"),
+        ">goods<",
+        "<title>car 7 goods at 0\nnobody aboard<",
+        &format!(
+            "<title>car 7 goods, stop 2 {shown}\n of the old tower: 10 (cell 10000000)\nchosen, the car is sent<"
+        ),
+    ] {
+        assert!(svg.contains(part), "{part}\n{svg}");
+    }
+    assert_eq!(count(&draw(&bytes, &About::default()), "class=\"file\""), 0);
+    let page = html(&bytes, &about);
+    assert!(
+        page.contains("<title>a &lt;b&gt; &amp; &quot;c&quot;.sheet: SCAN, limit none</title>")
+    );
+    assert!(page.contains(&format!("<th>stop 2 {shown}\n..</th>")));
+    let refused = draw(&bytes[..40], &about);
+    assert!(refused.contains(">a &lt;b&gt; &amp; &quot;c&quot;.sheet<"));
+}
+
+/// A line without an idle-listed car is one strip, and the line with one is drawn as before.
+#[test]
+fn lines_are_folded() {
+    let path = here("examples/office.txt");
+    let sheet = text(&std::fs::read(path).unwrap()).replace(
+        "car id=4 line=2 phase=idle idle_listed=yes",
+        "car id=4 line=2 phase=idle idle_listed=no",
+    );
+    let bytes = run(&["write", "-"], sheet.as_bytes()).stdout;
+    let plain = text(&run(&["draw", "-"], &bytes).stdout);
+    let folded = text(&run(&["draw", "-", "--fold"], &bytes).stdout);
+    is_well_formed(&folded);
+    let (plain, folded) = (without_legends(&plain), without_legends(&folded));
+    for (part, before, after) in [
+        ("<rect class=\"shaft\"", 4, 2),
+        ("<rect class=\"folded\"", 0, 1),
+        (">line 2: 2 cars, none idle-listed<", 0, 1),
+        (">line 2<", 1, 0),
+        (">line 1<", 1, 1),
+        ("<title>car 3 at 14\n", 1, 0),
+        (
+            "\ncar 3 at 14\n10 aboard: 5 to 9, 2 to 11, 2 to 12, 1 unknown\n",
+            0,
+            1,
+        ),
+        (">car 1<", 2, 2),
+        ("<rect class=\"target\"", 2, 1),
+    ] {
+        assert_eq!(
+            (count(&plain, part), count(&folded, part)),
+            (before, after),
+            "{part}"
+        );
+    }
+    let none = text(&run(&["draw", "-", "--fold"], &Sheet::example().write()).stdout);
+    assert_eq!(
+        none,
+        text(&run(&["draw", "-"], &Sheet::example().write()).stdout)
+    );
+}
+
+/// The largest ids keep the words before them, in few shafts and in many.
+#[test]
+fn the_largest_ids_keep_their_words() {
+    let mut sheet = Sheet::example();
+    let most = u32::MAX;
+    sheet.stops[2].id = most;
+    sheet.demands = vec![sheetgen::Demand {
+        stop: most,
+        riding: 0,
+        call: true,
+    }];
+    sheet.cars[0].id = most;
+    sheet.cars[0].target = Some(most);
+    sheet.cars[1].idle = false;
+    let words = |sheet: &Sheet, part: &str| {
+        let svg = draw(&sheet.write(), &About::default());
+        assert!(svg.contains(part), "{part}\n{svg}");
+    };
+    for part in ["car", "to", "target"] {
+        words(&sheet, &format!(">{part} {most}<"));
+    }
+    let car = sheet.cars[1].clone();
+    sheet
+        .cars
+        .extend((100..115).map(|id| Car { id, ..car.clone() }));
+    for part in [
+        "car 4294967295, up ",
+        ">idle, target 4294967295<",
+        ">to 4294967295 at 20<",
+    ] {
+        words(&sheet, part);
+    }
+}
+
+/// A dark lamp on a full car has its mark, and the phase's colour is not covered.
+#[test]
+fn a_full_car_keeps_its_colour_and_lamps() {
+    let mut sheet = Sheet::example();
+    let car = &mut sheet.cars[1];
+    (car.phase, car.load, car.going_up, car.going_down) = (4, car.capacity, true, false);
+    let svg = without_legends(&draw(&sheet.write(), &About::default()));
+    let (_, car) = svg.split_once("fill=\"#f6cf57\"").unwrap();
+    let shapes: Vec<&str> = car.lines().skip(1).take(5).collect();
+    let width = |shape: &str| -> f64 {
+        let (_, width) = shape.split_once(" width=\"").unwrap();
+        width.split_once('"').unwrap().0.parse().unwrap()
+    };
+    let shapes: Vec<&str> = shapes
+        .iter()
+        .copied()
+        .filter(|s| s.starts_with('<'))
+        .collect();
+    assert!(shapes[0].starts_with("<rect class=\"gauge\"") && width(shapes[0]) < 6.0);
+    assert!(shapes[1].starts_with("<rect class=\"full\"") && width(shapes[1]) < 6.0);
+    assert!(shapes[2].starts_with("<path class=\"lit\""));
+    assert!(shapes[3].starts_with("<path class=\"dark\""));
+}
+
+/// The page: the drawing, the lines, the table; nothing from outside. A whole one is stored.
+#[test]
+fn page_as_stored() {
+    let bytes = Sheet::example().write();
+    let page = text(&run(&["draw", "-", "--html", "-"], &bytes).stdout);
+    let stored = std::fs::read(here("examples/document_01.html")).unwrap();
+    assert_eq!(page, text(&stored));
+    for index in 0..20 {
+        let bytes = generate::generate(Profile::Valid, 23, index);
+        let pass = pass(&bytes).unwrap();
+        let page = html(&bytes, &About::default());
+        let lines = dispatch_bench::lines(&bytes);
+        assert!(page.contains(&format!("<pre>{lines}</pre>")));
+        let svg = draw(&bytes, &About::default());
+        assert!(page.contains(&format!("<div id=\"stage\" tabindex=\"0\">{svg}</div>")));
+        let rows = usize::from(pass.cars > 0);
+        assert_eq!(count(&page, "<tr>"), pass.cars + rows);
+        assert_eq!(count(&page, "<td"), pass.cars * pass.columns());
+        let sent = pass.decisions.iter().flatten().count();
+        assert_eq!(count(&page, "<td class=\"taken\""), sent);
+        assert_eq!(count(&page, "<td class=\"left\""), pass.cars - sent);
+        for part in ["src=", "href=\"h", "@import", "url(h"] {
+            assert_eq!(count(&page, part), 0, "{part}");
+        }
+        let links = count(&page, "http") - count(&page, "xmlns=\"http://www.w3.org/2000/svg\"");
+        assert_eq!(links, 1, "http-equiv");
+    }
+}
+
+/// The page of a refused sheet says what `explain` does.
+#[test]
+fn page_of_a_refused_sheet() {
+    let path = here("examples/refusal_08_phase.txt");
+    let bytes = run(&["write", path.to_str().unwrap()], b"").stdout;
+    let page = html(&bytes, &About::default());
+    let said = text(&std::fs::read(path.with_extension("explain")).unwrap());
+    let said = said
+        .replace('&', "&amp;")
+        .replace('<', "&lt;")
+        .replace('>', "&gt;");
+    assert!(page.contains(&format!("<pre>{said}</pre>")));
+    assert!(page.contains(&draw(&bytes, &About::default())));
+    assert_eq!(count(&page, "<table"), 0);
+}
+
+/// Where a drawing and a page go, and command lines without a meaning.
+#[test]
+fn drawing_and_page_as_files() {
+    let folder = std::path::Path::new(env!("CARGO_TARGET_TMPDIR")).join("both");
+    std::fs::create_dir_all(&folder).unwrap();
+    let at = |name: &str| folder.join(name).to_str().unwrap().to_string();
+    let (sheet, svg, page) = (at("a.sheet"), at("a.svg"), at("a.html"));
+    std::fs::write(&sheet, Sheet::example().write()).unwrap();
+    let said = |args: &[&str]| {
+        let output = run(args, b"");
+        (
+            output.status.code(),
+            text(&output.stdout),
+            text(&output.stderr),
+        )
+    };
+    let nothing = (Some(0), String::new(), String::new());
+    assert_eq!(said(&["draw", &sheet, "--html", &page]), nothing);
+    assert!(!std::path::Path::new(&svg).exists());
+    assert_eq!(
+        said(&["draw", &sheet, &svg, "--fold", "--html", &page]),
+        nothing
+    );
+    let read = |path: &str| text(&std::fs::read(path).unwrap());
+    assert!(read(&svg).contains(">a.sheet</text>"));
+    assert!(read(&page).contains(&read(&svg)));
+    let both = said(&["draw", &sheet, "-", "--html", "-"]);
+    let why = "- stands for the drawing and for the page: standard output is written once\n";
+    assert_eq!(both, (Some(1), String::new(), why.into()));
+    for (args, why) in [
+        (
+            &["draw", &sheet, "--html"][..],
+            "no file is named after --html",
+        ),
+        (
+            &["draw", "--html", &page],
+            "too few words after draw: expected `sheet draw SHEET [OUT] [--html OUT.html] [--fold] [RATES]`",
+        ),
+    ] {
+        let (code, out, err) = said(args);
+        assert_eq!((code, out), (Some(2), String::new()));
+        assert!(err.starts_with(&format!("sheet: {why}\n")), "{err}");
+    }
+    std::fs::remove_dir_all(&folder).unwrap();
 }
