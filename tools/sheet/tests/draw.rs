@@ -294,6 +294,18 @@ fn has_ways(svg: &str, sheet: &Sheet, answered: &Pass) {
     assert_eq!(count(svg, "<circle class=\"arrow\""), rings.count());
 }
 
+/// Each shaft has a stroke at each stop of its line and at no other; each line has one over its shafts, and each stop one in the plan.
+fn has_stops(svg: &str, sheet: &Sheet) {
+    let shafts = sheet.lines.iter().map(|line| {
+        let cars = sheet.cars.iter().filter(|car| car.line == line.id);
+        let stops = (0..sheet.stops.len()).filter(|k| line.mask & mask_bit(*k) != 0);
+        cars.count().max(1) * stops.count()
+    });
+    let planned = usize::from(sheet.runs_sideways()) * sheet.stops.len();
+    let strokes = shafts.sum::<usize>() + sheet.lines.len() + planned;
+    assert_eq!(count(svg, "<line class=\"floor\""), strokes);
+}
+
 /// Legends are shorter than what they explain, and have no mark and no word that the drawing has not.
 fn has_short_legends(svg: &str) {
     let (drawing, legends) = apart(svg);
@@ -343,6 +355,7 @@ fn drawn(bytes: &[u8], pass: &Pass, file: &str) -> [usize; 5] {
     has_short_legends(&svg);
     let svg = without_legends(&svg);
     has_ways(&svg, &Sheet::of_accepted(bytes), pass);
+    has_stops(&svg, &Sheet::of_accepted(bytes));
     let sent = pass.decisions.iter().flatten().count();
     let arrows = count(&svg, "<line class=\"arrow\"") + count(&svg, "<circle class=\"arrow\"");
     assert_eq!(arrows, sent, "{file}");
@@ -802,7 +815,8 @@ fn lines_are_folded() {
     is_well_formed(&folded);
     let (plain, folded) = (without_legends(&plain), without_legends(&folded));
     for (part, before, after) in [
-        ("<rect class=\"shaft\"", 4, 2),
+        ("<rect class=\"shaft\"", 6, 2),
+        ("<rect class=\"blind\"", 3, 0),
         ("<rect class=\"folded\"", 0, 1),
         (">line 2: 2 cars, none idle-listed<", 0, 1),
         (">line 2<", 1, 0),

@@ -10,7 +10,7 @@ use crate::fields::PHASES;
 
 /// From one line of words to the next.
 const LINE: f64 = 12.0;
-const UPRIGHT_LINE: f64 = 9.5;
+const UPRIGHT_LINE: f64 = 10.0;
 
 /// A class and words of it.
 type Words = (&'static str, String);

@@ -65,6 +65,10 @@ fn shafts(svg: &mut Svg, legend: &mut Legend) {
         svg.rect("shaft", x - 8.0, y - 6.0, 16.0, 12.0);
         svg.line("floor", (x - 8.0, y), (x + 8.0, y));
     });
+    let words = "a way without a stop of the line";
+    legend.entry_of(svg, "\"blind\"", words, |svg, x, y| {
+        svg.rect("blind", x - 2.0, y - 6.0, 4.0, 12.0);
+    });
     let words = "a folded line";
     legend.entry_of(svg, "\"folded\"", words, |svg, x, y| {
         svg.rect("folded", x - 4.0, y - 6.0, 8.0, 12.0);

@@ -32,7 +32,7 @@ pub struct Form {
 /// Few cars; few stops.
 const ROOMY: Form = Form {
     dense: false,
-    pitch: 116.0,
+    pitch: 122.0,
     shaft: 38.0,
     car: (30.0, 18.0),
     call: 25.0,
@@ -46,17 +46,19 @@ const ROOMY: Form = Form {
 };
 const DENSE: Form = Form {
     dense: true,
-    pitch: 40.0,
-    shaft: 18.0,
-    car: (18.0, 11.0),
-    call: 11.5,
-    barred: 9.0,
-    bound: 16.5,
-    arrow: 15.0,
+    pitch: 42.0,
+    shaft: 20.0,
+    car: (22.0, 11.0),
+    call: 13.0,
+    barred: 10.0,
+    bound: 18.5,
+    arrow: 16.5,
     head: 4.0,
     marks: 1,
     ..ROOMY
 };
+/// How far a shaft goes past its last stop, at the most.
+const EDGE: f64 = 12.0;
 /// The most cars and stops that are drawn roomy.
 const FEW_CARS: usize = 12;
 const FEW_STOPS: usize = 36;
@@ -65,7 +67,7 @@ impl Form {
     pub fn of(cars: usize, stops: usize, with_seconds: bool) -> Self {
         let mut form = if cars > FEW_CARS { DENSE } else { ROOMY };
         if form.dense && with_seconds {
-            form.pitch = 50.0;
+            form.pitch = 52.0;
         }
         if stops > FEW_STOPS {
             (form.stop, form.stop_class) = ((10.5, 10.0), "tag");
@@ -94,23 +96,56 @@ impl Building<'_> {
         closed.fold(0, |mask, (k, _)| mask | mask_bit(k))
     }
 
-    /// From the highest to the lowest of a line's stops and of a car.
-    pub fn reach(&self, line: &Line, cars: &[(usize, &Car)]) -> Option<(f64, f64)> {
-        let cars = cars.iter().map(|(_, car)| self.y(car.position));
-        let all = self.heights_in(line.mask).chain(cars);
-        let reach = all.fold(None, |reach: Option<(f64, f64)>, y| {
-            let (top, bottom) = reach.unwrap_or((y, y));
-            Some((top.min(y), bottom.max(y)))
-        });
-        reach.map(|(top, bottom)| (top - 12.0, bottom + 12.0))
+    /// The stretches of a line from stop to stop without a skipped one between, from the highest down: where each begins and ends.
+    fn stretches(&self, line: &Line) -> Vec<(f64, f64)> {
+        let mut stops: Vec<(f64, bool)> = Vec::new();
+        for (k, stop) in self.sheet.stops.iter().enumerate() {
+            stops.push((self.y(stop.position), line.mask & mask_bit(k) != 0));
+        }
+        // Of stops at one height a served one comes first.
+        stops.sort_by(|a, b| a.0.total_cmp(&b.0).then(b.1.cmp(&a.1)));
+        stops.dedup_by(|next, kept| next.0 == kept.0);
+        let edge = |from: f64, to: Option<&(f64, bool)>| match to {
+            Some((to, _)) => ((to - from) / 2.0).clamp(-EDGE, EDGE),
+            None => EDGE,
+        };
+        let mut stretches: Vec<(f64, f64)> = Vec::new();
+        for (k, (y, _)) in stops.iter().enumerate().filter(|(_, stop)| stop.1) {
+            let end = y + edge(*y, stops.get(k + 1));
+            let above = k.checked_sub(1).and_then(|above| stops.get(above));
+            match stretches.last_mut() {
+                Some(last) if above.is_some_and(|above| above.1) => last.1 = end,
+                _ => stretches.push((y - edge(*y, above).abs(), end)),
+            }
+        }
+        stretches
+    }
+
+    /// A shaft as far as its line serves and its car stands, narrow where no stop is served.
+    fn hoistway(&self, svg: &mut Svg, line: &Line, car: Option<&Car>, middle: f64) {
+        let mut stretches = self.stretches(line);
+        let (half, wide) = (self.form.shaft / 2.0, self.form.shaft);
+        for (from, to) in &stretches {
+            svg.rect("shaft", middle - half, *from, wide, to - from);
+        }
+        let car = car.map(|car| self.y(car.position));
+        stretches.extend(car.map(|y| (y, y)));
+        stretches.sort_by(|a, b| a.0.total_cmp(&b.0));
+        let Some((top, mut end)) = stretches.first().copied() else {
+            return;
+        };
+        svg.line("guide", (middle, self.top - 26.0), (middle, top));
+        for (from, to) in stretches {
+            if from > end {
+                svg.rect("blind", middle - 2.0, end, 4.0, from - end);
+            }
+            end = end.max(to);
+        }
     }
 
     pub fn shaft(&self, svg: &mut Svg, line: &Line, car: Option<(usize, &Car)>, middle: f64) {
         let half = self.form.shaft / 2.0;
-        if let Some((top, bottom)) = self.reach(line, car.as_slice()) {
-            svg.line("guide", (middle, self.top - 26.0), (middle, top));
-            svg.rect("shaft", middle - half, top, 2.0 * half, bottom - top);
-        }
+        self.hoistway(svg, line, car.map(|(_, car)| car), middle);
         for y in self.heights_in(line.mask) {
             svg.line("floor", (middle - half, y), (middle + half, y));
         }

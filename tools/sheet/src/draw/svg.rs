@@ -67,6 +67,7 @@ text{font-family:DejaVu Sans,Verdana,sans-serif;font-size:10px;fill:#222}\
 .pale{fill:#fff}\
 .fault{fill:#b00020;font-weight:bold}\
 .shaft{fill:#f3f3f3;stroke:#ccc}\
+.blind{fill:#e2e2e2;stroke:none}\
 .folded{fill:#ececec;stroke:#aaa;stroke-dasharray:3 2}\
 .floor{stroke:#999;stroke-width:1}\
 .guide{stroke:#dcdcdc;stroke-width:0.8}\
