@@ -784,7 +784,7 @@ fn names_and_file() {
         &format!(">2 {shown}\n.. at 10<"),
         &format!(">stop 2 {shown}\n..<"),
         ">goods<",
-        "<title>car 7 goods at 0\nnobody aboard<",
+        "<title>car 7 goods at 0\nline 1, idle, idle-listed\nload 0 of 100, max speed 2, both lamps lit\nnobody aboard<",
         &format!(
             "<title>car 7 goods, stop 2 {shown}\n of the old tower: 10 (cell 10000000)\nchosen, the car is sent<"
         ),
@@ -823,7 +823,7 @@ fn lines_are_folded() {
         (">line 1<", 1, 1),
         ("<title>car 3 at 14\n", 1, 0),
         (
-            "\ncar 3 at 14\n10 aboard: 5 to 9, 2 to 11, 2 to 12, 1 unknown\n",
+            "\ncar 3 at 14\nline 2, moving for 9, target 9\nload 950 of 1250, max speed 4, up lamp lit\n10 aboard: 5 to 9, 2 to 11, 2 to 12, 1 unknown\n",
             0,
             1,
         ),
@@ -885,16 +885,12 @@ fn a_full_car_keeps_its_colour_and_lamps() {
     (car.phase, car.load, car.going_up, car.going_down) = (4, car.capacity, true, false);
     let svg = without_legends(&draw(&sheet.write(), &About::default()));
     let (_, car) = svg.split_once("fill=\"#f6cf57\"").unwrap();
-    let shapes: Vec<&str> = car.lines().skip(1).take(5).collect();
+    let (_, after) = car.split_once("</title></rect>\n").unwrap();
+    let shapes: Vec<&str> = after.lines().collect();
     let width = |shape: &str| -> f64 {
         let (_, width) = shape.split_once(" width=\"").unwrap();
         width.split_once('"').unwrap().0.parse().unwrap()
     };
-    let shapes: Vec<&str> = shapes
-        .iter()
-        .copied()
-        .filter(|s| s.starts_with('<'))
-        .collect();
     assert!(shapes[0].starts_with("<rect class=\"gauge\"") && width(shapes[0]) < 6.0);
     assert!(shapes[1].starts_with("<rect class=\"full\"") && width(shapes[1]) < 6.0);
     assert!(shapes[2].starts_with("<path class=\"lit\""));

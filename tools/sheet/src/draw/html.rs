@@ -131,6 +131,7 @@ fn data(table: &Table, row: usize, column: usize) -> String {
     let class = match (table.is_chosen(row, column), table.is_sent(row)) {
         (true, true) => " class=\"taken\"",
         (true, false) => " class=\"left\"",
+        _ if !table.has_rank(row, column) => " class=\"none\"",
         _ => "",
     };
     let tip = escape(&table.details(row, column).join("\n"));

@@ -1,6 +1,5 @@
 //! The building's legend: what occurs in it, and nothing else.
 
-use super::LEGEND;
 use super::aboard;
 use super::building::Building;
 use super::legend::Legend;
@@ -24,8 +23,7 @@ const FILLS: [(usize, &str); 6] = [
 
 /// Draws up to a right edge; answers the lower edge.
 pub fn draw(svg: &mut Svg, building: &Building, top: f64, right: f64) -> f64 {
-    let width = (right - building.left).max(LEGEND);
-    let mut legend = Legend::new(building.left, top, width);
+    let mut legend = Legend::new(building.left, top, right - building.left);
     let sentences = sentences(svg, building);
     svg.group("key", |svg| {
         stops(svg, &mut legend);

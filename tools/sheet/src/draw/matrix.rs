@@ -79,13 +79,14 @@ impl<'a> Table<'a> {
         }
     }
 
-    /// The right edge, slanted names included.
+    /// The right edge, slanted names and the legend included.
     pub fn right(&self) -> f64 {
-        self.at(0, self.columns.len()).0 + 0.57 * widest("small", &self.columns)
+        let cells = self.at(0, self.columns.len()).0;
+        (cells + 0.57 * widest("small", &self.columns)).max(self.left + LEGEND)
     }
 
-    /// Draws below a height, with a legend up to a right edge; answers the lower edge.
-    pub fn draw(mut self, svg: &mut Svg, top: f64, right: f64) -> f64 {
+    /// Draws below a height; answers the lower edge.
+    pub fn draw(mut self, svg: &mut Svg, top: f64) -> f64 {
         let title = "Costs of idle cars and pending stops";
         svg.text("name", self.left, top, Anchor::Start, title);
         if self.rows.is_empty() {
@@ -102,7 +103,7 @@ impl<'a> Table<'a> {
         }
         self.frames(svg);
         let bottom = self.at(self.rows.len(), 0).1;
-        self.legend(svg, bottom + 20.0, right)
+        self.legend(svg, bottom + 20.0)
     }
 
     fn at(&self, row: usize, column: usize) -> (f64, f64) {
@@ -170,6 +171,10 @@ impl<'a> Table<'a> {
         }
     }
 
+    pub fn has_rank(&self, row: usize, column: usize) -> bool {
+        self.reasons.of(row, column).is_none()
+    }
+
     pub fn is_chosen(&self, row: usize, column: usize) -> bool {
         let chosen = self.chosen.columns.get(row);
         chosen.is_some_and(|chosen| *chosen as usize == column)
@@ -220,8 +225,8 @@ impl<'a> Table<'a> {
         }
     }
 
-    fn legend(&self, svg: &mut Svg, top: f64, right: f64) -> f64 {
-        let mut legend = Legend::new(self.left, top, (right - self.left).max(LEGEND));
+    fn legend(&self, svg: &mut Svg, top: f64) -> f64 {
+        let mut legend = Legend::new(self.left, top, self.right() - self.left);
         svg.group("key", |svg| self.entries(svg, &mut legend));
         legend.end()
     }

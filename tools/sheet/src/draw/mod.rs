@@ -206,13 +206,14 @@ fn draw_pass(sheet: &Sheet, chosen: &Chosen, about: &About) -> String {
     let mut svg = Svg::default();
     let building = Building::new(sheet, chosen, about, EDGE);
     let matrix = matrix::Table::new(sheet, chosen, about, EDGE);
-    let width = building.right().max(matrix.right()).max(EDGE + LEGEND);
+    let narrow = matrix.right();
+    let width = building.right().max(narrow);
     let top = title::draw(&mut svg, sheet, chosen, about, width - EDGE);
     let below = building.draw(&mut svg, top + 30.0, width);
     svg.view("building", [0.0, 0.0, width + EDGE, below + 10.0]);
-    let bottom = matrix.draw(&mut svg, below + 34.0, width);
+    let bottom = matrix.draw(&mut svg, below + 34.0);
     let costs = below + 14.0;
-    svg.view("costs", [0.0, costs, width + EDGE, bottom + 10.0 - costs]);
+    svg.view("costs", [0.0, costs, narrow + EDGE, bottom + 10.0 - costs]);
     svg.finish(width + EDGE, bottom + EDGE)
 }
 

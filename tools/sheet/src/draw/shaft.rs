@@ -6,6 +6,7 @@ use sheetgen::{Car, Line, Stop};
 use super::aboard::Aboard;
 use super::building::Building;
 use super::svg::{Anchor, Svg};
+use crate::fields::PHASES;
 
 /// The sizes of shafts and of what stands in them.
 pub struct Form {
@@ -230,13 +231,34 @@ impl Building<'_> {
         lamps(svg, car, (middle + w / 2.0 - half - 2.4, y + h / 2.0), half);
     }
 
+    /// A car in words: where it is, what it does, what it carries.
     pub fn car_tip(&self, car: &Car) -> String {
-        let mut tip = format!("{} at {}", self.about.car(car.id), car.position);
+        let stop = |id: u32| self.about.stop(id);
+        let mut at = format!("{} at {}", self.about.car(car.id), car.position);
         if self.sheet.edition == 2 {
-            tip += &format!(", across {}", car.across);
+            at += &format!(", across {}", car.across);
         }
+        let phase = PHASES.get(usize::from(car.phase)).unwrap_or(&"?");
+        let mut does = format!("line {}, {}", car.line, phase.replace('_', " "));
+        if car.stop != 0 {
+            does += &format!(" for {}", stop(car.stop));
+        }
+        does += &car
+            .target
+            .map_or(String::new(), |id| format!(", target {}", stop(id)));
+        if car.idle {
+            does += ", idle-listed";
+        }
+        let lamps = match (car.going_up, car.going_down) {
+            (true, true) => "both lamps lit",
+            (true, false) => "up lamp lit",
+            (false, true) => "down lamp lit",
+            (false, false) => "no lamp lit",
+        };
+        let (load, capacity, speed) = (car.load, car.capacity, car.speed);
+        let carries = format!("load {load} of {capacity}, max speed {speed}, {lamps}");
         let aboard = Aboard::of(self.sheet, car).words(self.about);
-        format!("{tip}\n{aboard}")
+        format!("{at}\n{does}\n{carries}\n{aboard}")
     }
 
     /// An arrow to the stop that the car is sent to, with the cell as a cost and the seconds of the run.
