@@ -38,6 +38,12 @@ impl Args {
         out.map(Path::new)
     }
 
+    /// What follows an option.
+    pub fn value(&self, name: &str) -> Option<&OsStr> {
+        let found = self.options.iter().find(|(option, _)| option.name == name);
+        found.and_then(|(_, value)| value.as_deref())
+    }
+
     pub fn has(&self, name: &str) -> bool {
         self.options.iter().any(|(option, _)| option.name == name)
     }

@@ -1,6 +1,6 @@
 //! The commands: what each makes of its files, and where it prints that.
 
-use std::ffi::OsString;
+use std::ffi::{OsStr, OsString};
 use std::io::{ErrorKind, IsTerminal, Write};
 use std::path::Path;
 
@@ -112,18 +112,46 @@ fn rates(args: &Args) -> Result<Option<Ramps>, Stop> {
     Ok(ramps)
 }
 
+/// Draws into a file, into a page, or into both; without either on standard output.
 fn draw(args: &Args) -> Result<(), Stop> {
-    let (from, to) = (args.path(0), args.out(1));
+    let from = args.path(0);
+    let page = args.value("--html").map(Path::new);
+    if args.word(1).as_deref() == Some("-") && page == Some(Path::new("-")) {
+        let twice = "- stands for the drawing and for the page: standard output is written once";
+        return Err(Stop::Failed(twice.into()));
+    }
     let ramps = rates(args)?;
     let source = Source::read(from)?;
-    if let Some(to) = to {
-        files::may_write(from, to, Format::Drawing)?;
+    let page_file = page.filter(|page| *page != Path::new("-"));
+    for (to, format) in [(args.out(1), Format::Drawing), (page_file, Format::Page)] {
+        to.map_or(Ok(()), |to| files::may_write(from, to, format))?;
     }
-    let drawing = drawn(&source, ramps.as_ref())?;
-    match to {
-        Some(to) => Ok(files::replace(to, drawing.as_bytes())?),
-        None => print(&drawing),
+    let put = |to: Option<&Path>, text: String| match to {
+        Some(to) => Ok(files::replace(to, text.as_bytes())?),
+        None => print(&text),
+    };
+    let drawing = Drawing {
+        file: from.file_name().filter(|name| *name != "-"),
+        fold: args.has("--fold"),
+        ramps: ramps.as_ref(),
+    };
+    if page.is_some() {
+        put(page_file, drawn(&source, &drawing, true)?)?;
     }
+    if page.is_none() || args.word(1).is_some() {
+        put(args.out(1), drawn(&source, &drawing, false)?)?;
+    }
+    name_the_place(&source);
+    Ok(())
+}
+
+/// How a sheet is drawn.
+#[cfg_attr(not(feature = "pass"), allow(dead_code))]
+struct Drawing<'a> {
+    /// The name of its file.
+    file: Option<&'a OsStr>,
+    fold: bool,
+    ramps: Option<&'a Ramps>,
 }
 
 fn pass(args: &Args) -> Result<(), Stop> {
@@ -234,16 +262,22 @@ fn name_the_place(source: &Source) {
     }
 }
 
+/// The drawing, or the page with it.
 #[cfg(feature = "pass")]
-fn drawn(source: &Source, ramps: Option<&Ramps>) -> Result<String, Stop> {
+fn drawn(source: &Source, drawing: &Drawing, is_page: bool) -> Result<String, Stop> {
     of_the_interface()?;
-    name_the_place(source);
+    let file = drawing.file.map(|name| name.to_string_lossy());
     let about = sheet::draw::About {
-        file: Some(&source.file),
-        ramps,
+        file: file.as_deref(),
+        ramps: drawing.ramps,
         names: source.names.clone(),
+        fold: drawing.fold,
+        source: Some(source),
     };
-    Ok(sheet::draw::draw(&source.bytes, &about))
+    Ok(match is_page {
+        true => sheet::draw::html(&source.bytes, &about),
+        false => sheet::draw::draw(&source.bytes, &about),
+    })
 }
 
 #[cfg(feature = "pass")]
@@ -307,9 +341,11 @@ mod without {
         Ok(())
     }
 
-    pub fn drawn(_: &Source, _: Option<&Ramps>) -> Result<String, Stop> {
+    pub fn drawn(_: &Source, _: &Drawing, _: bool) -> Result<String, Stop> {
         unlinked()
     }
+
+    pub fn name_the_place(_: &Source) {}
 
     pub fn passed(_: &Source, _: Option<&Ramps>) -> Result<String, Stop> {
         unlinked()

@@ -155,18 +155,23 @@ fn before(source: &Source, cut: &Cut, refusal: Refusal) -> String {
 
 /// What `pass` and `draw` say beside what they print: the line where a text is refused, or what a file is that is no sheet.
 pub fn beside(source: &Source) -> Option<String> {
-    let refusal = dispatch_bench::read(&source.bytes).err()?;
-    if let Some(foreign) = source.foreign {
-        return Some(foreign.named(&source.file));
+    let sentence = sentence(source)?;
+    match source.foreign {
+        Some(foreign) => Some(foreign.named(&source.file)),
+        None => {
+            source.places.as_ref()?;
+            Some(format!("{sentence} `sheet explain` says what to do."))
+        }
     }
-    source.places.as_ref()?;
+}
+
+/// The sentence of a refusal, with the line and the names of its text.
+pub fn sentence(source: &Source) -> Option<String> {
+    let refusal = dispatch_bench::read(&source.bytes).err()?;
     let cut = Cut::new(&source.bytes);
     let before = before(source, &cut, refusal);
     let reason = named_reason(&cut, refusal, &source.names);
-    Some(format!(
-        "{before}{} `sheet explain` says what to do.",
-        reason.sentence
-    ))
+    Some(format!("{before}{}", reason.sentence))
 }
 
 /// An accepted sheet, and what to ask where a host does not accept it.

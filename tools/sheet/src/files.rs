@@ -35,6 +35,7 @@ pub enum Format {
     Sheet,
     Store,
     Drawing,
+    Page,
 }
 
 impl Format {
@@ -43,6 +44,7 @@ impl Format {
             Format::Sheet => "a sheet",
             Format::Store => "a store of weights",
             Format::Drawing => "an SVG drawing",
+            Format::Page => "a page for a browser",
         }
     }
 
@@ -51,14 +53,14 @@ impl Format {
             Format::Sheet => "sheet",
             Format::Store => "store",
             Format::Drawing => "svg",
+            Format::Page => "html",
         }
     }
 }
 
 /// Endings that say what a file holds. One that is not among them may be given to anything.
-const ENDINGS: [&str; 14] = [
-    "sheet", "store", "svg", "txt", "html", "htm", "png", "jpg", "jpeg", "pdf", "json", "csv",
-    "gz", "zip",
+const ENDINGS: [&str; 13] = [
+    "sheet", "store", "svg", "txt", "html", "png", "jpg", "jpeg", "pdf", "json", "csv", "gz", "zip",
 ];
 
 /// Whether a file may be written that is made of another one: not over it, not over a read-only one, and under no ending of another format.

@@ -96,23 +96,42 @@ const fn rate(name: &'static str, value: &'static str, says: &'static str) -> Ch
 }
 
 /// The rates of a run.
-const RATES: [Choice; 3] = [
-    rate(
-        ACCELERATION,
-        "A",
-        "the rate at which a car speeds up; with it --deceleration must be there",
-    ),
-    rate(
-        DECELERATION,
-        "D",
-        "the rate at which a car slows down; with it --acceleration must be there",
-    ),
-    rate(
-        SPEED,
-        "V",
-        "the speed at the start of a run; 0 where it is not named",
-    ),
+const RATES: [Choice; 3] = [ACCELERATES, DECELERATES, STARTS];
+
+/// How a sheet is drawn, and the rates of a run.
+const DRAWN: [Choice; 5] = [
+    Choice {
+        name: "--html",
+        value: Some(file("OUT.html")),
+        group: None,
+        says: "write a page for a browser, with the drawing, the lines of the pass and the matrix as a table",
+    },
+    Choice {
+        name: "--fold",
+        value: None,
+        group: None,
+        says: "draw lines without an idle-listed car as a strip",
+    },
+    ACCELERATES,
+    DECELERATES,
+    STARTS,
 ];
+
+const ACCELERATES: Choice = rate(
+    ACCELERATION,
+    "A",
+    "the rate at which a car speeds up; with it --deceleration must be there",
+);
+const DECELERATES: Choice = rate(
+    DECELERATION,
+    "D",
+    "the rate at which a car slows down; with it --acceleration must be there",
+);
+const STARTS: Choice = rate(
+    SPEED,
+    "V",
+    "the speed at the start of a run; 0 where it is not named",
+);
 
 const A_TEXT: &str = "SHEET is a sheet, or a text that `write` takes: what is said of it then names the text's lines.";
 
@@ -154,15 +173,16 @@ pub static COMMANDS: [Command; 16] = [
     },
     Command {
         words: &[file("SHEET"), OUT],
-        options: &RATES,
+        options: &DRAWN,
         more: A_TEXT,
         examples: &[
             "sheet draw lobby.txt lobby.svg",
+            "sheet draw lobby.sheet --html lobby.html",
             "sheet draw lobby.sheet lobby.svg --acceleration 1 --deceleration 1",
         ],
         ..plain(
             "draw",
-            "draw a sheet and its pass, or where it is refused, as SVG; cells that are held at the ceiling are marked",
+            "draw a sheet and its pass, or where it is refused, as SVG, or as a page for a browser (--html); with --fold lines without an idle-listed car are drawn as a strip",
         )
     },
     Command {

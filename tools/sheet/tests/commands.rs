@@ -51,13 +51,17 @@ fn version() {
 #[test]
 fn help_of_a_command() {
     let said = "\
-usage: sheet draw SHEET [OUT] [RATES]
-Draw a sheet and its pass, or where it is refused, as SVG; cells that are held at the ceiling are marked.
+usage: sheet draw SHEET [OUT] [--html OUT.html] [--fold] [RATES]
+Draw a sheet and its pass, or where it is refused, as SVG, or as a page for a browser (--html); with --fold lines
+without an idle-listed car are drawn as a strip.
 SHEET is a sheet, or a text that `write` takes: what is said of it then names the text's lines.
+  --html OUT.html      write a page for a browser, with the drawing, the lines of the pass and the matrix as a table
+  --fold               draw lines without an idle-listed car as a strip
   --acceleration A     the rate at which a car speeds up; with it --deceleration must be there
   --deceleration D     the rate at which a car slows down; with it --acceleration must be there
   --speed V            the speed at the start of a run; 0 where it is not named
 example: sheet draw lobby.txt lobby.svg
+example: sheet draw lobby.sheet --html lobby.html
 example: sheet draw lobby.sheet lobby.svg --acceleration 1 --deceleration 1
 ";
     for args in [
@@ -126,7 +130,11 @@ fn too_few_or_too_many_words() {
         ),
         (&["grade", "a"], "few", " SHEET GRADES.txt"),
         (&["grade", "a", "b", "c"], "many", " SHEET GRADES.txt"),
-        (&["draw", "a", "b", "c"], "many", " SHEET [OUT] [RATES]"),
+        (
+            &["draw", "a", "b", "c"],
+            "many",
+            " SHEET [OUT] [--html OUT.html] [--fold] [RATES]",
+        ),
         (&["example", "ETD", "RSR"], "many", " [STRATEGY|sideways]"),
         (&["rule", "1", "2"], "many", " [NUMBER]"),
         (&["version", "a"], "many", ""),

@@ -81,7 +81,7 @@ fn passes_as_stored() {
             assert_eq!(lines.lines().count(), 1);
         }
     }
-    assert_eq!(passes, 13);
+    assert_eq!(passes, 14);
     let example = run(&["pass", "-"], &sheetgen::Sheet::example().write());
     let stored = std::fs::read(here("../../crates/passprint/stdout")).unwrap();
     assert_eq!(example.stdout, stored);

@@ -305,7 +305,7 @@ fn completed_in(name: &str) -> Room {
 }
 
 /// What stands on the command line, its last word to be completed, and what it can become, in order.
-const COMPLETED: [(&str, &str); 16] = [
+const COMPLETED: [(&str, &str); 17] = [
     ("sheet dr", "draw"),
     ("sheet ver", "version"),
     ("sheet s", "show store"),
@@ -318,6 +318,7 @@ const COMPLETED: [(&str, &str); 16] = [
     ("sheet help expl", "explain"),
     ("sheet draw --ac", "--acceleration"),
     ("sheet pass a --d", "--deceleration"),
+    ("sheet draw a --html lobby.t", "lobby.txt"),
     ("sheet show --h", "--help"),
     ("sheet explain lobby.t", "lobby.txt"),
     ("sheet draw --speed 1 lobby.t", "lobby.txt"),
@@ -419,7 +420,8 @@ fn zsh_completes() {
         (
             "sheet draw a",
             &[
-                "at 2 of draw a\n--acceleration[the rate",
+                "at 2 of draw a\n--",
+                "\n--acceleration[the rate",
                 "]:A:()\n",
                 "\n1:SHEET:_files\n2::OUT:_files\n",
             ],

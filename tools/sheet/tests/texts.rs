@@ -130,6 +130,13 @@ fn lines_and_names_are_said() {
         assert_eq!(text(&output.stderr), place);
         assert_eq!(output.status.code(), Some(0));
     }
+    let drawn = text(&run(&["draw", "-"], content.as_bytes()).stdout);
+    assert!(drawn.contains(">-:6: Stop record 4 (id 7 "), "{drawn}");
+    let page = text(&run(&["draw", "-", "--html", "-"], content.as_bytes()).stdout);
+    assert!(
+        page.contains("also 11: -:16: Car record 3 (id 3 "),
+        "{page}"
+    );
     let passed = run(&["pass", "-"], content.as_bytes());
     assert_eq!(text(&passed.stdout), "refused 11 at 868\n");
 }

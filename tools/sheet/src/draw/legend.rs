@@ -5,7 +5,7 @@ use super::svg::{self, Anchor, Svg};
 /// The width of a mark, and from there to its words.
 const MARK: f64 = 16.0;
 const GAP: f64 = 5.0;
-const ROW: f64 = 16.0;
+const ROW: f64 = 15.0;
 
 pub struct Legend {
     left: f64,
@@ -33,6 +33,19 @@ impl Legend {
         let (x, y) = (self.x + MARK / 2.0, self.y - 3.0);
         svg.group("legend", |svg| mark(svg, x, y));
         self.words(svg, words);
+    }
+
+    /// The same, where a part of what is drawn already has such a mark.
+    pub fn entry_of(
+        &mut self,
+        svg: &mut Svg,
+        part: &str,
+        words: &str,
+        mark: impl FnOnce(&mut Svg, f64, f64),
+    ) {
+        if svg.has(part) {
+            self.entry(svg, words, mark);
+        }
     }
 
     /// Colours side by side, and their words.
@@ -69,9 +82,9 @@ impl Legend {
         }
     }
 
-    /// The right and lower edge, with all that was drawn above and to the left.
-    pub fn end(mut self) -> (f64, f64) {
+    /// The lower edge, with all that was drawn above.
+    pub fn end(mut self) -> f64 {
         self.next_row();
-        (self.left + self.width, self.y - ROW + 4.0)
+        self.y - ROW + 4.0
     }
 }

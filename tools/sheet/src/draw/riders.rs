@@ -41,12 +41,21 @@ impl Way {
         }
     }
 
+    pub fn class(self) -> &'static str {
+        match self {
+            Way::Up => "waiting up",
+            Way::Down => "waiting down",
+            Way::Unknown => "waiting unknown",
+        }
+    }
+
     /// Its mark around a middle.
     pub fn draw(self, svg: &mut Svg, x: f64, y: f64) {
+        let class = self.class();
         match self {
-            Way::Up => svg.triangle("waiting", (x, y + 3.0), (3.6, 6.0), true),
-            Way::Down => svg.triangle("waiting", (x, y - 3.0), (3.6, 6.0), false),
-            Way::Unknown => svg.circle("waiting", x, y, 2.8),
+            Way::Up => svg.triangle(class, (x, y + 3.0), (3.6, 6.0), true),
+            Way::Down => svg.triangle(class, (x, y - 3.0), (3.6, 6.0), false),
+            Way::Unknown => svg.circle(class, x, y, 2.8),
         }
     }
 }
