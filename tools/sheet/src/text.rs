@@ -196,30 +196,26 @@ impl Reader<'_> {
 
     fn line(&mut self, line: &Line) {
         let at = self.writer.len();
-        let read = match (line.word, kind(line)) {
-            ("car", Some(kind)) if line.is_default => {
-                self.default_car(line, kind);
-                return;
-            }
-            (word, _) if line.is_default => Err(line.fault(format!(
+        match (line.word, kind(line)) {
+            ("car", Some(kind)) if line.is_default => return self.default_car(line, kind),
+            (word, _) if line.is_default => self.faults.push(line.fault(format!(
                 "{word} default: is no line; `car default` alone says what holds for later cars"
             ))),
-            (_, Some(kind)) => {
-                self.named_record(line, kind);
-                Ok(())
-            }
+            (_, Some(kind)) => self.named_record(line, kind),
             ("sheet", _) => {
                 self.places.head = Some(line.number);
-                let read = self.head(line);
-                self.faults.extend(read.err());
-                return;
+                return self.head(line);
             }
             ("record", _) => self.raw_record(line),
             ("rest", _) => self.rest(line),
-            _ => Err(unknown(line)),
-        };
-        self.faults.extend(read.err());
+            _ => self.faults.push(unknown(line)),
+        }
         self.places.starts.push((at, line.number));
+    }
+
+    /// What was read, where it could be; a fault is kept.
+    fn kept<T>(&mut self, read: Result<T, Fault>) -> Option<T> {
+        read.map_err(|fault| self.faults.push(fault)).ok()
     }
 
     /// Edition 1 and the number of records there are.
@@ -236,22 +232,23 @@ impl Reader<'_> {
         }
     }
 
-    fn head(&mut self, line: &Line) -> Result<(), Fault> {
+    fn head(&mut self, line: &Line) {
         if line.get("head") == Some("none") {
-            return line.only(&["head"]);
+            return self.faults.extend(line.beside(&["head"], &[]));
         }
         if let Some(text) = line.get("head") {
-            return Err(line.fault_in("head", &format!("expected none, found \"{text}\"")));
+            let what = format!("expected none, found \"{text}\"");
+            self.faults.push(line.fault_in("head", &what));
         }
-        line.only(&["edition", "records", "head"])?;
-        line.number("edition", 8)?;
-        let count = match line.number("records", 16)? {
-            Some(count) => count,
-            None => counted(self.records).map_err(|what| line.fault(what))?,
+        let fields = ["edition", "records", "head"];
+        self.faults.extend(line.beside(&fields, &[]));
+        self.kept(line.number("edition", 8));
+        let count = match self.kept(line.number("records", 16)).flatten() {
+            Some(count) => Some(count),
+            None => self.kept(counted(self.records).map_err(|what| line.fault(what))),
         };
         self.writer.put(8, self.edition);
-        self.writer.put(16, count);
-        Ok(())
+        self.writer.put(16, count.unwrap_or(0));
     }
 
     fn named_record(&mut self, line: &Line, kind: usize) {
@@ -279,15 +276,13 @@ impl Reader<'_> {
             }
         }
         if stored {
-            let read = self.stored_weights(line, weights);
-            self.faults.extend(read.err());
+            self.stored_weights(line, weights);
         }
         if let Some(name) = line
             .get(names::NAME)
             .filter(|_| names.contains(&names::NAME))
         {
-            let given = names::check(name).map_err(|what| line.fault_in(names::NAME, &what));
-            self.faults.extend(given.err());
+            self.kept(names::check(name).map_err(|what| line.fault_in(names::NAME, &what)));
             self.names.give(kind, stop_id(line), name);
         }
     }
@@ -322,8 +317,7 @@ impl Reader<'_> {
             }
         };
         let value = value::parse(field, text, &self.stops);
-        let value = value.map_err(|what| self.faults.push(line.fault_in(field.name, &what)));
-        value.ok()
+        self.kept(value.map_err(|what| line.fault_in(field.name, &what)))
     }
 
     /// Fields that hold for later cars; a later line changes those that it names.
@@ -340,27 +334,31 @@ impl Reader<'_> {
         for field in shared {
             if let Some(text) = line.get(field.name) {
                 let value = value::parse(field, text, &self.stops);
-                let value =
-                    value.map_err(|what| self.faults.push(line.fault_in(field.name, &what)));
-                self.defaults.insert(field.name, value.ok());
+                let value = self.kept(value.map_err(|what| line.fault_in(field.name, &what)));
+                self.defaults.insert(field.name, value);
             }
         }
     }
 
     /// The weights of a store for a day; one that the strategy leaves unused stays zero.
-    fn stored_weights(&mut self, line: &Line, fields: &[Field]) -> Result<(), Fault> {
-        if let Some(field) = fields.iter().find(|field| line.get(field.name).is_some()) {
+    fn stored_weights(&mut self, line: &Line, fields: &[Field]) {
+        let own = fields.iter().filter(|field| line.get(field.name).is_some());
+        let has_own = own.clone().next().is_some();
+        for field in own {
             let what =
                 "expected no weight of its own beside weights= and day=, which give all of them";
-            return Err(line.fault_in(field.name, what));
+            self.faults.push(line.fault_in(field.name, what));
         }
-        let Some(file) = line.get("weights") else {
-            return Err(line.fault_in("weights", "is missing; expected the file of a store"));
+        let file = line
+            .get("weights")
+            .ok_or_else(|| line.fault_in("weights", "is missing; expected the file of a store"));
+        let (file, day) = (self.kept(file), self.kept(line.needed("day", 32)));
+        let (Some(file), Some(day), false) = (file, day, has_own) else {
+            return;
         };
-        let day = line.needed("day", 32)? as u32;
-        let six = of_file(&self.folder.join(file), day);
-        let six = six.map_err(|what| line.fault_in("weights", &what))?;
-        for (field, weight) in fields.iter().zip(six) {
+        let six = of_file(&self.folder.join(file), day as u32);
+        let six = six.map_err(|what| line.fault_in("weights", &what));
+        for (field, weight) in fields.iter().zip(self.kept(six).unwrap_or_default()) {
             let bits = match field.absence {
                 Absence::Unused => 0,
                 _ => weight.to_bits(),
@@ -368,7 +366,6 @@ impl Reader<'_> {
             let present = true;
             value::put(&mut self.writer, field, Value { present, bits });
         }
-        Ok(())
     }
 
     /// The strategy, by which the weights have their names; without one the other fields that every policy has are looked at.
@@ -387,19 +384,24 @@ impl Reader<'_> {
         None
     }
 
-    fn raw_record(&mut self, line: &Line) -> Result<(), Fault> {
-        line.only(&["kind", "length", "bits"])?;
-        let kind = line.needed("kind", 6)?;
-        let length = line.needed("length", 16)?;
+    fn raw_record(&mut self, line: &Line) {
+        self.faults
+            .extend(line.beside(&["kind", "length", "bits"], &[]));
+        let kind = self.kept(line.needed("kind", 6)).unwrap_or(0);
         self.writer.put(6, kind);
-        self.writer.put(16, length);
-        raw_bits(&mut self.writer, line, length as usize)
+        if let Some(length) = self.kept(line.needed("length", 16)) {
+            self.writer.put(16, length);
+            let read = raw_bits(&mut self.writer, line, length as usize);
+            self.kept(read);
+        }
     }
 
-    fn rest(&mut self, line: &Line) -> Result<(), Fault> {
-        line.only(&["length", "bits"])?;
-        let length = line.needed("length", 32)? as usize;
-        raw_bits(&mut self.writer, line, length)
+    fn rest(&mut self, line: &Line) {
+        self.faults.extend(line.beside(&["length", "bits"], &[]));
+        if let Some(length) = self.kept(line.needed("length", 32)) {
+            let read = raw_bits(&mut self.writer, line, length as usize);
+            self.kept(read);
+        }
     }
 }
 
