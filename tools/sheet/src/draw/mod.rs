@@ -7,6 +7,7 @@ mod heights;
 mod held;
 mod html;
 mod key;
+mod landings;
 mod legend;
 mod matrix;
 mod plan;
@@ -19,8 +20,9 @@ mod ties;
 mod title;
 
 use dispatch_bench::{OutsideDomain, Pass, Refusal, SENTINEL};
-use sheetgen::Sheet;
+use sheetgen::{Car, Sheet};
 
+use crate::fields::PHASES;
 use crate::names::Names;
 use crate::ramps::Ramps;
 use crate::travel;
@@ -83,6 +85,12 @@ fn named(id: &str, name: Option<&String>, most: usize) -> String {
         Some(name) => format!("{id} {}", svg::cropped(name, most)),
         None => id.into(),
     }
+}
+
+/// A car's phase in words.
+fn phase(car: &Car) -> String {
+    let name = PHASES.get(usize::from(car.phase));
+    name.unwrap_or(&"?").replace('_', " ")
 }
 
 /// A sheet and its pass, or where the sheet is refused.
