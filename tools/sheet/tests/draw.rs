@@ -474,6 +474,10 @@ fn passes_of_edition_2() {
                 assert_eq!(count(&svg, &format!("{tip}<")), planned, "{index}");
                 assert_eq!(count(&svg, &format!("{tip}\n")), 1, "{index}");
             }
+            let others = sheet.cars.iter().any(|car| !car.idle);
+            let words = draw(&bytes, &About::default());
+            let said = usize::from(planned > 0 && others);
+            assert_eq!(count(&words, ">another car<"), said, "{index}");
             plans += planned;
         }
     }

@@ -74,7 +74,7 @@ fn to(before: &str, stop: u32, about: &About) -> String {
     }
 }
 
-struct Said {
+struct Said<'a> {
     car: String,
     name: String,
     phase: String,
@@ -82,7 +82,7 @@ struct Said {
     target: String,
     listed: &'static str,
     load: String,
-    aboard: String,
+    aboard: Aboard<'a>,
     across: String,
     sweep: &'static str,
     decision: (&'static str, String),
@@ -90,8 +90,8 @@ struct Said {
     seconds: String,
 }
 
-impl Said {
-    fn of(sheet: &Sheet, chosen: &Chosen, about: &About, k: usize, car: &Car) -> Self {
+impl<'a> Said<'a> {
+    fn of(sheet: &'a Sheet, chosen: &Chosen, about: &About, k: usize, car: &Car) -> Self {
         let decided = chosen.row(sheet, k).and_then(|row| {
             let decision = chosen.pass.decisions.get(row)?;
             Some((decision.map(|id| id.get()), chosen.chosen_cost(row)))
@@ -114,7 +114,7 @@ impl Said {
             target: words("target", car.target),
             listed: if car.idle { "idle-listed" } else { "" },
             load: format!("{} of {}", short(car.load), short(car.capacity)),
-            aboard: Aboard::of(sheet, car).count(),
+            aboard: Aboard::of(sheet, car),
             across: match sheet.edition {
                 2 => format!("across {}", short(car.across)),
                 _ => String::new(),
@@ -140,7 +140,7 @@ impl Said {
             ("small", self.target),
             ("small", self.listed.into()),
             ("small", load),
-            ("small", self.aboard),
+            ("small", self.aboard.count()),
             ("small", self.across),
             ("small", self.sweep.into()),
         ];
@@ -156,11 +156,15 @@ impl Said {
             parts.join(by)
         };
         let phase = joined(&[&self.phase, &self.going], " ");
+        let aboard = match self.aboard.total() {
+            0 => String::new(),
+            total => format!("{total} aboard"),
+        };
         let (class, decision) = self.decision;
         let mut lines = vec![
             ("tag", joined(&[&self.car, &self.name, self.sweep], ", ")),
             ("small", joined(&[&phase, &self.target, &self.across], ", ")),
-            ("small", joined(&[&self.load, &self.aboard], ", ")),
+            ("small", joined(&[&self.load, &aboard], ", ")),
             (class, joined(&[&decision, &self.cost], " at ")),
             ("small", self.seconds),
         ];

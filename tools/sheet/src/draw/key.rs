@@ -23,7 +23,7 @@ const FILLS: [(usize, &str); 6] = [
 
 /// Draws up to a right edge; answers the lower edge.
 pub fn draw(svg: &mut Svg, building: &Building, top: f64, right: f64) -> f64 {
-    let mut legend = Legend::new(building.left, top, right - building.left);
+    let mut legend = Legend::new(svg, building.left, top, right - building.left);
     let sentences = sentences(svg, building);
     svg.group("key", |svg| {
         stops(svg, &mut legend);
@@ -33,9 +33,7 @@ pub fn draw(svg: &mut Svg, building: &Building, top: f64, right: f64) -> f64 {
         if building.plan.is_some() {
             plan(svg, &mut legend);
         }
-        for words in sentences {
-            legend.sentence(svg, &words);
-        }
+        legend.sentence(svg, &sentences);
     });
     legend.end()
 }
@@ -178,8 +176,8 @@ const MEANINGS: [(&str, &str); 4] = [
 ];
 
 /// What the words of the building say, of those that are there.
-fn sentences(svg: &Svg, building: &Building) -> Vec<String> {
-    let mut sentences = Vec::new();
+fn sentences(svg: &Svg, building: &Building) -> String {
+    let mut sentences: Vec<String> = Vec::new();
     if !building.heights.is_to_scale {
         let words = "Stops in the order of their positions; distances are not to scale.";
         sentences.push(words.into());
@@ -193,10 +191,7 @@ fn sentences(svg: &Svg, building: &Building) -> Vec<String> {
     let words = building.words();
     let said = |part: &str| words.iter().any(|words| words.contains(part));
     let meanings = MEANINGS.iter().filter(|(part, _)| said(part));
-    let meanings: Vec<&str> = meanings.map(|(_, words)| *words).collect();
-    if !meanings.is_empty() {
-        sentences.push(meanings.join(" "));
-    }
+    sentences.extend(meanings.map(|(_, words)| String::from(*words)));
     if svg.has("\"waiting") && !building.in_words {
         sentences.push(RIDERS.into());
     }
@@ -205,7 +200,7 @@ fn sentences(svg: &Svg, building: &Building) -> Vec<String> {
     if let Some(ramps) = building.about.ramps.filter(|_| is_timed) {
         sentences.push(of_seconds(ramps, building.sheet.edition, is_refused));
     }
-    sentences
+    sentences.join(" ")
 }
 
 const LEVEL: &str = "Edition 2: behind a stop's position stands its second coordinate, across; here all of them are 0.";

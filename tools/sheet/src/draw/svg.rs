@@ -141,9 +141,19 @@ impl Svg {
         self.views.push((name, place));
     }
 
+    /// How long what is drawn is.
+    pub fn length(&self) -> usize {
+        self.body.len()
+    }
+
     /// Something that is drawn has this part.
     pub fn has(&self, part: &str) -> bool {
         self.body.contains(part)
+    }
+
+    /// Something of the drawing as it was at a length has this part.
+    pub fn has_before(&self, length: usize, part: &str) -> bool {
+        self.body[..length].contains(part)
     }
 
     /// Classes that few drawings have.
