@@ -796,11 +796,12 @@ fn names_and_file() {
     let svg = draw(&bytes, &about);
     is_well_formed(&svg);
     let shown = "Lobby &lt;&amp;&quot;&gt; ]]&gt;\u{fffd}";
+    let short = "Lobby &lt;&amp;&quot;&gt; ]..";
     for part in [
         ">a &lt;b&gt; &amp; &quot;c&quot;.sheet<",
         &format!("<title>stop 2 {shown}\n of the old tower at 10\npending, a car is sent to it<"),
-        &format!(">2 {shown}\n.. at 10<"),
-        &format!(">stop 2 {shown}\n..<"),
+        &format!(">2 {short} at 10<"),
+        &format!(">stop 2 {short}<"),
         ">goods<",
         ">to 3 roof<",
         "<title>car 7 goods at 0\nline 1, idle, idle-listed\nload 0 of 100, max speed 2, both lamps lit\nnobody aboard<",
@@ -815,7 +816,7 @@ fn names_and_file() {
     assert!(
         page.contains("<title>a &lt;b&gt; &amp; &quot;c&quot;.sheet: SCAN, limit none</title>")
     );
-    assert!(page.contains(&format!("<th>stop 2 {shown}\n..</th>")));
+    assert!(page.contains(&format!("<th>stop 2 {short}</th>")));
     let refused = draw(&bytes[..40], &about);
     assert!(refused.contains(">a &lt;b&gt; &amp; &quot;c&quot;.sheet<"));
 }

@@ -108,7 +108,9 @@ impl<'a> Said<'a> {
         };
         Self {
             car: format!("car {}", car.id),
-            name: name.map_or(String::new(), |name| svg::cropped(name, super::NAME)),
+            name: name.map_or(String::new(), |name| {
+                svg::cropped("name", name, super::NAME)
+            }),
             phase: phase(car),
             going: words("for", going),
             target: words("target", car.target),

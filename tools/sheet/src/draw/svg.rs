@@ -300,12 +300,15 @@ pub fn widest(class: &str, texts: &[String]) -> f64 {
     widths.fold(0.0, f64::max)
 }
 
-/// As much of a text as has so many characters.
-pub fn cropped(text: &str, most: usize) -> String {
-    match text.char_indices().nth(most) {
-        Some((end, _)) => format!("{}..", &text[..end]),
-        None => text.into(),
+/// As much of a text as is at most so wide, with two dots where it is cut.
+pub fn cropped(class: &str, text: &str, most: f64) -> String {
+    if width(class, text) <= most {
+        return text.into();
     }
+    let ends = text.char_indices().map(|(end, _)| &text[..end]);
+    let fits = |start: &&str| width(class, start) + width(class, "..") <= most;
+    let start = ends.take_while(fits).last().unwrap_or("");
+    format!("{start}..")
 }
 
 /// A text in lines of words that are at most so wide.
