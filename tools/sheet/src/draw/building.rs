@@ -91,7 +91,7 @@ impl<'a> Building<'a> {
         building
     }
 
-    /// Draws below a height, with a legend of this width; answers the lower edge.
+    /// Draws below a height, with a legend up to a right edge; answers the lower edge.
     pub fn draw(mut self, svg: &mut Svg, at: f64, right: f64) -> f64 {
         self.top = at + 20.0 + self.headers.height() + 30.0;
         let (x, y) = (self.columns.names, self.top - 30.0);
