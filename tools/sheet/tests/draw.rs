@@ -200,10 +200,9 @@ fn has_held(svg: &str, pass: &Pass) {
     assert_eq!(held.count() as u64, pass.held);
 }
 
-/// The title block names the pending stops that no car is sent to, and the cars that are sent by the rule of ties: without the cell that was
-/// chosen for one the library answers the same total. Answers how many there are.
-fn has_notes(svg: &str, bytes: &[u8], answered: &Pass) -> usize {
-    let sent_to = |stop: &u32| {
+/// The pending stops that no car is sent to, in words.
+fn left(bytes: &[u8], answered: &Pass) -> String {
+    let sent = |stop: &u32| {
         answered
             .decisions
             .iter()
@@ -211,27 +210,35 @@ fn has_notes(svg: &str, bytes: &[u8], answered: &Pass) -> usize {
             .any(|id| id.get() == *stop)
     };
     let mut pending = dispatch_bench::pending(bytes).unwrap();
-    pending.retain(|stop| !sent_to(stop));
+    pending.retain(|stop| !sent(stop));
     let pending: Vec<String> = pending.iter().map(u32::to_string).collect();
-    let left = match pending.len() {
+    match pending.len() {
         0 => "none".into(),
         1 => format!("stop {}", pending[0]),
         many => format!("{many}, the stops {}", pending.join(", ")),
-    };
+    }
+}
+
+/// The cars that are sent by the rule of ties: without the cell that was chosen for one the library answers the same total.
+fn tied(bytes: &[u8], answered: &Pass) -> Vec<String> {
     let sheet = Sheet::of_accepted(bytes);
     let idle = sheet.cars.iter().filter(|car| car.idle);
-    let columns = choose(answered.cars, answered.columns(), &answered.matrix);
-    let columns = columns.unwrap().columns;
-    let tied = idle.zip(&columns).enumerate().filter(|(row, (_, column))| {
+    let (cars, columns) = (answered.cars, answered.columns());
+    let chosen = choose(cars, columns, &answered.matrix).unwrap().columns;
+    let tied = idle.zip(&chosen).enumerate().filter(|(row, (_, column))| {
         let mut without = answered.matrix.clone();
-        let cell = &mut without[row * answered.columns() + **column as usize];
+        let cell = &mut without[row * columns + **column as usize];
         let is_sent = std::mem::replace(cell, SENTINEL) < SENTINEL;
-        let other = choose(answered.cars, answered.columns(), &without).unwrap();
-        is_sent && other.total == answered.total
+        is_sent && choose(cars, columns, &without).unwrap().total == answered.total
     });
-    let tied: Vec<String> = tied
-        .map(|(_, (car, _))| format!("car {}", car.id))
-        .collect();
+    tied.map(|(_, (car, _))| format!("car {}", car.id))
+        .collect()
+}
+
+/// The title block names the pending stops that no car is sent to, and the cars that are sent by the rule of ties, whose cells have a sign.
+/// Answers how many there are.
+fn has_notes(svg: &str, bytes: &[u8], answered: &Pass) -> usize {
+    let (left, tied) = (left(bytes, answered), tied(bytes, answered));
     let sent = answered.decisions.iter().flatten().count();
     let ties = match tied.len() {
         0 => "none".into(),
@@ -243,16 +250,13 @@ fn has_notes(svg: &str, bytes: &[u8], answered: &Pass) -> usize {
     assert!(words(svg).contains(&said), "{said}");
     let svg = without_legends(svg);
     assert_eq!(count(&svg, "<circle class=\"tie\""), tied.len());
-    assert_eq!(
-        count(&svg, "by the rule of ties: another choice"),
-        tied.len()
-    );
+    let details = count(&svg, "by the rule of ties: another choice");
+    assert_eq!(details, tied.len());
     tied.len()
 }
 
-/// Who is aboard each car and for where, its target, where it is going; the ring where it is sent to the stop where it is.
-fn has_ways(svg: &str, sheet: &Sheet, answered: &Pass) {
-    let stop = |id: Option<u32>| sheet.stops.iter().find(|stop| Some(stop.id) == id);
+/// Who is aboard each car and for where.
+fn has_riders(svg: &str, sheet: &Sheet) {
     for car in &sheet.cars {
         let riders: Vec<_> = sheet.aboard.iter().filter(|a| a.car == car.id).collect();
         let tip = match riders.len() {
@@ -264,19 +268,28 @@ fn has_ways(svg: &str, sheet: &Sheet, answered: &Pass) {
         let (said, _) = said.split_once("/title>").unwrap();
         assert!(said.contains(&tip), "{at}{said}");
         for to in &sheet.stops {
-            let bound = riders
-                .iter()
-                .filter(|r| r.destination == Some(to.id))
-                .count();
-            let who = if bound == 1 {
-                "1 rider"
-            } else {
-                &format!("{bound} riders")
+            let bound = riders.iter().filter(|r| r.destination == Some(to.id));
+            let who = match bound.count() {
+                0 => continue,
+                1 => "1 rider".into(),
+                many => format!("{many} riders"),
             };
             let tip = format!("<title>{who} aboard car {} to {}<", car.id, to.id);
-            assert_eq!(count(svg, &tip), usize::from(bound > 0), "{tip}");
+            assert_eq!(count(svg, &tip), 1, "{tip}");
         }
     }
+    let pairs: std::collections::HashSet<(u32, u32)> = sheet
+        .aboard
+        .iter()
+        .filter_map(|a| Some((a.car, a.destination?)))
+        .filter(|(_, to)| sheet.stops.iter().any(|stop| stop.id == *to))
+        .collect();
+    assert_eq!(count(svg, " aboard car "), pairs.len());
+}
+
+/// A car's target, where it is going, and the ring where it is sent to the stop where it is.
+fn has_ways(svg: &str, sheet: &Sheet, answered: &Pass) {
+    let stop = |id: Option<u32>| sheet.stops.iter().find(|stop| Some(stop.id) == id);
     let targets = sheet.cars.iter().filter(|car| stop(car.target).is_some());
     assert_eq!(count(svg, "<rect class=\"target\""), targets.count());
     let moves = |car: &&Car| {
@@ -286,11 +299,10 @@ fn has_ways(svg: &str, sheet: &Sheet, answered: &Pass) {
     let going = sheet.cars.iter().filter(moves).count();
     assert_eq!(count(svg, "<line class=\"going\""), going);
     let idle = sheet.cars.iter().filter(|car| car.idle);
-    let sent = idle
-        .zip(&answered.decisions)
-        .filter_map(|(car, id)| Some((car, stop(Some((*id)?.get()))?)));
-    let rings =
-        sent.filter(|(car, stop)| (car.position, car.across) == (stop.position, stop.across));
+    let rings = idle.zip(&answered.decisions).filter(|(car, id)| {
+        let to = stop(id.map(|id| id.get()));
+        to.is_some_and(|to| (car.position, car.across) == (to.position, to.across))
+    });
     assert_eq!(count(svg, "<circle class=\"arrow\""), rings.count());
 }
 
@@ -354,8 +366,10 @@ fn drawn(bytes: &[u8], pass: &Pass, file: &str) -> [usize; 5] {
     has_notes(&svg, bytes, pass);
     has_short_legends(&svg);
     let svg = without_legends(&svg);
-    has_ways(&svg, &Sheet::of_accepted(bytes), pass);
-    has_stops(&svg, &Sheet::of_accepted(bytes));
+    let sheet = Sheet::of_accepted(bytes);
+    has_riders(&svg, &sheet);
+    has_ways(&svg, &sheet, pass);
+    has_stops(&svg, &sheet);
     let sent = pass.decisions.iter().flatten().count();
     let arrows = count(&svg, "<line class=\"arrow\"") + count(&svg, "<circle class=\"arrow\"");
     assert_eq!(arrows, sent, "{file}");
@@ -367,7 +381,6 @@ fn drawn(bytes: &[u8], pass: &Pass, file: &str) -> [usize; 5] {
     let stay = stay.filter(|line| line.contains(">stays idle<"));
     assert_eq!(stay.count(), pass.cars - sent);
     assert_eq!(cells(&svg).len(), pass.cars * pass.columns(), "{file}");
-    let sheet = Sheet::of_accepted(bytes);
     assert_eq!(count(&svg, "a waiting rider, "), sheet.waiting.len());
     explained(&svg, &sheet, pass)
 }
@@ -461,6 +474,10 @@ fn passes_of_edition_2() {
                 assert_eq!(count(&svg, &format!("{tip}<")), planned, "{index}");
                 assert_eq!(count(&svg, &format!("{tip}\n")), 1, "{index}");
             }
+            let others = sheet.cars.iter().any(|car| !car.idle);
+            let words = draw(&bytes, &About::default());
+            let said = usize::from(planned > 0 && others);
+            assert_eq!(count(&words, ">another car<"), said, "{index}");
             plans += planned;
         }
     }
@@ -768,6 +785,7 @@ fn names_and_file() {
     let mut names = sheet::names::Names::default();
     let lobby = "Lobby <&\"> ]]>\u{1}\n of the old tower";
     names.stops.insert(2, lobby.into());
+    names.stops.insert(3, "roof".into());
     names.cars.insert(7, "goods".into());
     let about = About {
         file: Some("a <b> & \"c\".sheet"),
@@ -778,12 +796,14 @@ fn names_and_file() {
     let svg = draw(&bytes, &about);
     is_well_formed(&svg);
     let shown = "Lobby &lt;&amp;&quot;&gt; ]]&gt;\u{fffd}";
+    let short = "Lobby &lt;&amp;&quot;&gt; ]..";
     for part in [
         ">a &lt;b&gt; &amp; &quot;c&quot;.sheet<",
         &format!("<title>stop 2 {shown}\n of the old tower at 10\npending, a car is sent to it<"),
-        &format!(">2 {shown}\n.. at 10<"),
-        &format!(">stop 2 {shown}\n..<"),
+        &format!(">2 {short} at 10<"),
+        &format!(">stop 2 {short}<"),
         ">goods<",
+        ">to 3 roof<",
         "<title>car 7 goods at 0\nline 1, idle, idle-listed\nload 0 of 100, max speed 2, both lamps lit\nnobody aboard<",
         &format!(
             "<title>car 7 goods, stop 2 {shown}\n of the old tower: 10 (cell 10000000)\nchosen, the car is sent<"
@@ -796,7 +816,7 @@ fn names_and_file() {
     assert!(
         page.contains("<title>a &lt;b&gt; &amp; &quot;c&quot;.sheet: SCAN, limit none</title>")
     );
-    assert!(page.contains(&format!("<th>stop 2 {shown}\n..</th>")));
+    assert!(page.contains(&format!("<th>stop 2 {short}</th>")));
     let refused = draw(&bytes[..40], &about);
     assert!(refused.contains(">a &lt;b&gt; &amp; &quot;c&quot;.sheet<"));
 }
@@ -942,48 +962,49 @@ fn page_of_a_refused_sheet() {
     assert_eq!(count(&page, "<table"), 0);
 }
 
-/// Where a drawing and a page go, and command lines without a meaning.
+/// The code, standard output and standard error of a command without input.
+fn said(args: &[&str]) -> (Option<i32>, String, String) {
+    let output = run(args, b"");
+    let (out, err) = (text(&output.stdout), text(&output.stderr));
+    (output.status.code(), out, err)
+}
+
+/// Where a drawing and a page go.
 #[test]
 fn drawing_and_page_as_files() {
     let folder = std::path::Path::new(env!("CARGO_TARGET_TMPDIR")).join("both");
+    // what an earlier run left
+    let _ = std::fs::remove_dir_all(&folder);
     std::fs::create_dir_all(&folder).unwrap();
     let at = |name: &str| folder.join(name).to_str().unwrap().to_string();
     let (sheet, svg, page) = (at("a.sheet"), at("a.svg"), at("a.html"));
     std::fs::write(&sheet, Sheet::example().write()).unwrap();
-    let said = |args: &[&str]| {
-        let output = run(args, b"");
-        (
-            output.status.code(),
-            text(&output.stdout),
-            text(&output.stderr),
-        )
-    };
     let nothing = (Some(0), String::new(), String::new());
     assert_eq!(said(&["draw", &sheet, "--html", &page]), nothing);
     assert!(!std::path::Path::new(&svg).exists());
-    assert_eq!(
-        said(&["draw", &sheet, &svg, "--fold", "--html", &page]),
-        nothing
-    );
+    let both = said(&["draw", &sheet, &svg, "--fold", "--html", &page]);
+    assert_eq!(both, nothing);
     let read = |path: &str| text(&std::fs::read(path).unwrap());
     assert!(read(&svg).contains(">a.sheet</text>"));
     assert!(read(&page).contains(&read(&svg)));
     let both = said(&["draw", &sheet, "-", "--html", "-"]);
     let why = "- stands for the drawing and for the page: standard output is written once\n";
     assert_eq!(both, (Some(1), String::new(), why.into()));
+    std::fs::remove_dir_all(&folder).unwrap();
+}
+
+#[test]
+fn pages_that_have_no_meaning() {
+    let few = "too few words after draw: expected `sheet draw SHEET [OUT] [--html OUT.html] [--fold] [RATES]`";
     for (args, why) in [
         (
-            &["draw", &sheet, "--html"][..],
+            &["draw", "a", "--html"][..],
             "no file is named after --html",
         ),
-        (
-            &["draw", "--html", &page],
-            "too few words after draw: expected `sheet draw SHEET [OUT] [--html OUT.html] [--fold] [RATES]`",
-        ),
+        (&["draw", "--html", "a"], few),
     ] {
         let (code, out, err) = said(args);
         assert_eq!((code, out), (Some(2), String::new()));
         assert!(err.starts_with(&format!("sheet: {why}\n")), "{err}");
     }
-    std::fs::remove_dir_all(&folder).unwrap();
 }

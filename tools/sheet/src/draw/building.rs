@@ -1,13 +1,13 @@
 //! The shafts by line, with stops, cars, riders and decisions.
 
-use sheetgen::{Car, Line, Sheet, Stop};
+use sheetgen::{Car, Line, Sheet};
 
 use super::header::Headers;
-use super::heights::{self, Heights};
+use super::heights::Heights;
+use super::landings::{self, Columns, Label};
 use super::plan::Plan;
-use super::riders::Riders;
 use super::shaft::Form;
-use super::svg::{self, Anchor, Svg, short};
+use super::svg::{self, Anchor, Svg};
 use super::{About, Chosen, key};
 use crate::show::number_of;
 
@@ -31,127 +31,6 @@ pub struct Building<'a> {
     pub plan: Option<Plan>,
     /// Each waiting rider has words beside the mark.
     pub in_words: bool,
-}
-
-/// What stands left of the shafts, from the left: where it begins, or for names ends.
-struct Columns {
-    names: f64,
-    call: f64,
-    waiting: f64,
-    end: f64,
-}
-
-impl Columns {
-    fn new(labels: &[Label], left: f64, in_words: bool, class: &str, axis: &str) -> Self {
-        let widest = |width: &dyn Fn(&Label) -> f64| labels.iter().map(width).fold(0.0, f64::max);
-        let axis = svg::width("small", axis);
-        let names = left + widest(&|l| svg::width(class, &l.name)).max(axis);
-        let (call, waiting) = (names + 10.0, names + 22.0);
-        let width = |l: &Label| match l.more.as_str() {
-            "" => l.riders.width(in_words),
-            more => l.more_at(in_words) + svg::width(l.class(), more),
-        };
-        let end = waiting + widest(&width) + 22.0;
-        Self {
-            names,
-            call,
-            waiting,
-            end,
-        }
-    }
-}
-
-/// A stop and who waits there.
-struct Label {
-    name: String,
-    /// The stop in words, under the pointer.
-    tip: String,
-    has_call: bool,
-    riders: Riders,
-    /// Its landing is closed.
-    is_closed: bool,
-    /// The riders bound for the stop, and whether it is closed or no pending one.
-    more: String,
-    height: f64,
-    position: f64,
-}
-
-impl Label {
-    /// How its words stand out.
-    fn class(&self) -> &'static str {
-        match self.is_closed {
-            true => "shut",
-            false => "small",
-        }
-    }
-
-    /// Where `more` begins, after the riders.
-    fn more_at(&self, in_words: bool) -> f64 {
-        match self.riders.is_empty() {
-            true => 0.0,
-            false => self.riders.width(in_words) + 8.0,
-        }
-    }
-}
-
-/// The stops from the highest to the lowest, so far apart that each can be read.
-fn labels(
-    sheet: &Sheet,
-    chosen: &Chosen,
-    about: &About,
-    heights: &Heights,
-    apart: f64,
-) -> Vec<Label> {
-    let mut stops: Vec<&Stop> = sheet.stops.iter().collect();
-    stops.sort_by(|a, b| b.position.total_cmp(&a.position).then(b.id.cmp(&a.id)));
-    let wanted: Vec<f64> = stops.iter().map(|s| heights.of(s.position)).collect();
-    let placed = heights::spread(&wanted, apart, heights.height + 10.0);
-    let label = |(stop, height): (&Stop, f64)| {
-        let riders = Riders::at(sheet, stop);
-        let demand = sheet.demands.iter().find(|d| d.stop == stop.id);
-        let riding = demand.map_or(0, |d| d.riding);
-        let has_call = demand.is_some_and(|d| d.call);
-        let has_demand = !riders.is_empty() || riding > 0 || has_call;
-        let is_closed = sheet.closed.contains(&stop.id);
-        let is_pending = chosen.pending.contains(&stop.id);
-        let mut more = Vec::new();
-        if is_closed {
-            more.push("closed".into());
-        }
-        if riding > 0 {
-            more.push(format!("{riding} riding"));
-        }
-        if has_demand && !is_pending {
-            more.push("not pending".into());
-        }
-        let bound = sheet.bound_aboard(stop.id);
-        if is_closed && bound > 0 {
-            more.push(format!("{bound} aboard for it"));
-        }
-        let mut name = format!("{} at {}", about.stop_label(stop.id), short(stop.position));
-        let mut tip = format!("stop {} at {}", about.stop(stop.id), stop.position);
-        if sheet.edition == 2 {
-            name += &format!(", {}", short(stop.across));
-            tip += &format!(", across {}", stop.across);
-        }
-        tip += match (has_demand, is_pending, chosen.is_sent_to(stop.id)) {
-            (_, true, true) => "\npending, a car is sent to it",
-            (_, true, false) => "\npending, no car is sent to it",
-            (true, false, _) => "\nnot pending",
-            (false, false, _) => "\nno demand",
-        };
-        Label {
-            name,
-            tip,
-            has_call,
-            riders,
-            is_closed,
-            more: more.join(", "),
-            height,
-            position: stop.position,
-        }
-    };
-    stops.into_iter().zip(placed).map(label).collect()
 }
 
 /// The cars of a line with their places among the car records.
@@ -191,7 +70,7 @@ impl<'a> Building<'a> {
             many => (form.stop.0 * many as f64).max(230.0),
         };
         let heights = Heights::new(&stops, &cars, height);
-        let labels = labels(sheet, chosen, about, &heights, form.stop.1);
+        let labels = landings::labels(sheet, chosen, about, &heights, form.stop.1);
         let in_words = labels.iter().all(|label| label.riders.have_room());
         let columns = Columns::new(&labels, left, in_words, form.stop_class, axis(sheet));
         let mut building = Self {
@@ -212,7 +91,7 @@ impl<'a> Building<'a> {
         building
     }
 
-    /// Draws below a height, with a legend of this width; answers the lower edge.
+    /// Draws below a height, with a legend up to a right edge; answers the lower edge.
     pub fn draw(mut self, svg: &mut Svg, at: f64, right: f64) -> f64 {
         self.top = at + 20.0 + self.headers.height() + 30.0;
         let (x, y) = (self.columns.names, self.top - 30.0);

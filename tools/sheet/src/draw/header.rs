@@ -5,12 +5,13 @@ use sheetgen::{Car, Sheet};
 use super::aboard::Aboard;
 use super::shaft::Form;
 use super::svg::{self, Anchor, Svg, short};
-use super::{About, Chosen};
-use crate::fields::PHASES;
+use super::{About, Chosen, phase};
 
 /// From one line of words to the next.
 const LINE: f64 = 12.0;
 const UPRIGHT_LINE: f64 = 10.0;
+/// The widest words of a stop with its name.
+const ROOM: f64 = 112.0;
 
 /// A class and words of it.
 type Words = (&'static str, String);
@@ -64,7 +65,16 @@ impl Headers {
     }
 }
 
-struct Said {
+/// A stop after a word, with its name where it has one and there is room.
+fn to(before: &str, stop: u32, about: &About) -> String {
+    let named = format!("{before} {}", about.stop_label(stop));
+    match svg::width("name", &named) > ROOM {
+        true => format!("{before} {stop}"),
+        false => named,
+    }
+}
+
+struct Said<'a> {
     car: String,
     name: String,
     phase: String,
@@ -72,7 +82,7 @@ struct Said {
     target: String,
     listed: &'static str,
     load: String,
-    aboard: String,
+    aboard: Aboard<'a>,
     across: String,
     sweep: &'static str,
     decision: (&'static str, String),
@@ -80,37 +90,33 @@ struct Said {
     seconds: String,
 }
 
-impl Said {
-    fn of(sheet: &Sheet, chosen: &Chosen, about: &About, k: usize, car: &Car) -> Self {
-        let row = chosen.row(sheet, k);
-        let decided = row.and_then(|row| chosen.pass.decisions.get(row));
-        let decision = match decided {
-            Some(None) => ("name", "stays idle".into()),
-            Some(Some(stop)) => ("cost", format!("to {stop}")),
-            None => ("small", String::new()),
+impl<'a> Said<'a> {
+    fn of(sheet: &'a Sheet, chosen: &Chosen, about: &About, k: usize, car: &Car) -> Self {
+        let decided = chosen.row(sheet, k).and_then(|row| {
+            let decision = chosen.pass.decisions.get(row)?;
+            Some((decision.map(|id| id.get()), chosen.chosen_cost(row)))
+        });
+        let (decision, cost) = match decided {
+            Some((None, _)) => (("name", "stays idle".into()), None),
+            Some((Some(stop), cost)) => (("cost", to("to", stop, about)), cost),
+            None => (("small", String::new()), None),
         };
-        let is_sent = decided.is_some_and(Option::is_some);
-        let cost = row
-            .filter(|_| is_sent)
-            .and_then(|row| chosen.chosen_cost(row));
         let name = about.names.cars.get(&car.id);
+        let going = Some(car.stop).filter(|stop| *stop != 0);
+        let words = |before: &str, stop: Option<u32>| {
+            stop.map_or(String::new(), |stop| to(before, stop, about))
+        };
         Self {
             car: format!("car {}", car.id),
-            name: name.map_or(String::new(), |name| svg::cropped(name, super::NAME)),
-            phase: PHASES
-                .get(usize::from(car.phase))
-                .unwrap_or(&"?")
-                .replace('_', " "),
-            going: match car.stop {
-                0 => String::new(),
-                stop => format!("for {stop}"),
-            },
-            target: car
-                .target
-                .map_or(String::new(), |id| format!("target {id}")),
+            name: name.map_or(String::new(), |name| {
+                svg::cropped("name", name, super::NAME)
+            }),
+            phase: phase(car),
+            going: words("for", going),
+            target: words("target", car.target),
             listed: if car.idle { "idle-listed" } else { "" },
             load: format!("{} of {}", short(car.load), short(car.capacity)),
-            aboard: Aboard::of(sheet, car).count(),
+            aboard: Aboard::of(sheet, car),
             across: match sheet.edition {
                 2 => format!("across {}", short(car.across)),
                 _ => String::new(),
@@ -136,7 +142,7 @@ impl Said {
             ("small", self.target),
             ("small", self.listed.into()),
             ("small", load),
-            ("small", self.aboard),
+            ("small", self.aboard.count()),
             ("small", self.across),
             ("small", self.sweep.into()),
         ];
@@ -152,11 +158,15 @@ impl Said {
             parts.join(by)
         };
         let phase = joined(&[&self.phase, &self.going], " ");
+        let aboard = match self.aboard.total() {
+            0 => String::new(),
+            total => format!("{total} aboard"),
+        };
         let (class, decision) = self.decision;
         let mut lines = vec![
             ("tag", joined(&[&self.car, &self.name, self.sweep], ", ")),
             ("small", joined(&[&phase, &self.target, &self.across], ", ")),
-            ("small", joined(&[&self.load, &self.aboard], ", ")),
+            ("small", joined(&[&self.load, &aboard], ", ")),
             (class, joined(&[&decision, &self.cost], " at ")),
             ("small", self.seconds),
         ];

@@ -23,7 +23,7 @@ const FILLS: [(usize, &str); 6] = [
 
 /// Draws up to a right edge; answers the lower edge.
 pub fn draw(svg: &mut Svg, building: &Building, top: f64, right: f64) -> f64 {
-    let mut legend = Legend::new(building.left, top, right - building.left);
+    let mut legend = Legend::new(svg, building.left, top, right - building.left);
     let sentences = sentences(svg, building);
     svg.group("key", |svg| {
         stops(svg, &mut legend);
@@ -33,9 +33,7 @@ pub fn draw(svg: &mut Svg, building: &Building, top: f64, right: f64) -> f64 {
         if building.plan.is_some() {
             plan(svg, &mut legend);
         }
-        for words in sentences {
-            legend.sentence(svg, &words);
-        }
+        legend.sentence(svg, &sentences);
     });
     legend.end()
 }
@@ -160,57 +158,53 @@ fn plan(svg: &mut Svg, legend: &mut Legend) {
     });
 }
 
+/// What words beside a stop mean, by a part of them.
+const MEANINGS: [(&str, &str); 4] = [
+    (
+        "riding",
+        "N riding: so many are on their way to the stop in cars.",
+    ),
+    (
+        "not pending",
+        "Not pending: the stop has demand, but it is closed, cars on their way cover it, or no line serves it.",
+    ),
+    ("closed", "Closed: no car is sent to the stop."),
+    (
+        "aboard for it",
+        "N aboard for it: so many in idle-listed cars are bound for a closed stop.",
+    ),
+];
+
 /// What the words of the building say, of those that are there.
-fn sentences(svg: &Svg, building: &Building) -> Vec<String> {
-    let words = building.words();
-    let said = |part: &str| words.iter().any(|words| words.contains(part));
-    let mut sentences = Vec::new();
+fn sentences(svg: &Svg, building: &Building) -> String {
+    let mut sentences: Vec<String> = Vec::new();
     if !building.heights.is_to_scale {
         let words = "Stops in the order of their positions; distances are not to scale.";
         sentences.push(words.into());
     }
     if building.sheet.edition == 2 {
         sentences.push(match &building.plan {
-            None => "Edition 2: behind a stop's position stands its second coordinate, across; here all of them are 0.".into(),
+            None => LEVEL.into(),
             Some(plan) => sideways(plan.is_to_scale()),
         });
     }
-    let meanings = [
-        (
-            "riding",
-            "N riding: so many are on their way to the stop in cars.",
-        ),
-        (
-            "not pending",
-            "Not pending: the stop has demand, but it is closed, cars on their way cover it, or no line serves it.",
-        ),
-        ("closed", "Closed: no car is sent to the stop."),
-        (
-            "aboard for it",
-            "N aboard for it: so many in idle-listed cars are bound for a closed stop.",
-        ),
-    ];
-    let meanings = meanings.iter().filter(|(part, _)| said(part));
-    let meanings: Vec<&str> = meanings.map(|(_, words)| *words).collect();
-    if !meanings.is_empty() {
-        sentences.push(meanings.join(" "));
-    }
+    let words = building.words();
+    let said = |part: &str| words.iter().any(|words| words.contains(part));
+    let meanings = MEANINGS.iter().filter(|(part, _)| said(part));
+    sentences.extend(meanings.map(|(_, words)| String::from(*words)));
     if svg.has("\"waiting") && !building.in_words {
-        sentences.push("Of each waiting rider the destination, the ticks of waiting and the required line stand under the pointer.".into());
+        sentences.push(RIDERS.into());
     }
-    if let Some(ramps) = building
-        .about
-        .ramps
-        .filter(|_| svg.has(" s</text>") || svg.has(">refused 21<"))
-    {
-        sentences.push(of_seconds(
-            ramps,
-            building.sheet.edition,
-            svg.has(">refused 21<"),
-        ));
+    let is_refused = svg.has(">refused 21<");
+    let is_timed = svg.has(" s</text>") || is_refused;
+    if let Some(ramps) = building.about.ramps.filter(|_| is_timed) {
+        sentences.push(of_seconds(ramps, building.sheet.edition, is_refused));
     }
-    sentences
+    sentences.join(" ")
 }
+
+const LEVEL: &str = "Edition 2: behind a stop's position stands its second coordinate, across; here all of them are 0.";
+const RIDERS: &str = "Of each waiting rider the destination, the ticks of waiting and the required line stand under the pointer.";
 
 fn sideways(is_to_scale: bool) -> String {
     let plan = match is_to_scale {

@@ -8,6 +8,8 @@ const GAP: f64 = 5.0;
 const ROW: f64 = 15.0;
 
 pub struct Legend {
+    /// How much was drawn before it: what it explains.
+    drawn: usize,
     left: f64,
     width: f64,
     x: f64,
@@ -15,8 +17,9 @@ pub struct Legend {
 }
 
 impl Legend {
-    pub fn new(left: f64, top: f64, width: f64) -> Self {
+    pub fn new(svg: &Svg, left: f64, top: f64, width: f64) -> Self {
         Self {
+            drawn: svg.length(),
             left,
             width,
             x: left,
@@ -35,7 +38,7 @@ impl Legend {
         self.words(svg, words);
     }
 
-    /// The same, where a part of what is drawn already has such a mark.
+    /// The same, where what is drawn before the legend has a part.
     pub fn entry_of(
         &mut self,
         svg: &mut Svg,
@@ -43,7 +46,7 @@ impl Legend {
         words: &str,
         mark: impl FnOnce(&mut Svg, f64, f64),
     ) {
-        if svg.has(part) {
+        if svg.has_before(self.drawn, part) {
             self.entry(svg, words, mark);
         }
     }
@@ -73,9 +76,12 @@ impl Legend {
         }
     }
 
-    /// Words alone, in rows of their own.
+    /// Words alone, in rows of their own, where there are any.
     pub fn sentence(&mut self, svg: &mut Svg, words: &str) {
         self.next_row();
+        if words.is_empty() {
+            return;
+        }
         for line in svg::wrapped("small", words, self.width) {
             svg.text("small", self.left, self.y, Anchor::Start, &line);
             self.y += ROW;

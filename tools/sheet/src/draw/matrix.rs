@@ -226,7 +226,7 @@ impl<'a> Table<'a> {
     }
 
     fn legend(&self, svg: &mut Svg, top: f64) -> f64 {
-        let mut legend = Legend::new(self.left, top, self.right() - self.left);
+        let mut legend = Legend::new(svg, self.left, top, self.right() - self.left);
         svg.group("key", |svg| self.entries(svg, &mut legend));
         legend.end()
     }

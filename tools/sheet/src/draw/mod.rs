@@ -7,6 +7,7 @@ mod heights;
 mod held;
 mod html;
 mod key;
+mod landings;
 mod legend;
 mod matrix;
 mod plan;
@@ -19,8 +20,9 @@ mod ties;
 mod title;
 
 use dispatch_bench::{OutsideDomain, Pass, Refusal, SENTINEL};
-use sheetgen::Sheet;
+use sheetgen::{Car, Sheet};
 
+use crate::fields::PHASES;
 use crate::names::Names;
 use crate::ramps::Ramps;
 use crate::source::Source;
@@ -34,8 +36,8 @@ const UNIT: u64 = 1_000_000;
 const EDGE: f64 = 24.0;
 /// The least width of a legend.
 const LEGEND: f64 = 780.0;
-/// The most characters of a name in a label; under the pointer it is whole.
-const NAME: usize = 16;
+/// The widest name in a label; under the pointer it is whole.
+const NAME: f64 = 110.0;
 
 /// What is drawn with a sheet that the sheet does not say.
 #[derive(Default)]
@@ -54,7 +56,7 @@ pub struct About<'a> {
 impl About<'_> {
     /// `5`, with its name where it has one: `5 lobby`.
     fn stop(&self, id: u32) -> String {
-        named(&id.to_string(), self.names.stops.get(&id), usize::MAX)
+        named(&id.to_string(), self.names.stops.get(&id), f64::INFINITY)
     }
 
     /// The same for a label.
@@ -64,7 +66,11 @@ impl About<'_> {
 
     /// `car 3`, with its name where it has one.
     fn car(&self, id: u32) -> String {
-        named(&format!("car {id}"), self.names.cars.get(&id), usize::MAX)
+        named(
+            &format!("car {id}"),
+            self.names.cars.get(&id),
+            f64::INFINITY,
+        )
     }
 
     fn car_label(&self, id: u32) -> String {
@@ -74,18 +80,23 @@ impl About<'_> {
     /// The file's name above the title, as far as there is room.
     fn name_file(&self, svg: &mut Svg, width: f64) {
         if let Some(file) = self.file {
-            let room = (width / svg::width("small", "m")) as usize;
-            let file = svg::cropped(file, room);
+            let file = svg::cropped("small", file, width);
             svg.text("file", EDGE, 13.0, Anchor::Start, &file);
         }
     }
 }
 
-fn named(id: &str, name: Option<&String>, most: usize) -> String {
+fn named(id: &str, name: Option<&String>, most: f64) -> String {
     match name {
-        Some(name) => format!("{id} {}", svg::cropped(name, most)),
+        Some(name) => format!("{id} {}", svg::cropped("name", name, most)),
         None => id.into(),
     }
+}
+
+/// A car's phase in words.
+fn phase(car: &Car) -> String {
+    let name = PHASES.get(usize::from(car.phase));
+    name.unwrap_or(&"?").replace('_', " ")
 }
 
 /// A sheet and its pass, or where the sheet is refused.

@@ -166,7 +166,7 @@ fn fields(svg: &mut Svg, cut: &Cut, reason: &Reason, top: f64) -> f64 {
             EDGE + 200.0,
             y + 12.5,
             Anchor::Start,
-            &svg::cropped(&shown, 40),
+            &svg::cropped(class, &shown, 256.0),
         );
         y += 18.0;
     }

@@ -5,8 +5,8 @@ use sheetgen::{Car, Line, Stop};
 
 use super::aboard::Aboard;
 use super::building::Building;
+use super::phase;
 use super::svg::{Anchor, Svg};
-use crate::fields::PHASES;
 
 /// The sizes of shafts and of what stands in them.
 pub struct Form {
@@ -238,8 +238,7 @@ impl Building<'_> {
         if self.sheet.edition == 2 {
             at += &format!(", across {}", car.across);
         }
-        let phase = PHASES.get(usize::from(car.phase)).unwrap_or(&"?");
-        let mut does = format!("line {}, {}", car.line, phase.replace('_', " "));
+        let mut does = format!("line {}, {}", car.line, phase(car));
         if car.stop != 0 {
             does += &format!(" for {}", stop(car.stop));
         }

@@ -141,9 +141,19 @@ impl Svg {
         self.views.push((name, place));
     }
 
+    /// How long what is drawn is.
+    pub fn length(&self) -> usize {
+        self.body.len()
+    }
+
     /// Something that is drawn has this part.
     pub fn has(&self, part: &str) -> bool {
         self.body.contains(part)
+    }
+
+    /// Something of the drawing as it was at a length has this part.
+    pub fn has_before(&self, length: usize, part: &str) -> bool {
+        self.body[..length].contains(part)
     }
 
     /// Classes that few drawings have.
@@ -290,12 +300,15 @@ pub fn widest(class: &str, texts: &[String]) -> f64 {
     widths.fold(0.0, f64::max)
 }
 
-/// As much of a text as has so many characters.
-pub fn cropped(text: &str, most: usize) -> String {
-    match text.char_indices().nth(most) {
-        Some((end, _)) => format!("{}..", &text[..end]),
-        None => text.into(),
+/// As much of a text as is at most so wide, with two dots where it is cut.
+pub fn cropped(class: &str, text: &str, most: f64) -> String {
+    if width(class, text) <= most {
+        return text.into();
     }
+    let ends = text.char_indices().map(|(end, _)| &text[..end]);
+    let fits = |start: &&str| width(class, start) + width(class, "..") <= most;
+    let start = ends.take_while(fits).last().unwrap_or("");
+    format!("{start}..")
 }
 
 /// A text in lines of words that are at most so wide.
