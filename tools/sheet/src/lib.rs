@@ -5,6 +5,8 @@
 //! from a command line, `travel` has the seconds that it takes.
 //! Verdicts, passes, weights, grades and seconds come from the crate dispatch-bench, with the feature `pass`.
 
+pub mod args;
+pub mod completions;
 pub mod cut;
 #[cfg(feature = "pass")]
 pub mod draw;
@@ -13,24 +15,36 @@ pub mod explain;
 #[cfg(feature = "pass")]
 mod faults;
 pub mod fields;
+pub mod files;
+pub mod foreign;
 #[cfg(feature = "pass")]
 pub mod grade;
 pub mod grades;
 pub mod line;
+pub mod man;
+#[cfg(feature = "pass")]
+mod mend;
 pub mod names;
 pub mod near;
 mod numbers;
 pub mod ramps;
 #[cfg(feature = "pass")]
 mod remedies;
+#[cfg(feature = "pass")]
+mod repair;
+pub mod rule;
 // The table of refusals is that of the crate dispatch-bench; `rule` needs it without the library too.
 #[path = "../../../rust/src/rules.rs"]
 pub mod rules;
 pub mod show;
+pub mod source;
 pub mod store;
 pub mod text;
 #[cfg(feature = "pass")]
 pub mod travel;
+pub mod usage;
 pub mod value;
+#[cfg(feature = "pass")]
+mod warnings;
 #[cfg(feature = "pass")]
 pub mod weights;
