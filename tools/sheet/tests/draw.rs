@@ -821,14 +821,19 @@ fn names_and_file() {
     assert!(refused.contains(">a &lt;b&gt; &amp; &quot;c&quot;.sheet<"));
 }
 
+/// The office with no idle-listed car on line 2.
+fn office() -> String {
+    let office = text(&std::fs::read(here("examples/office.txt")).unwrap());
+    office.replace(
+        "car id=4 line=2 phase=idle idle_listed=yes",
+        "car id=4 line=2 phase=idle idle_listed=no",
+    )
+}
+
 /// A line without an idle-listed car is one strip, and the line with one is drawn as before.
 #[test]
 fn lines_are_folded() {
-    let path = here("examples/office.txt");
-    let sheet = text(&std::fs::read(path).unwrap()).replace(
-        "car id=4 line=2 phase=idle idle_listed=yes",
-        "car id=4 line=2 phase=idle idle_listed=no",
-    );
+    let sheet = office();
     let bytes = run(&["write", "-"], sheet.as_bytes()).stdout;
     let plain = text(&run(&["draw", "-"], &bytes).stdout);
     let folded = text(&run(&["draw", "-", "--fold"], &bytes).stdout);
@@ -861,6 +866,21 @@ fn lines_are_folded() {
         none,
         text(&run(&["draw", "-"], &Sheet::example().write()).stdout)
     );
+}
+
+/// The words above shafts that are not drawn take no room.
+#[test]
+fn folded_lines_have_no_words_above() {
+    let height = |svg: &str| -> f64 {
+        let (_, view) = svg.split_once("<view id=\"building\" viewBox=\"").unwrap();
+        let (view, _) = view.split_once('"').unwrap();
+        view.split(' ').next_back().unwrap().parse().unwrap()
+    };
+    let nobody = office().replace("idle_listed=yes", "idle_listed=no");
+    let nobody = run(&["write", "-"], nobody.as_bytes()).stdout;
+    let [all, strips] = [&["draw", "-"][..], &["draw", "-", "--fold"]]
+        .map(|args| height(&text(&run(args, &nobody).stdout)));
+    assert!(strips < all - 90.0, "{strips} of {all}");
 }
 
 /// The largest ids keep the words before them, in few shafts and in many.

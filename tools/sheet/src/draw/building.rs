@@ -59,8 +59,8 @@ fn axis(sheet: &Sheet) -> &'static str {
 
 impl<'a> Building<'a> {
     pub fn new(sheet: &'a Sheet, chosen: &'a Chosen, about: &'a About, left: f64) -> Self {
-        let drawn = |line: &&Line| !(about.fold && can_be_folded(sheet, line));
-        let shafts = sheet.lines.iter().filter(drawn);
+        let is_folded = |line: &Line| about.fold && can_be_folded(sheet, line);
+        let shafts = sheet.lines.iter().filter(|line| !is_folded(line));
         let shafts = shafts.map(|line| cars_of(sheet, line).len().max(1)).sum();
         let form = Form::of(shafts, sheet.stops.len(), about.ramps.is_some());
         let stops: Vec<f64> = sheet.stops.iter().map(|s| s.position).collect();
@@ -72,12 +72,14 @@ impl<'a> Building<'a> {
         let heights = Heights::new(&stops, &cars, height);
         let labels = landings::labels(sheet, chosen, about, &heights, form.stop.1);
         let in_words = labels.iter().all(|label| label.riders.have_room());
+        let folded: Vec<&Line> = sheet.lines.iter().filter(|line| is_folded(line)).collect();
+        let is_folded = |id: u32| folded.iter().any(|line| line.id == id);
         let columns = Columns::new(&labels, left, in_words, form.stop_class, axis(sheet));
         let mut building = Self {
             sheet,
             chosen,
             about,
-            headers: Headers::new(sheet, chosen, about, &form),
+            headers: Headers::new(sheet, chosen, about, &form, is_folded),
             form,
             heights,
             left,

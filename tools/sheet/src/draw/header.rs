@@ -23,8 +23,18 @@ pub struct Headers {
 }
 
 impl Headers {
-    pub fn new(sheet: &Sheet, chosen: &Chosen, about: &About, form: &Form) -> Self {
+    /// Cars of folded lines have none.
+    pub fn new(
+        sheet: &Sheet,
+        chosen: &Chosen,
+        about: &About,
+        form: &Form,
+        is_folded: impl Fn(u32) -> bool,
+    ) -> Self {
         let words = |(k, car): (usize, &Car)| {
+            if is_folded(car.line) {
+                return Vec::new();
+            }
             let said = Said::of(sheet, chosen, about, k, car);
             match form.dense {
                 true => said.upright(),
