@@ -7,6 +7,7 @@
 
 pub mod args;
 pub mod completions;
+pub mod csv;
 pub mod cut;
 #[cfg(feature = "pass")]
 pub mod draw;
@@ -20,6 +21,7 @@ pub mod foreign;
 #[cfg(feature = "pass")]
 pub mod grade;
 pub mod grades;
+pub mod json;
 pub mod line;
 pub mod man;
 #[cfg(feature = "pass")]
