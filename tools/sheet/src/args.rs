@@ -146,7 +146,7 @@ fn read(command: &'static Command, args: &[OsString]) -> Result<Args, String> {
     let (least, most) = command.counts();
     let (name, line) = (command.name, command.line());
     match words.len() {
-        n if n < least => Err(few_or_many("few", name, &line)),
+        n if n < least || !is_whole(command, n - least) => Err(few_or_many("few", name, &line)),
         n if n > most => Err(few_or_many("many", name, &line)),
         _ => Ok(Args {
             command,
@@ -154,6 +154,11 @@ fn read(command: &'static Command, args: &[OsString]) -> Result<Args, String> {
             options,
         }),
     }
+}
+
+/// So many further words are all of those that may follow again.
+fn is_whole(command: &Command, further: usize) -> bool {
+    command.repeats == 0 || further.is_multiple_of(command.repeats)
 }
 
 /// What follows an option, where something must.

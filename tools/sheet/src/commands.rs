@@ -11,6 +11,8 @@ use sheet::ramps::{self, Ramps};
 use sheet::source::{self, Source};
 use sheet::{completions, man, rule, show, store, text, usage};
 
+#[cfg(feature = "pass")]
+use crate::study::{by_lines, is_by_lines, matrix};
 use crate::{Stop, complain};
 
 /// Does what a command line asks for.
@@ -28,9 +30,11 @@ pub fn run(args: &[OsString]) -> Result<(), Stop> {
         "example" => example(args.word(0)),
         "write" => write(&args, sheet_bytes, Format::Sheet),
         "show" => show_sheet(args.path(0)),
-        "explain" => print(&explain(&Source::read(args.path(0))?)?),
+        "explain" | "pass" | "grade" if is_by_lines(&args)? => by_lines(&args),
+        "explain" => strict(&args, &explain(&Source::read(args.path(0))?)?),
         "draw" => draw(&args),
         "pass" => pass(&args),
+        "matrix" => matrix(&args),
         "grade" => grade(&args),
         "rule" => rules(args.word(0)),
         "store example" => print(STORE_EXAMPLE),
@@ -43,7 +47,16 @@ pub fn run(args: &[OsString]) -> Result<(), Stop> {
     }
 }
 
-fn print(text: &str) -> Result<(), Stop> {
+/// Prints what is said of a sheet; with --strict a refusal has an exit status of its own.
+fn strict(args: &Args, said: &str) -> Result<(), Stop> {
+    print(said)?;
+    match args.has("--strict") && said.starts_with("refused ") {
+        true => Err(Stop::Ended(3)),
+        false => Ok(()),
+    }
+}
+
+pub fn print(text: &str) -> Result<(), Stop> {
     print_bytes(text.as_bytes())
 }
 
@@ -101,7 +114,7 @@ fn hint(path: &Path, bytes: &[u8], hint: &str) {
 }
 
 /// The rates of a run, where they are named and a run can have them.
-fn rates(args: &Args) -> Result<Option<Ramps>, Stop> {
+pub fn rates(args: &Args) -> Result<Option<Ramps>, Stop> {
     let words = args.group("RATES");
     let words: Vec<&str> = words.iter().map(String::as_str).collect();
     let (ramps, _) = ramps::split(&words).map_err(|fault| match fault {
@@ -157,7 +170,7 @@ struct Drawing<'a> {
 fn pass(args: &Args) -> Result<(), Stop> {
     let ramps = rates(args)?;
     let source = Source::read(args.path(0))?;
-    print(&passed(&source, ramps.as_ref())?)
+    strict(args, &passed(&source, ramps.as_ref())?)
 }
 
 fn store_show(args: &Args) -> Result<(), Stop> {
@@ -221,7 +234,7 @@ fn completions(shell: Option<String>) -> Result<(), Stop> {
 
 /// A library of another interface was linked: what it answers is not what this program takes it for.
 #[cfg(feature = "pass")]
-fn of_the_interface() -> Result<(), Stop> {
+pub fn of_the_interface() -> Result<(), Stop> {
     let (found, wanted) = (dispatch_bench::version(), dispatch_bench::VERSION);
     match found == wanted {
         true => Ok(()),
@@ -256,7 +269,7 @@ fn in_the_domain(ramps: Option<&Ramps>) -> Result<(), Stop> {
 
 /// Where a text is refused, its line is named on standard error; so is a file of another kind.
 #[cfg(feature = "pass")]
-fn name_the_place(source: &Source) {
+pub fn name_the_place(source: &Source) {
     if let Some(words) = sheet::explain::beside(source) {
         complain(&format!("{words}\n"));
     }
@@ -304,8 +317,8 @@ fn grade(args: &Args) -> Result<(), Stop> {
     of_the_interface()?;
     // A refused text is explained with its lines.
     match source.places.is_some() && dispatch_bench::read(&source.bytes).is_err() {
-        true => print(&sheet::explain::of(&source)),
-        false => print(&sheet::grade::grade(&source.bytes, &grades)),
+        true => strict(args, &sheet::explain::of(&source)),
+        false => strict(args, &sheet::grade::grade(&source.bytes, &grades)),
     }
 }
 
@@ -352,6 +365,18 @@ mod without {
     }
 
     pub fn grade(_: &Args) -> Result<(), Stop> {
+        unlinked()
+    }
+
+    pub fn is_by_lines(args: &Args) -> Result<bool, Stop> {
+        Ok(args.words.len() > args.command.counts().0)
+    }
+
+    pub fn by_lines(_: &Args) -> Result<(), Stop> {
+        unlinked()
+    }
+
+    pub fn matrix(_: &Args) -> Result<(), Stop> {
         unlinked()
     }
 

@@ -65,6 +65,10 @@ fn bash() -> String {
         for (k, word) in command.words.iter().enumerate() {
             places += &bash_place(name, &k.to_string(), word);
         }
+        // What follows again are files.
+        if command.repeats > 0 {
+            places += &format!("        '{name} '[0-9]*) files=yes ;;\n");
+        }
         for option in command.options {
             let value = option.value.as_ref();
             places += &value.map_or(String::new(), |word| bash_place(name, option.name, word));
@@ -215,8 +219,12 @@ fn zsh_case(command: &Command) -> String {
     };
     let help = quoted("--help[say what the command does]");
     let options = command.options.iter().map(option).chain([help]);
+    let further = command.words.last().filter(|_| command.repeats > 0);
+    let further =
+        further.map(|word| quoted(&format!("*:{}:{}", described(word.name), action(word))));
     let parts: Vec<String> = options
         .chain(command.words.iter().enumerate().map(word))
+        .chain(further)
         .collect();
     let name = quoted(command.name);
     format!("        {name}) _arguments {} ;;\n", parts.join(" "))

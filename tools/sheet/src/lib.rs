@@ -24,6 +24,9 @@ pub mod grades;
 pub mod json;
 pub mod line;
 pub mod man;
+pub mod many;
+#[cfg(feature = "pass")]
+pub mod matrix;
 #[cfg(feature = "pass")]
 mod mend;
 pub mod names;
@@ -34,6 +37,8 @@ pub mod ramps;
 mod remedies;
 #[cfg(feature = "pass")]
 mod repair;
+#[cfg(feature = "pass")]
+pub mod report;
 pub mod rule;
 // The table of refusals is that of the crate dispatch-bench; `rule` needs it without the library too.
 #[path = "../../../rust/src/rules.rs"]

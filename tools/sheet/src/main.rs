@@ -2,6 +2,8 @@
 //! weights written, shown and asked; choices of a site graded; the seconds of runs.
 
 mod commands;
+#[cfg(feature = "pass")]
+mod study;
 
 use std::ffi::OsString;
 use std::io::Write;
@@ -15,6 +17,8 @@ enum Stop {
     Usage(String),
     /// What to print on standard error.
     Failed(String),
+    /// All is said, and this is the exit status.
+    Ended(u8),
 }
 
 /// What is said on standard error is the reason.
@@ -36,6 +40,7 @@ fn main() -> ExitCode {
             complain(&format!("{message}\n"));
             ExitCode::FAILURE
         }
+        Err(Stop::Ended(status)) => ExitCode::from(status),
     }
 }
 

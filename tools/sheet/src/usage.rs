@@ -39,6 +39,8 @@ pub struct Command {
     /// One word, or two: `store write`.
     pub name: &'static str,
     pub words: &'static [Word],
+    /// So many of the last words may follow again, any number of times.
+    pub repeats: usize,
     pub options: &'static [Choice],
     /// What it does, without a full stop.
     pub says: &'static str,
@@ -72,6 +74,7 @@ const fn plain(name: &'static str, says: &'static str) -> Command {
     Command {
         name,
         words: &[],
+        repeats: 0,
         options: &[],
         says,
         more: "",
@@ -95,8 +98,58 @@ const fn rate(name: &'static str, value: &'static str, says: &'static str) -> Ch
     }
 }
 
-/// The rates of a run.
-const RATES: [Choice; 3] = [ACCELERATES, DECELERATES, STARTS];
+const fn flag(name: &'static str, group: Option<&'static str>, says: &'static str) -> Choice {
+    Choice {
+        name,
+        value: None,
+        group,
+        says,
+    }
+}
+
+/// The group of what is printed of many files.
+const OUTPUT: Option<&str> = Some("OUTPUT");
+const JSON_SAYS: &str = "print an object of JSON, in one line; of many files one each";
+const CSV_SAYS: &str = "print comma-separated values, with the names of the columns above";
+const JSON: Choice = flag("--json", OUTPUT, JSON_SAYS);
+const CSV: Choice = flag("--csv", OUTPUT, CSV_SAYS);
+const STRICT: Choice = flag(
+    "--strict",
+    OUTPUT,
+    "end with exit status 3 where a sheet, or a choice, is refused",
+);
+const LINES: Choice = flag(
+    "--lines",
+    OUTPUT,
+    "print a line for each file and nothing else, also where one file is named: no summary, no names of columns",
+);
+const JOBS: Choice = Choice {
+    name: "--jobs",
+    value: Some(needed("N", Takes::Number)),
+    group: OUTPUT,
+    says: "work on so many files at once; as many as there are cores where it is not named",
+};
+
+/// What is printed of one file or of many.
+const PRINTED: [Choice; 5] = [JSON, CSV, STRICT, LINES, JOBS];
+
+/// The same, and the rates of a run.
+const PASSED: [Choice; 8] = [
+    ACCELERATES,
+    DECELERATES,
+    STARTS,
+    JSON,
+    CSV,
+    STRICT,
+    LINES,
+    JOBS,
+];
+
+/// The two forms for programs.
+const FORMS: [Choice; 2] = [
+    flag("--json", None, JSON_SAYS),
+    flag("--csv", None, CSV_SAYS),
+];
 
 /// How a sheet is drawn, and the rates of a run.
 const DRAWN: [Choice; 5] = [
@@ -135,7 +188,7 @@ const STARTS: Choice = rate(
 
 const A_TEXT: &str = "SHEET is a sheet, or a text that `write` takes: what is said of it then names the text's lines.";
 
-pub static COMMANDS: [Command; 16] = [
+pub static COMMANDS: [Command; 17] = [
     Command {
         words: &[maybe("STRATEGY|sideways", Takes::One(EXAMPLES))],
         examples: &["sheet example >lobby.txt", "sheet example SCAN"],
@@ -164,8 +217,14 @@ pub static COMMANDS: [Command; 16] = [
     },
     Command {
         words: &[file("SHEET")],
-        more: "SHEET is a sheet, or a text that `write` takes: what is said of it then names the text's lines. After the refusal come the faults that would be refused once it is mended, and what is allowed but hardly meant.",
-        examples: &["sheet explain lobby.sheet", "sheet explain lobby.txt"],
+        repeats: 1,
+        options: &PRINTED,
+        more: "SHEET is a sheet, or a text that `write` takes: what is said of it then names the text's lines. After the refusal come the faults that would be refused once it is mended, and what is allowed but hardly meant. Of many files, or of a folder, a line each is printed.",
+        examples: &[
+            "sheet explain lobby.sheet",
+            "sheet explain lobby.txt",
+            "sheet explain sheets --strict",
+        ],
         ..plain(
             "explain",
             "say whether the bench accepts a sheet, and if not, what to do",
@@ -187,18 +246,41 @@ pub static COMMANDS: [Command; 16] = [
     },
     Command {
         words: &[file("SHEET")],
-        options: &RATES,
-        more: A_TEXT,
-        examples: &["sheet pass lobby.sheet"],
+        repeats: 1,
+        options: &PASSED,
+        more: "SHEET is a sheet, or a text that `write` takes: what is said of it then names the text's lines. Of many files, or of a folder, a line each is printed: files in the order named, of a folder those that end in .sheet or .txt, in it and below it, sorted. A summary follows on standard error.",
+        examples: &[
+            "sheet pass lobby.sheet",
+            "sheet pass sheets",
+            "sheet pass sheets --csv >passes.csv",
+        ],
         ..plain(
             "pass",
             "print the pass, or the refusal, in the lines of the program passprint; the first ends with the number of held cells",
         )
     },
     Command {
-        words: &[file("SHEET"), file("GRADES.txt")],
+        words: &[file("SHEET")],
+        options: &FORMS,
         more: A_TEXT,
-        examples: &["sheet grade lobby.sheet grades.txt"],
+        examples: &[
+            "sheet matrix lobby.sheet",
+            "sheet matrix lobby.sheet --csv >lobby.csv",
+        ],
+        ..plain(
+            "matrix",
+            "print the cells of the pass, a row for each idle car and a column for each pending stop, or the refusal",
+        )
+    },
+    Command {
+        words: &[file("SHEET"), file("GRADES.txt")],
+        repeats: 2,
+        options: &PRINTED,
+        more: "SHEET is a sheet, or a text that `write` takes: what is said of it then names the text's lines. Of many pairs a line each is printed. With a folder in the place of GRADES.txt each .txt of it is graded; with two folders each .sheet of the first, with the .txt of the same name in the second.",
+        examples: &[
+            "sheet grade lobby.sheet grades.txt",
+            "sheet grade lobby.sheet grades",
+        ],
         ..plain(
             "grade",
             "say whether the prices that a site sent show its choice of columns to be least, and if not, the first rule that they break",
@@ -269,9 +351,10 @@ pub static COMMANDS: [Command; 16] = [
 /// What holds for every command.
 pub const GENERAL: &[&str] = &[
     "With RATES, --acceleration A --deceleration D [--speed V], `pass` prints beside each decision, and `draw` writes at each arrow, the seconds of the run from the car to the stop, from speed V (0 where it is not named) and by the car's max speed.",
+    "With OUTPUT, [--json] [--csv] [--strict] [--lines] [--jobs N], what `pass`, `explain` and `grade` print is for programs, or of many files: `sheet pass --help` says more.",
     "SHEET is a sheet, or a text that `write` takes. - stands for standard input, as OUT for standard output; after -- no word is an option. OUT is another file than what is read, may be written, and has the ending of what it gets, or none that is known.",
     "The text is described in docs/manual/planners.md.",
-    "Exit 0: done, a refusal explained included. 1: not done, the reason is on standard error. 2: no such command.",
+    "Exit 0: done, a refusal explained included. 1: not done, the reason is on standard error. 2: no such command. 3: a sheet is refused, and --strict was named.",
 ];
 
 pub fn command(name: &str) -> Option<&'static Command> {
@@ -296,7 +379,17 @@ impl Command {
     /// The least and the most words that follow it.
     pub fn counts(&self) -> (usize, usize) {
         let needed = self.words.iter().filter(|word| word.is_needed).count();
-        (needed, self.words.len())
+        match self.repeats {
+            0 => (needed, self.words.len()),
+            _ => (needed, usize::MAX),
+        }
+    }
+
+    /// The words that may follow again, by name.
+    fn repeated(&self) -> Option<String> {
+        let from = self.words.len().checked_sub(self.repeats)?;
+        let names: Vec<&str> = self.words[from..].iter().map(|word| word.name).collect();
+        (self.repeats > 0).then(|| format!("[{} ..]", names.join(" ")))
     }
 
     /// Its name, its words and its options: `draw SHEET [OUT] [RATES]`.
@@ -305,7 +398,7 @@ impl Command {
             true => word.name.to_string(),
             false => format!("[{}]", word.name),
         };
-        let words = self.words.iter().map(word);
+        let words = self.words.iter().map(word).chain(self.repeated());
         let mut parts: Vec<String> = [self.name.to_string()].into_iter().chain(words).collect();
         for option in self.options {
             let shown = match option.group {

@@ -107,14 +107,15 @@ fn no_such_command() {
     has_no_meaning(&["show", "-x", "a"], "show has no option -x");
 }
 
+const GRADE: &str = " SHEET GRADES.txt [SHEET GRADES.txt ..] [OUTPUT]";
+
 #[test]
 fn too_few_or_too_many_words() {
     for (args, words, takes) in [
         (&["show"][..], "few", " SHEET"),
         (&["write"], "few", " IN.txt [OUT]"),
-        (&["explain", "a", "b"], "many", " SHEET"),
-        (&["pass", "a", "b"], "many", " SHEET [RATES]"),
-        (&["pass"], "few", " SHEET [RATES]"),
+        (&["explain"], "few", " SHEET [SHEET ..] [OUTPUT]"),
+        (&["pass"], "few", " SHEET [SHEET ..] [RATES] [OUTPUT]"),
         (
             &[
                 "pass",
@@ -126,10 +127,10 @@ fn too_few_or_too_many_words() {
                 "1",
             ],
             "few",
-            " SHEET [RATES]",
+            " SHEET [SHEET ..] [RATES] [OUTPUT]",
         ),
-        (&["grade", "a"], "few", " SHEET GRADES.txt"),
-        (&["grade", "a", "b", "c"], "many", " SHEET GRADES.txt"),
+        (&["grade", "a"], "few", GRADE),
+        (&["grade", "a", "b", "c"], "few", GRADE),
         (
             &["draw", "a", "b", "c"],
             "many",
@@ -186,8 +187,14 @@ fn no_such_file() {
 #[cfg(not(feature = "pass"))]
 #[test]
 fn without_the_library() {
-    for command in ["explain", "draw", "pass"] {
-        let output = run(&[command, "-"], b"");
+    for args in [
+        &["explain", "-"][..],
+        &["draw", "-"],
+        &["pass", "-"],
+        &["pass", "-", "b"],
+        &["matrix", "-"],
+    ] {
+        let output = run(args, b"");
         assert_eq!(output.status.code(), Some(1));
         assert!(text(&output.stderr).contains("built without the proved library"));
         assert_eq!(text(&output.stdout), "");
