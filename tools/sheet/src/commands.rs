@@ -12,7 +12,7 @@ use sheet::source::{self, Source};
 use sheet::{completions, man, rule, show, store, text, usage};
 
 #[cfg(feature = "pass")]
-use crate::study::{by_lines, is_by_lines, matrix};
+use crate::study::{by_lines, compare, is_by_lines, matrix, raise};
 use crate::{Stop, complain};
 
 /// Does what a command line asks for.
@@ -35,6 +35,8 @@ pub fn run(args: &[OsString]) -> Result<(), Stop> {
         "draw" => draw(&args),
         "pass" => pass(&args),
         "matrix" => matrix(&args),
+        "compare" => compare(&args),
+        "raise" => raise(&args),
         "grade" => grade(&args),
         "rule" => rules(args.word(0)),
         "store example" => print(STORE_EXAMPLE),
@@ -285,6 +287,7 @@ fn drawn(source: &Source, drawing: &Drawing, is_page: bool) -> Result<String, St
         ramps: drawing.ramps,
         names: source.names.clone(),
         fold: drawing.fold,
+        marked: Vec::new(),
         source: Some(source),
     };
     Ok(match is_page {
@@ -377,6 +380,14 @@ mod without {
     }
 
     pub fn matrix(_: &Args) -> Result<(), Stop> {
+        unlinked()
+    }
+
+    pub fn compare(_: &Args) -> Result<(), Stop> {
+        unlinked()
+    }
+
+    pub fn raise(_: &Args) -> Result<(), Stop> {
         unlinked()
     }
 

@@ -6,6 +6,8 @@
 //! Verdicts, passes, weights, grades and seconds come from the crate dispatch-bench, with the feature `pass`.
 
 pub mod args;
+#[cfg(feature = "pass")]
+pub mod compare;
 pub mod completions;
 pub mod csv;
 pub mod cut;
@@ -32,6 +34,10 @@ mod mend;
 pub mod names;
 pub mod near;
 mod numbers;
+#[cfg(feature = "pass")]
+pub mod proved;
+#[cfg(feature = "pass")]
+pub mod raise;
 pub mod ramps;
 #[cfg(feature = "pass")]
 mod remedies;

@@ -76,7 +76,9 @@ impl Said {
                 format!("{}\n", Json::object(entries))
             }
             Form::Csv => {
+                // A row is one line.
                 let fields = self.entries.into_iter().filter_map(|e| e.field);
+                let fields = fields.map(|field| field.replace('\n', "; "));
                 csv::row(&fields.collect::<Vec<_>>())
             }
         };

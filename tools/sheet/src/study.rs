@@ -3,11 +3,15 @@
 use std::io::{ErrorKind, IsTerminal, Write};
 use std::path::{Path, PathBuf};
 
+use dispatch_bench::Refusal;
 use sheet::args::Args;
+use sheet::compare::Comparison;
+use sheet::files::Format;
 use sheet::many::{self, Named, Progress};
+use sheet::raise::Raised;
 use sheet::report::{self, Form, Report, Said, Summary};
 use sheet::source::{self, Source};
-use sheet::{files, grades, matrix, value};
+use sheet::{draw, files, grades, matrix, value};
 
 use crate::commands::{name_the_place, of_the_interface, print, rates};
 use crate::{Stop, complain};
@@ -251,4 +255,81 @@ pub fn matrix(args: &Args) -> Result<(), Stop> {
     let source = Source::read(args.path(0))?;
     name_the_place(&source);
     print(&matrix::of(&source, form))
+}
+
+/// What differs in two sheets and their passes, in words and drawn.
+pub fn compare(args: &Args) -> Result<(), Stop> {
+    of_the_interface()?;
+    let form = form(args)?;
+    read_once(args)?;
+    let (first, second) = (Source::read(args.path(0))?, Source::read(args.path(1))?);
+    let comparison = Comparison::new(&first, &second);
+    let abouts = [&first, &second].map(|source| about(source, &comparison));
+    let sides = ((&*first.bytes, &abouts[0]), (&*second.bytes, &abouts[1]));
+    let drawn = args.words.get(2).map(PathBuf::from);
+    let page = args.value("--html").map(PathBuf::from);
+    for (to, format) in [(&drawn, Format::Drawing), (&page, Format::Page)] {
+        let to = to.as_ref().filter(|to| **to != Path::new("-"));
+        for from in [args.path(0), args.path(1)] {
+            to.map_or(Ok(()), |to| files::may_write(from, to, format))?;
+        }
+    }
+    let mut is_printed = false;
+    if let Some(to) = &drawn {
+        is_printed |= put(to, &draw::pair(sides.0, sides.1))?;
+    }
+    if let Some(to) = &page {
+        let words = comparison.text(Form::Words);
+        is_printed |= put(to, &draw::pair_page(sides.0, sides.1, &words))?;
+    }
+    match is_printed {
+        true => Ok(()),
+        false => print(&comparison.text(form)),
+    }
+}
+
+/// Writes a file, or prints it: then it stands in the place of what else would be printed.
+fn put(to: &Path, text: &str) -> Result<bool, Stop> {
+    match to == Path::new("-") {
+        true => print(text).map(|()| true),
+        false => Ok(files::replace(to, text.as_bytes()).map(|()| false)?),
+    }
+}
+
+/// The limits of a sheet raised, as a table and as a plot.
+pub fn raise(args: &Args) -> Result<(), Stop> {
+    of_the_interface()?;
+    let form = form(args)?;
+    let source = Source::read(args.path(0))?;
+    let raised = Raised::new(&source.bytes).map_err(|refusal| {
+        let Refusal { number, offset } = refusal;
+        let (file, named) = (&source.file, source.shell_name());
+        format!("{file}: refused {number} at {offset}, so it has no pass under any limit; `sheet explain {named}` says why")
+    })?;
+    if let Some(to) = args.words.get(1).map(Path::new) {
+        if to != Path::new("-") {
+            files::may_write(args.path(0), to, Format::Drawing)?;
+        }
+        if put(to, &draw::raised(&raised, file_name(&source)))? {
+            return Ok(());
+        }
+    }
+    print(&raised.text(&source.file, form))
+}
+
+/// The name of a file without its folders; none for standard input.
+fn file_name(source: &Source) -> Option<&str> {
+    let name = Path::new(&source.file).file_name()?.to_str();
+    name.filter(|name| *name != "-")
+}
+
+/// How a side of a comparison is drawn.
+fn about<'a>(source: &'a Source, comparison: &Comparison) -> draw::About<'a> {
+    draw::About {
+        file: file_name(source),
+        names: source.names.clone(),
+        marked: comparison.cars(),
+        source: Some(source),
+        ..draw::About::default()
+    }
 }

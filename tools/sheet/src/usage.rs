@@ -151,6 +151,18 @@ const FORMS: [Choice; 2] = [
     flag("--csv", None, CSV_SAYS),
 ];
 
+/// The same, and a page.
+const COMPARED: [Choice; 3] = [
+    Choice {
+        name: "--html",
+        value: Some(file("OUT.html")),
+        group: None,
+        says: "write a page for a browser, with both drawings and what differs",
+    },
+    flag("--json", None, JSON_SAYS),
+    flag("--csv", None, CSV_SAYS),
+];
+
 /// How a sheet is drawn, and the rates of a run.
 const DRAWN: [Choice; 5] = [
     Choice {
@@ -188,7 +200,7 @@ const STARTS: Choice = rate(
 
 const A_TEXT: &str = "SHEET is a sheet, or a text that `write` takes: what is said of it then names the text's lines.";
 
-pub static COMMANDS: [Command; 17] = [
+pub static COMMANDS: [Command; 19] = [
     Command {
         words: &[maybe("STRATEGY|sideways", Takes::One(EXAMPLES))],
         examples: &["sheet example >lobby.txt", "sheet example SCAN"],
@@ -270,6 +282,33 @@ pub static COMMANDS: [Command; 17] = [
         ..plain(
             "matrix",
             "print the cells of the pass, a row for each idle car and a column for each pending stop, or the refusal",
+        )
+    },
+    Command {
+        words: &[file("FIRST"), file("SECOND"), maybe("OUT.svg", Takes::File)],
+        options: &COMPARED,
+        more: "Records are compared by their ids. Of two sheets that agree but in the limit, or but in bars, what is proved of their totals is said (demand 3, F-14), or what keeps it from being so. FIRST and SECOND are sheets, or texts that `write` takes.",
+        examples: &[
+            "sheet compare lobby.sheet lobby_2.sheet",
+            "sheet compare lobby.sheet lobby_2.sheet both.svg",
+            "sheet compare lobby.sheet lobby_2.sheet --html both.html",
+        ],
+        ..plain(
+            "compare",
+            "print what differs in two sheets, in their passes and decisions, and draw both side by side, in OUT.svg or as a page (--html)",
+        )
+    },
+    Command {
+        words: &[file("SHEET"), maybe("OUT.svg", Takes::File)],
+        options: &FORMS,
+        more: "The last limit is the first from which on all answers are those without a limit. With OUT.svg the table is drawn too, as a small plot. SHEET is a sheet, or a text that `write` takes.",
+        examples: &[
+            "sheet raise lobby.sheet",
+            "sheet raise lobby.sheet limits.svg",
+        ],
+        ..plain(
+            "raise",
+            "pass a sheet under limits 1, 2 and so on, and under none, and print the total, the cars sent and the share of decisions that changed",
         )
     },
     Command {

@@ -3,10 +3,10 @@
 
 mod common;
 
-use std::path::{Path, PathBuf};
+use std::path::PathBuf;
 use std::process::Output;
 
-use common::{here, run, text};
+use common::{here, is_json, run, stored_as, text};
 
 /// A folder of its own, away at the end.
 struct Folder(PathBuf);
@@ -244,28 +244,6 @@ fn what_has_no_meaning() {
     assert!(text(&output.stderr).ends_with("are printed with --json\n"));
 }
 
-/// Python's reader takes each line, and each has the keys of the first, in their order.
-fn is_json(lines: &str) {
-    const CHECK: &str = "\
-import json, sys
-keys = [list(json.loads(line)) for line in sys.stdin]
-assert keys and all(k == keys[0] for k in keys), keys
-";
-    let child = std::process::Command::new("python3")
-        .args(["-c", CHECK])
-        .stdin(std::process::Stdio::piped())
-        .spawn();
-    let Ok(mut child) = child else { return };
-    use std::io::Write;
-    child
-        .stdin
-        .take()
-        .unwrap()
-        .write_all(lines.as_bytes())
-        .unwrap();
-    assert!(child.wait().unwrap().success(), "{lines}");
-}
-
 #[test]
 fn objects() {
     let folder = some_files("json");
@@ -276,7 +254,7 @@ fn objects() {
         let output = run(&[name, folder.path(), "--json"], b"");
         let said = folder.said(&output.stdout);
         is_json(&said);
-        expect(stored, &said);
+        stored_as(stored, &said);
     }
     let lobby = folder.0.join("b/lobby.txt");
     let rates = ["--acceleration", "1", "--deceleration", "1.2", "--json"];
@@ -302,24 +280,11 @@ fn rows() {
     ] {
         let output = run(&[name, folder.path(), "--csv"], b"");
         let said = folder.said(&output.stdout);
-        expect(stored, &said);
+        stored_as(stored, &said);
         let bare = run(&[name, folder.path(), "--csv", "--lines"], b"");
         let (_, rows) = said.split_once('\n').unwrap();
         assert_eq!(folder.said(&bare.stdout), rows);
     }
-}
-
-/// The stored text is what is said. UPDATE=1 stores it.
-fn expect(stored: &str, said: &str) {
-    let path = here(stored);
-    if std::env::var_os("UPDATE").is_some() {
-        std::fs::create_dir_all(path.parent().unwrap()).unwrap();
-        std::fs::write(&path, said).unwrap();
-    }
-    assert_eq!(
-        said,
-        std::fs::read_to_string(Path::new(&path)).unwrap_or_default()
-    );
 }
 
 #[test]

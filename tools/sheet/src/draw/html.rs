@@ -5,7 +5,7 @@ use sheetgen::Sheet;
 
 use super::matrix::Table;
 use super::svg::escape;
-use super::{About, Chosen, EDGE, building, draw, draw_pass, title};
+use super::{About, Chosen, EDGE, building, draw, draw_pass, pair, title};
 use crate::{explain, travel};
 
 const STYLE: &str = include_str!("page.css");
@@ -50,6 +50,7 @@ fn accepted(bytes: &[u8], chosen: &Chosen, about: &About) -> String {
 fn with_fold<'a>(about: &About<'a>, fold: bool) -> About<'a> {
     About {
         names: about.names.clone(),
+        marked: about.marked.clone(),
         fold,
         ..*about
     }
@@ -98,14 +99,53 @@ fn page(about: &About, title: &str, drawings: &Drawings, sections: &str) -> Stri
         true => "<a href=\"#pass\">Pass</a>\n<a href=\"#table\">Table</a>\n",
         false => "<a href=\"#pass\">Words</a>\n",
     };
+    let links = format!("{fold}{links}");
+    whole(
+        &title,
+        (views, &links),
+        (&drawings.plain, &folded),
+        sections,
+    )
+}
+
+/// A page: the buttons of its views and what stands behind those of the zoom, the drawing with a hidden one, and sections.
+fn whole(title: &str, nav: (&str, &str), drawn: (&str, &str), sections: &str) -> String {
+    let ((views, links), (stage, hidden)) = (nav, drawn);
     format!(
         "<!doctype html>\n<html lang=\"en\">\n<head>\n<meta charset=\"utf-8\">\n\
          <meta http-equiv=\"Content-Security-Policy\" content=\"default-src 'none'; style-src 'unsafe-inline'; script-src 'unsafe-inline'\">\n\
          <meta name=\"viewport\" content=\"width=device-width, initial-scale=1\">\n<title>{title}</title>\n<style>{STYLE}</style>\n</head>\n<body>\n\
          <nav>\n<button data-view=\"whole\">Whole</button>\n{views}<button data-zoom=\"in\" title=\"nearer\">+</button>\n\
-         <button data-zoom=\"out\" title=\"farther\">−</button>\n{fold}{links}</nav>\n\
-         <div id=\"stage\" tabindex=\"0\">{}</div>\n{folded}{sections}<div id=\"detail\" hidden></div>\n<script>{SCRIPT}</script>\n</body>\n</html>\n",
-        drawings.plain
+         <button data-zoom=\"out\" title=\"farther\">−</button>\n{links}</nav>\n\
+         <div id=\"stage\" tabindex=\"0\">{stage}</div>\n{hidden}{sections}<div id=\"detail\" hidden></div>\n<script>{SCRIPT}</script>\n</body>\n</html>\n"
+    )
+}
+
+/// A page of two sheets: both drawings, what differs, and the lines and the matrix of each.
+pub fn pair_page(first: (&[u8], &About), second: (&[u8], &About), differs: &str) -> String {
+    let mut sections = section("differs", "What differs", &pre(differs));
+    for ((bytes, about), id, name) in [
+        (first, "first-pass", "first"),
+        (second, "second-pass", "second"),
+    ] {
+        let lines = pre(&dispatch_bench::lines(bytes));
+        sections += &section(id, &format!("The pass of the {name}"), &lines);
+        if let Ok(chosen) = Chosen::of(bytes) {
+            let sheet = Sheet::of_accepted(bytes);
+            let table = Table::new(&sheet, &chosen, about, EDGE);
+            let heading = format!("Costs of idle cars and pending stops of the {name}");
+            sections += &section(&format!("{name}-table"), &heading, &matrix(&table));
+        }
+    }
+    let file = |about: &About| about.file.unwrap_or("-").to_string();
+    let title = escape(&format!("{} and {}", file(first.1), file(second.1)));
+    let views = "<button data-view=\"first\">First</button>\n<button data-view=\"second\">Second</button>\n";
+    let links = "<a href=\"#differs\">What differs</a>\n<a href=\"#first-pass\">First pass</a>\n<a href=\"#second-pass\">Second pass</a>\n";
+    whole(
+        &title,
+        (views, links),
+        (&pair(first, second), ""),
+        &sections,
     )
 }
 

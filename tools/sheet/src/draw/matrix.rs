@@ -5,6 +5,7 @@ use sheetgen::Sheet;
 use sheetgen::sheet::SCAN;
 
 use super::legend::Legend;
+use super::pair;
 use super::reasons::{NoRank, Reasons};
 use super::svg::{self, Anchor, Svg, widest};
 use super::{About, Chosen, LEGEND, cost, exact};
@@ -46,6 +47,8 @@ pub struct Table<'a> {
     size: (f64, f64),
     pub rows: Vec<String>,
     pub columns: Vec<String>,
+    /// For each row whether its decision is marked.
+    marked: Vec<bool>,
     /// The same, with whole names.
     whole: (Vec<String>, Vec<String>),
 }
@@ -75,6 +78,7 @@ impl<'a> Table<'a> {
             size,
             rows,
             columns,
+            marked: idle().map(|car| about.marked.contains(&car.id)).collect(),
             whole,
         }
     }
@@ -222,6 +226,9 @@ impl<'a> Table<'a> {
             if self.chosen.is_tied(row) {
                 tie(svg, (x + w - 1.5, y + 1.5));
             }
+            if self.marked.get(row) == Some(&true) {
+                pair::mark(svg, (x + 1.0, y + 1.0), (w - 2.0, h - 2.0));
+            }
         }
     }
 
@@ -244,6 +251,9 @@ impl<'a> Table<'a> {
             svg.rect("unsent", x - 7.0, y - 5.0, 14.0, 10.0);
         });
         legend.entry_of(svg, "\"tie\"", TIED, |svg, x, y| tie(svg, (x, y)));
+        legend.entry_of(svg, "\"differs\"", pair::DIFFERS, |svg, x, y| {
+            pair::mark(svg, (x - 5.5, y - 3.5), (11.0, 7.0));
+        });
         let costs = match (self.sheet.policy.strategy, self.sheet.edition) {
             (SCAN, 2) => Some(&COST_SIDEWAYS),
             (strategy, _) => COSTS.get(usize::from(strategy)),

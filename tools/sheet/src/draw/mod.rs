@@ -10,7 +10,9 @@ mod key;
 mod landings;
 mod legend;
 mod matrix;
+mod pair;
 mod plan;
+mod raised;
 mod reasons;
 mod refused;
 mod riders;
@@ -28,7 +30,9 @@ use crate::ramps::Ramps;
 use crate::source::Source;
 use crate::travel;
 use building::Building;
-pub use html::html;
+pub use html::{html, pair_page};
+pub use pair::pair;
+pub use raised::raised;
 use svg::{Anchor, Svg};
 
 /// What a cost of 1 counts.
@@ -49,6 +53,8 @@ pub struct About<'a> {
     pub names: Names,
     /// Lines without an idle-listed car are drawn as one narrow strip each.
     pub fold: bool,
+    /// Cars whose decisions differ from those of a sheet that is drawn beside this one.
+    pub marked: Vec<u32>,
     /// Where its bytes come from; a refusal is drawn with the line of its text.
     pub source: Option<&'a Source>,
 }
@@ -218,6 +224,9 @@ fn cell(pass: &Pass, row: usize, column: usize) -> Option<u64> {
 
 fn draw_pass(sheet: &Sheet, chosen: &Chosen, about: &About) -> String {
     let mut svg = Svg::default();
+    if !about.marked.is_empty() {
+        svg.style(pair::STYLE);
+    }
     let building = Building::new(sheet, chosen, about, EDGE);
     let matrix = matrix::Table::new(sheet, chosen, about, EDGE);
     let narrow = matrix.right();

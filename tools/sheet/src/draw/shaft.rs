@@ -5,6 +5,7 @@ use sheetgen::{Car, Line, Stop};
 
 use super::aboard::Aboard;
 use super::building::Building;
+use super::pair;
 use super::phase;
 use super::svg::{Anchor, Svg};
 
@@ -229,6 +230,9 @@ impl Building<'_> {
         }
         let half = if self.form.dense { 2.0 } else { 3.2 };
         lamps(svg, car, (middle + w / 2.0 - half - 2.4, y + h / 2.0), half);
+        if self.about.marked.contains(&car.id) {
+            pair::mark(svg, (x, y), (w, h));
+        }
     }
 
     /// A car in words: where it is, what it does, what it carries.

@@ -268,6 +268,29 @@ impl Svg {
             self.body
         )
     }
+
+    /// A whole drawing as a part of this one, with its left upper corner at a place; what all drawings share stands once. Answers its size.
+    pub fn part(&mut self, drawing: &str, x: f64, y: f64) -> (f64, f64) {
+        let Some((w, h, body)) = taken_apart(drawing) else {
+            return (0.0, 0.0);
+        };
+        let (left, top) = (c(x), c(y));
+        let _ = write!(
+            self.body,
+            "<svg x=\"{left}\" y=\"{top}\" width=\"{w}\" height=\"{h}\" viewBox=\"0 0 {w} {h}\">\n{body}</svg>\n"
+        );
+        (w.parse().unwrap_or(0.0), h.parse().unwrap_or(0.0))
+    }
+}
+
+/// The width, the height and the shapes of a whole drawing.
+fn taken_apart(drawing: &str) -> Option<(&str, &str, &str)> {
+    let (_, after) = drawing.split_once("viewBox=\"0 0 ")?;
+    let (size, _) = after.split_once('"')?;
+    let (w, h) = size.split_once(' ')?;
+    let ground = format!("<rect width=\"{w}\" height=\"{h}\" fill=\"#fff\"/>\n");
+    let (_, body) = drawing.split_once(&ground)?;
+    Some((w, h, body.strip_suffix("</svg>\n")?))
 }
 
 /// How wide a text is, at the most.
