@@ -59,6 +59,12 @@ impl Raised {
         last.map_or(NO_LIMIT, |step| step.limit)
     }
 
+    /// The limit from which on the total and the decisions are those without one.
+    pub fn agreed(&self) -> u16 {
+        let total = self.steps.last().map_or(0, |step| step.total);
+        self.since(|step| step.total == total && step.unlike == 0)
+    }
+
     /// The first limit from which on something is as without one.
     fn since(&self, is_so: impl Fn(&Step) -> bool) -> u16 {
         let same = self.steps.iter().rev().take_while(|step| is_so(step));

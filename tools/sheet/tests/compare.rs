@@ -219,3 +219,92 @@ fn one_drawing_is_as_ever() {
     );
     assert!(!drawn.contains("differs"));
 }
+
+/// The limits from 1 on, up to the first that cuts nothing, and none.
+#[test]
+fn limits_are_raised() {
+    let office = here("examples/office.txt");
+    let bars = here("examples/bar_before.txt");
+    let (office, bars) = (office.to_str().unwrap(), bars.to_str().unwrap());
+    for (file, name) in [(office, "office"), (bars, "bars")] {
+        let output = run(&["raise", file], b"");
+        assert_eq!(output.status.code(), Some(0));
+        stored_as(
+            &format!("tests/compared/raise_{name}.txt"),
+            &text(&output.stdout),
+        );
+    }
+    stored_as(
+        "tests/compared/raise_office.csv",
+        &text(&run(&["raise", office, "--csv"], b"").stdout),
+    );
+    let json = text(&run(&["raise", bars, "--json"], b"").stdout);
+    is_json(&json);
+    let steps = "\"cars\":2,\"own_limit\":1,\"settled\":2,\"steps\":[{\"limit\":1,\"total\":\"281474978710656\",\"sent\":1,\"ranked\":2,\"changed\":null,\"unlike_none\":2},{\"limit\":2,\"total\":\"10000000\",\"sent\":2,\"ranked\":4,\"changed\":2,\"unlike_none\":0},{\"limit\":null,\"total\":\"10000000\",\"sent\":2,\"ranked\":4,\"changed\":0,\"unlike_none\":0}]}\n";
+    assert!(json.ends_with(steps), "{json}");
+}
+
+/// Each line is the pass of the same sheet with that limit in its text, and the last limit is the first that ranks as many pairs as none.
+#[test]
+fn a_raised_limit_is_that_of_the_text() {
+    let office = example("office.txt");
+    let rows = text(
+        &run(
+            &[
+                "raise",
+                here("examples/office.txt").to_str().unwrap(),
+                "--csv",
+            ],
+            b"",
+        )
+        .stdout,
+    );
+    let mut ranked = Vec::new();
+    for row in rows.lines().skip(1) {
+        let fields: Vec<&str> = row.split(',').collect();
+        let with = office.replace("limit=none", &format!("limit={}", fields[0]));
+        let bytes = run(&["write", "-"], with.as_bytes()).stdout;
+        let pass = dispatch_bench::pass(&bytes).unwrap();
+        assert_eq!(fields[1], pass.total.to_string());
+        ranked.push(pass.ranked);
+    }
+    let none = ranked.pop().unwrap();
+    assert_eq!(
+        ranked.iter().position(|pairs| *pairs == none),
+        Some(ranked.len() - 1)
+    );
+}
+
+#[test]
+fn raised_limits_are_plotted() {
+    let folder = Folder::new("raise");
+    let sheet = folder.put("bars.txt", &example("bar_before.txt"));
+    let svg = folder.name("limits.svg");
+    assert_eq!(run(&["raise", &sheet, &svg], b"").status.code(), Some(0));
+    let drawn = std::fs::read_to_string(&svg).unwrap();
+    for (part, times) in [
+        (">From limit 2 on decided as without a limit</text>", 1),
+        (">bars.txt</text>", 1),
+        ("<rect class=\"bar\"", 9),
+        (">281474978710656</text>", 1),
+        (">10000000</text>", 1),
+        (">100 %</text>", 2),
+        ("<line class=\"agreed\"", 1),
+        ("<line class=\"settled\"", 1),
+        ("<rect class=\"differs\"", 1),
+    ] {
+        assert_eq!(drawn.matches(part).count(), times, "{part}");
+    }
+    assert_eq!(text(&run(&["raise", &sheet, "-"], b"").stdout), drawn);
+    let refused = here("examples/refusal_08_phase.txt");
+    let output = run(&["raise", refused.to_str().unwrap(), &svg], b"");
+    assert_eq!(
+        (output.status.code(), text(&output.stdout)),
+        (Some(1), String::new())
+    );
+    assert!(
+        text(&output.stderr)
+            .contains("refused 8 at 750, so it has no pass under any limit; `sheet explain ")
+    );
+    assert_eq!(std::fs::read_to_string(&svg).unwrap(), drawn);
+}

@@ -16,13 +16,16 @@ const LEVELS: usize = 14;
 
 const STYLE: &str = ".bar{fill:#8fb8de;stroke:#3a6ea5;stroke-width:0.6}\
 .step{stroke:#d55e00;stroke-width:2.2;fill:none}\
-.settled{stroke:#00734f;stroke-width:1.2;stroke-dasharray:4 3}";
+.settled{stroke:#00734f;stroke-width:1.2;stroke-dasharray:4 3}\
+.agreed{stroke:#00734f;stroke-width:1.6}";
 
 struct Plot<'a> {
     raised: &'a Raised,
     svg: Svg,
     left: f64,
     y: f64,
+    /// What is written over the lines that cross the panels.
+    headings: Vec<(f64, String)>,
 }
 
 /// What `sheet raise SHEET OUT.svg` writes.
@@ -38,6 +41,7 @@ pub fn raised(raised: &Raised, file: Option<&str>) -> String {
         svg,
         left,
         y: 28.0,
+        headings: Vec::new(),
     };
     let width = (left + PITCH * raised.steps.len() as f64).max(left + 360.0);
     plot.title(file, width);
@@ -87,14 +91,26 @@ impl Plot<'_> {
             let file = svg::cropped("small", file, width - EDGE);
             self.svg.text("file", EDGE, 13.0, Anchor::Start, &file);
         }
-        let settled = self.raised.settled();
-        let title = format!("From limit {settled} on the limit cuts nothing");
+        let (agreed, settled) = (self.raised.agreed(), self.raised.settled());
+        let title = format!(
+            "From limit {} on decided as without a limit",
+            limit_word(agreed)
+        );
         self.svg.text("title", EDGE, self.y, Anchor::Start, &title);
-        self.y += 26.0;
+        let more = format!(
+            "Total and decisions are those without a limit from limit {} on; from limit {} on no pair is cut.",
+            limit_word(agreed),
+            limit_word(settled)
+        );
+        for line in svg::wrapped("", &more, width - EDGE) {
+            self.y += 15.0;
+            self.svg.text("", EDGE, self.y, Anchor::Start, &line);
+        }
+        self.y += 24.0;
     }
 
     fn heading(&mut self, words: &str) {
-        self.svg.text("name", EDGE, self.y, Anchor::Start, words);
+        self.headings.push((self.y, words.into()));
         self.y += 18.0;
     }
 
@@ -152,28 +168,30 @@ impl Plot<'_> {
 
     /// The limits, the sheet's own in a frame, and where the limit stops mattering.
     fn axis(&mut self, top: f64) {
-        let settled = self.raised.settled();
+        let marks = [
+            ("agreed", self.raised.agreed()),
+            ("settled", self.raised.settled()),
+        ];
         self.y -= 8.0;
         for (k, step) in self.raised.steps.iter().enumerate() {
             let (x, word) = (self.x(k), limit_word(step.limit));
             if step.limit == self.raised.own {
-                pair::mark(&mut self.svg, (x - 9.0, self.y - 8.0), (18.0, 10.0));
+                let half = svg::width("small", &word) / 2.0 + 2.0;
+                pair::mark(&mut self.svg, (x - half, self.y - 8.0), (2.0 * half, 10.0));
             }
-            let class = if step.limit == settled {
-                "name"
-            } else {
-                "small"
-            };
-            self.svg.text(class, x, self.y, Anchor::Middle, &word);
-            if step.limit == settled {
+            self.svg.text("small", x, self.y, Anchor::Middle, &word);
+            for (class, _) in marks.iter().filter(|mark| mark.1 == step.limit) {
                 let x = x - PITCH / 2.0;
-                self.svg.line("settled", (x, top + 6.0), (x, self.y + 4.0));
+                self.svg.line(class, (x, top - 4.0), (x, self.y + 4.0));
             }
+        }
+        for (y, words) in std::mem::take(&mut self.headings) {
+            self.svg.text("name halo", EDGE, y, Anchor::Start, &words);
         }
         self.svg
             .text("small", self.left - 6.0, self.y, Anchor::End, "limit");
-        self.y += 18.0;
-        let words = "In a frame: the sheet's own limit. Broken line: from here on all answers are those without a limit.";
+        self.y += 20.0;
+        let words = "In a frame: the sheet's own limit. Line: from here on total and decisions are those without a limit. Broken line: from here on no pair is cut.";
         for line in svg::wrapped("small", words, 360.0 + self.left - EDGE) {
             self.svg.text("small", EDGE, self.y, Anchor::Start, &line);
             self.y += 13.0;
