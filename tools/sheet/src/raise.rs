@@ -143,6 +143,7 @@ impl Raised {
             ("file", file.into()),
             ("cars", self.cars.into()),
             ("own_limit", limit(self.own)),
+            ("agreed", limit(self.agreed())),
             ("settled", limit(self.settled())),
             ("steps", Json::array(self.steps.iter().map(step))),
         ])
