@@ -112,8 +112,10 @@ pub struct Progress {
     all: usize,
     done: usize,
     is_shown: bool,
-    drawn: Option<Instant>,
-    began: Instant,
+    /// It stands on the terminal.
+    is_there: bool,
+    /// When it was drawn, or when the work began.
+    drawn: Instant,
 }
 
 /// The bar is drawn after this time, and again after it.
@@ -126,26 +128,26 @@ impl Progress {
             all,
             done: 0,
             is_shown,
-            drawn: None,
-            began: Instant::now(),
+            is_there: false,
+            drawn: Instant::now(),
         }
     }
 
     /// One more is done.
     pub fn step(&mut self) {
         self.done += 1;
-        let last = self.drawn.unwrap_or(self.began);
-        if self.is_shown && last.elapsed() >= PAUSE {
-            self.drawn = Some(Instant::now());
+        if self.is_shown && self.drawn.elapsed() >= PAUSE {
+            (self.is_there, self.drawn) = (true, Instant::now());
             let _ = write!(std::io::stderr(), "\r{}", bar(self.done, self.all));
         }
     }
 
     /// Takes the bar away, for a line or at the end.
     pub fn clear(&mut self) {
-        if self.drawn.is_some() {
+        if self.is_there {
             let _ = write!(std::io::stderr(), "\r\x1b[K");
         }
+        self.is_there = false;
     }
 }
 

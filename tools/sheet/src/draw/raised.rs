@@ -191,8 +191,14 @@ impl Plot<'_> {
         self.svg
             .text("small", self.left - 6.0, self.y, Anchor::End, "limit");
         self.y += 20.0;
-        let words = "In a frame: the sheet's own limit. Line: from here on total and decisions are those without a limit. Broken line: from here on no pair is cut.";
-        for line in svg::wrapped("small", words, 360.0 + self.left - EDGE) {
+        let own = match self.raised.steps.iter().any(|s| s.limit == self.raised.own) {
+            true => "In a frame: the sheet's own limit.".into(),
+            false => format!("The sheet's own limit is {}.", self.raised.own),
+        };
+        let words = format!(
+            "{own} Line: from here on total and decisions are those without a limit. Broken line: from here on no pair is cut."
+        );
+        for line in svg::wrapped("small", &words, 360.0 + self.left - EDGE) {
             self.svg.text("small", EDGE, self.y, Anchor::Start, &line);
             self.y += 13.0;
         }
