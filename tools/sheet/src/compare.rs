@@ -191,45 +191,36 @@ fn alone(key: &str, first: Option<String>, second: Option<String>) -> Difference
     }
 }
 
-/// The fields of two records that differ.
+/// The fields of a record by name, as a text has them.
+fn shown(cut: &Cut, record: &Record) -> Vec<(&'static str, String)> {
+    let stops = cut.stops();
+    let fields = cut.fields(record).iter();
+    let held = fields.map(|field| (field, cut.value(record, field)));
+    let used = held.filter(|(f, held)| f.absence != Absence::Unused || held.bits != 0);
+    used.map(|(field, held)| (field.name, value::show(field, held, &stops)))
+        .collect()
+}
+
+/// The fields of two records that differ; of records without fields the whole ones.
 fn fields(cuts: &[Cut; 2], places: (usize, usize), key: &str) -> Vec<Difference> {
     let records = [cuts[0].records[places.0], cuts[1].records[places.1]];
-    let shown = |side: usize| -> Vec<(&'static str, String)> {
-        let (cut, record) = (&cuts[side], &records[side]);
-        let stops = cut.stops();
-        let fields = cut.fields(record).iter();
-        let held = fields.map(|field| (field, cut.value(record, field)));
-        let used = held.filter(|(f, held)| f.absence != Absence::Unused || held.bits != 0);
-        used.map(|(field, held)| (field.name, value::show(field, held, &stops)))
-            .collect()
-    };
-    let (ours, theirs) = (shown(0), shown(1));
-    if ours.is_empty() || theirs.is_empty() {
-        let line = |side: usize| {
-            Some(show::record_line(
-                &cuts[side],
-                &records[side],
-                &cuts[side].stops(),
-            ))
-        };
-        return vec![alone(key, line(0), line(1))];
+    let sides = [0, 1].map(|side| shown(&cuts[side], &records[side]));
+    if sides.iter().any(Vec::is_empty) {
+        let line = |k: usize| show::record_line(&cuts[k], &records[k], &cuts[k].stops());
+        return vec![alone(key, Some(line(0)), Some(line(1)))];
     }
-    let mut names: Vec<&'static str> = ours.iter().map(|f| f.0).collect();
-    names.extend(
-        theirs
-            .iter()
-            .map(|f| f.0)
-            .filter(|name| !ours.iter().any(|f| f.0 == *name)),
-    );
-    let of = |list: &[(&str, String)], name: &str| {
-        let found = list.iter().find(|field| field.0 == name);
+    let mut names: Vec<&'static str> = sides[0].iter().map(|field| field.0).collect();
+    let more = sides[1].iter().map(|field| field.0);
+    names.extend(more.filter(|name| !sides[0].iter().any(|field| field.0 == *name)));
+    let of = |side: usize, name: &str| {
+        let found = sides[side].iter().find(|field| field.0 == name);
         found.map(|field| field.1.clone())
     };
     let difference = |name: &'static str| Difference {
         what: "record",
         of: key.into(),
         field: name,
-        sides: [of(&ours, name), of(&theirs, name)],
+        sides: [of(0, name), of(1, name)],
     };
     let differences = names.into_iter().map(difference);
     differences.filter(|d| d.sides[0] != d.sides[1]).collect()
@@ -403,33 +394,32 @@ impl Comparison<'_> {
         [heading].into_iter().chain(rows).collect()
     }
 
-    fn json(&self) -> Json {
-        let side = |k: usize| {
-            let (matrix, refusal) = match &self.passes[k] {
-                Ok(matrix) => (Some(matrix), None),
-                Err(refusal) => (None, Some(refusal)),
-            };
-            let status = if matrix.is_some() {
-                "accepted"
-            } else {
-                "refused"
-            };
-            let mut entries = vec![
-                ("file", Json::text(&*self.sources[k].file)),
-                ("status", status.into()),
-                ("refusal", refusal.map(|r| r.number).into()),
-                ("offset", refusal.map(|r| r.offset as usize).into()),
-            ];
-            for (n, (key, _)) in NUMBERS.into_iter().enumerate() {
-                let number = matrix.map(|matrix| numbers(matrix)[n]);
-                let json = match key {
-                    "total" => number.map(big).into(),
-                    _ => number.map(|number| number as usize).into(),
-                };
-                entries.push((key, json));
-            }
-            Json::object(entries)
+    /// A sheet and the numbers of its pass.
+    fn side(&self, k: usize) -> Json {
+        let (matrix, refusal) = (self.passes[k].as_ref().ok(), self.passes[k].as_ref().err());
+        let status = if matrix.is_some() {
+            "accepted"
+        } else {
+            "refused"
         };
+        let mut entries = vec![
+            ("file", Json::text(&*self.sources[k].file)),
+            ("status", status.into()),
+            ("refusal", refusal.map(|r| r.number).into()),
+            ("offset", refusal.map(|r| r.offset as usize).into()),
+        ];
+        for (n, (key, _)) in NUMBERS.into_iter().enumerate() {
+            let number = matrix.map(|matrix| numbers(matrix)[n]);
+            let json = match key {
+                "total" => number.map(big).into(),
+                _ => number.map(|number| number as usize).into(),
+            };
+            entries.push((key, json));
+        }
+        Json::object(entries)
+    }
+
+    fn json(&self) -> Json {
         let difference = |d: &Difference| {
             Json::object([
                 ("what", d.what.into()),
@@ -440,8 +430,8 @@ impl Comparison<'_> {
             ])
         };
         Json::object([
-            ("first", side(0)),
-            ("second", side(1)),
+            ("first", self.side(0)),
+            ("second", self.side(1)),
             ("same_bits", self.is_same().into()),
             (
                 "differences",
