@@ -104,6 +104,12 @@ b/lobby.txt: cars 2 stops 2 total 800000 held 0
     let one = run(&["pass", b], b"");
     assert_eq!(text(&one.stdout), text(&example("document_01.pass")));
     assert_eq!((text(&one.stderr), code(&one)), (String::new(), Some(0)));
+    // One object has no summary either.
+    let object = run(&["pass", b, "--json"], b"");
+    assert_eq!(
+        (text(&object.stderr), code(&object)),
+        (String::new(), Some(0))
+    );
     let line = run(&["pass", b, "--lines"], b"");
     let said = "b.sheet: cars 2 stops 2 total 10000000 held 0\n";
     assert_eq!(
