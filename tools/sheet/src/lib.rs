@@ -2,7 +2,9 @@
 //! proved library refuses one, `draw` draws a sheet and its pass. `fields` is the one table of the
 //! format that they read. `store` writes and shows stores of weights, `weights` looks a day's weights up.
 //! `grades` reads what a site sent to be graded, `grade` says what came of it. `ramps` reads the rates of a run
-//! from a command line, `travel` has the seconds that it takes.
+//! from a command line, `travel` has the seconds that it takes. `compare` says what differs in two sheets and their passes,
+//! `proved` what is proved of these together, `raise` passes a sheet under every limit, `matrix` prints its cells. `many` works
+//! on many files, `report` says of each what a line, an object of JSON (`json`) or a row (`csv`) has.
 //! Verdicts, passes, weights, grades and seconds come from the crate dispatch-bench, with the feature `pass`.
 
 pub mod args;

@@ -238,6 +238,8 @@ fn limits_are_raised() {
         "tests/compared/raise_office.csv",
         &text(&run(&["raise", office, "--csv"], b"").stdout),
     );
+    let plot = text(&run(&["raise", office, "-"], b"").stdout);
+    stored_as("examples/limits/office.svg", &plot);
     let json = text(&run(&["raise", bars, "--json"], b"").stdout);
     is_json(&json);
     let steps = "\"cars\":2,\"own_limit\":1,\"agreed\":2,\"settled\":2,\"steps\":[{\"limit\":1,\"total\":\"281474978710656\",\"sent\":1,\"ranked\":2,\"changed\":null,\"unlike_none\":2},{\"limit\":2,\"total\":\"10000000\",\"sent\":2,\"ranked\":4,\"changed\":2,\"unlike_none\":0},{\"limit\":null,\"total\":\"10000000\",\"sent\":2,\"ranked\":4,\"changed\":0,\"unlike_none\":0}]}\n";
