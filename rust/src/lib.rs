@@ -55,6 +55,9 @@ pub const CEILING: u64 = SENTINEL - 1;
 /// The number of the interface that this crate is written for: DISPATCH_BENCH_VERSION of include/dispatch_bench.h. 2 since a pass answers `held`.
 pub const VERSION: u32 = 2;
 
+/// The SHA-256 of the archive that was linked, libdispatch_bench.a, in hexadecimal digits: the line `library` of the built-from beside it.
+pub const LIBRARY_SHA256: &str = env!("LIBRARY_SHA256");
+
 /// The most cars of a matrix.
 const MOST_CARS: usize = 32;
 

@@ -7,9 +7,15 @@ use sheetgen::Sheet;
 use crate::cut::{Cut, Record};
 use crate::faults;
 use crate::fields::KINDS;
+use crate::foreign::Foreign;
+use crate::mend::{self, Also, End, Further};
+use crate::names::Names;
 use crate::numbers::grouped;
 use crate::show::number_of;
-use crate::{remedies, show, text};
+use crate::source::Source;
+use crate::usage::capital;
+use crate::warnings::{self, Warning};
+use crate::{remedies, repair, rules, show};
 
 /// A refusal in words.
 pub struct Reason {
@@ -23,28 +29,149 @@ pub struct Reason {
     pub remedy: String,
 }
 
-/// The most characters of a record's line in `explain`, with fields and without; `show` prints all of them.
-const TEXT: usize = 480;
-const RAW_TEXT: usize = 120;
+/// The lines of `sheet explain` for the bytes of a sheet.
+pub fn explain(bytes: &[u8]) -> String {
+    of(&Source::of_sheet(bytes.to_vec()))
+}
 
 /// The lines of `sheet explain`.
-pub fn explain(bytes: &[u8]) -> String {
-    let cut = Cut::new(bytes);
-    let Err(refusal) = dispatch_bench::read(bytes) else {
-        return accepted(&cut);
+pub fn of(source: &Source) -> String {
+    let cut = Cut::new(&source.bytes);
+    let Err(refusal) = dispatch_bench::read(&source.bytes) else {
+        return accepted(&cut) + &warned(source, &cut, &[]);
     };
     let Refusal { number, offset } = refusal;
-    let reason = reason(&cut, refusal);
-    let mut lines = format!("refused {number} at {offset}\n{}\n", reason.sentence);
+    let reason = named_reason(&cut, refusal, &source.names);
+    let before = before(source, &cut, refusal);
+    let mut lines = format!(
+        "refused {number} at {offset}\n{before}{}\n",
+        reason.sentence
+    );
     lines += &format!("rule {number}: {}\n", refusal.rule());
-    lines += &format!("to do: {}\n", reason.remedy);
-    if let Some(record) = reason.record {
-        lines += &as_text(&cut, &record);
+    if let Some(Foreign { is, to_do }) = source.foreign {
+        let to_do = capital(&to_do.replace("FILE", &source.shell_name()));
+        return lines + &format!("file: This is {is}, and no sheet.\nto do: {to_do}.\n");
     }
-    if text::is_text(bytes) {
-        lines += &format!("hint: {}\n", text::HINT);
+    // A text is no file that a carrier changed.
+    let remedy = match source.places {
+        Some(_) => reason.remedy.trim_end_matches(rules::CHANGED).trim_end(),
+        None => &reason.remedy,
+    };
+    lines += &format!("to do: {remedy}\n");
+    lines += &repair::lines(source, &cut, &reason, refusal);
+    lines += &carried(source);
+    let further = mend::further(&cut);
+    lines += &also(source, &cut, &further);
+    if further.end == End::Accepted {
+        let others = further.also.iter();
+        let others = others.filter_map(|o| Some((o.record?.at, o.fault.as_ref()?.field)));
+        let first = reason.record.map(|record| record.at).zip(reason.field);
+        lines += &warned(source, &cut, &others.chain(first).collect::<Vec<_>>());
     }
     lines
+}
+
+/// A hint, where the bytes look as those of a sheet that was carried as a text.
+fn carried(source: &Source) -> String {
+    let bytes = &source.bytes;
+    let feeds = bytes.iter().filter(|b| **b == b'\n').count();
+    let ends = bytes.windows(2).filter(|pair| pair == b"\r\n").count();
+    let says = if source.places.is_some() {
+        return String::new();
+    } else if feeds >= 2 && feeds == ends {
+        "Each byte 0a of the file stands behind a 0d, as where a carrier changed line ends"
+    } else if !bytes.is_ascii() && std::str::from_utf8(bytes).is_ok() {
+        "The bytes above 7f are those of UTF-8, as where a carrier recoded a file"
+    } else {
+        return String::new();
+    };
+    format!("hint: {says}: fetch it again, in binary.\n")
+}
+
+/// The faults that would be refused once the ones before them are mended, and how they were found.
+fn also(source: &Source, cut: &Cut, further: &Further) -> String {
+    let line = |also: &Also| {
+        let number = also.number;
+        let at = also.record.map_or(cut.end, |record| record.at);
+        let before = source.before(Some(at));
+        let Some(record) = also.record else {
+            let offset = at as u64;
+            let reason = reason(cut, Refusal { number, offset });
+            return format!("also {number}: {before}{}\n", reason.sentence);
+        };
+        let place = place(cut, &record, &source.names);
+        let fault = also.fault.as_ref();
+        let says = fault.map_or("see the rule", |fault| &fault.says);
+        let to_do = remedies::short(cut, &record, number, fault.map_or("", |f| f.field));
+        format!("also {number}: {before}{place}: {says}. To do: {to_do}\n")
+    };
+    let lines: String = further.also.iter().map(line).collect();
+    let found = match (further.end, further.also.len()) {
+        (End::Accepted, 0) => {
+            "In a copy this fault was mended, and the bench accepts the copy: there is no other one."
+        }
+        (End::Accepted, _) => {
+            "In a copy these faults were mended one after the other; the bench named each line `also`, and accepts the copy with all of them mended."
+        }
+        (End::More, _) => {
+            "In a copy these faults were mended one after the other; the bench named each line `also`. There are more: mend these first."
+        }
+        (End::Untold, 0) => {
+            "Nothing: records that follow cannot be told apart, or are not there, so no further fault can be named."
+        }
+        (End::Untold, _) => {
+            "In a copy these faults were mended one after the other; the bench named each line `also`. What follows the last one cannot be told apart, or is not there, so no further fault can be named."
+        }
+    };
+    lines + &format!("mended: {found}\n")
+}
+
+/// The most lines of warnings.
+const WARNINGS: usize = 20;
+
+/// What is allowed and hardly meant, but for the fields, by their records' offsets, that are named already.
+fn warned(source: &Source, cut: &Cut, named: &[(usize, &str)]) -> String {
+    let mut warnings = warnings::find(cut);
+    warnings.retain(|warning| !named.contains(&(warning.record.at, warning.field)));
+    let line = |warning: &Warning| {
+        let before = source.before(Some(warning.record.at));
+        let place = place(cut, &warning.record, &source.names);
+        format!("warning: {before}{place}: {}.\n", warning.says(cut))
+    };
+    let mut lines: String = warnings.iter().take(WARNINGS).map(line).collect();
+    if warnings.len() > WARNINGS {
+        let more = number_of(warnings.len() - WARNINGS, "more warning");
+        lines += &format!("warning: There are {more} like these.\n");
+    }
+    lines
+}
+
+/// `FILE:LINE: ` of what is refused, where the sheet was a text.
+fn before(source: &Source, cut: &Cut, refusal: Refusal) -> String {
+    let is_empty = cut.head.is_some_and(|head| head.count == 0);
+    let bit = (!is_empty).then_some(refusal.offset as usize);
+    source.before(bit)
+}
+
+/// What `pass` and `draw` say beside what they print: the line where a text is refused, or what a file is that is no sheet.
+pub fn beside(source: &Source) -> Option<String> {
+    let sentence = sentence(source)?;
+    match source.foreign {
+        Some(foreign) => Some(foreign.named(&source.file)),
+        None => {
+            source.places.as_ref()?;
+            Some(format!("{sentence} `sheet explain` says what to do."))
+        }
+    }
+}
+
+/// The sentence of a refusal, with the line and the names of its text.
+pub fn sentence(source: &Source) -> Option<String> {
+    let refusal = dispatch_bench::read(&source.bytes).err()?;
+    let cut = Cut::new(&source.bytes);
+    let before = before(source, &cut, refusal);
+    let reason = named_reason(&cut, refusal, &source.names);
+    Some(format!("{before}{}", reason.sentence))
 }
 
 /// An accepted sheet, and what to ask where a host does not accept it.
@@ -107,34 +234,13 @@ fn weighs_loads(cut: &Cut, policy: &Record) -> bool {
     load.is_some_and(|load| load > 0.0)
 }
 
-/// The record's line of text, and how to put it right there; bits without fields are nothing to edit where they are many.
-fn as_text(cut: &Cut, record: &Record) -> String {
-    let whole = show::record_line(cut, record, &cut.stops());
-    let most = if record.has_fields() { TEXT } else { RAW_TEXT };
-    let text = cropped(&whole, most);
-    if text != whole && !record.has_fields() {
-        return format!("text: {text}\n");
-    }
-    let line = grouped(show::line_number(cut, record) as u64);
-    format!(
-        "text: {text}\nrepair: If the file is as its writer wrote it: `sheet show FILE >a.txt`, put right line {line} of a.txt, which is this record, `sheet write a.txt FILE`.\n"
-    )
-}
-
-/// A line, or how it begins.
-fn cropped(line: &str, most: usize) -> String {
-    match line.char_indices().nth(most) {
-        Some((end, _)) => {
-            let all = grouped(line.chars().count() as u64);
-            let start = &line[..end];
-            format!("{start}.. ({all} characters, `sheet show` prints them)")
-        }
-        None => line.into(),
-    }
-}
-
 /// Why a sheet was refused.
 pub fn reason(cut: &Cut, refusal: Refusal) -> Reason {
+    named_reason(cut, refusal, &Names::default())
+}
+
+/// The same, with the names that a text gives.
+fn named_reason(cut: &Cut, refusal: Refusal, names: &Names) -> Reason {
     let number = refusal.number;
     let at = usize::try_from(refusal.offset).unwrap_or(usize::MAX);
     let whole = |sentence: String| Reason {
@@ -153,7 +259,7 @@ pub fn reason(cut: &Cut, refusal: Refusal) -> Reason {
     let Some(record) = cut.records.iter().find(|record| record.at == at) else {
         return whole(format!("The refusal is at {}.", bit_and_byte(at)));
     };
-    let place = place(cut, record);
+    let place = place(cut, record, names);
     let fault = faults::find(cut, record, number);
     let says = fault.as_ref().map_or("see the rule", |fault| &fault.says);
     let field = fault.as_ref().map(|fault| fault.field);
@@ -181,8 +287,8 @@ fn no_record(at: usize) -> Reason {
     }
 }
 
-/// `Car record 2 (id 8, bit 1,723; byte 215, bit 3)`.
-fn place(cut: &Cut, record: &Record) -> String {
+/// `Car record 2 (id 8, bit 1,723; byte 215, bit 3)`; a name stands behind the id.
+fn place(cut: &Cut, record: &Record, names: &Names) -> String {
     let earlier = cut.records.iter().take_while(|other| other.at < record.at);
     let nth = 1 + earlier
         .clone()
@@ -197,9 +303,11 @@ fn place(cut: &Cut, record: &Record) -> String {
             grouped(1 + earlier.count() as u64)
         ),
     };
-    let id = cut
-        .named(record, "id")
-        .map_or(String::new(), |id| format!("id {id}, "));
+    let id = cut.named(record, "id").map_or(String::new(), |id| {
+        let name = names.of(record.kind, id as u32);
+        let name = name.map_or(String::new(), |name| format!(" \"{name}\""));
+        format!("id {id}{name}, ")
+    });
     format!("{place} ({id}{})", bit_and_byte(record.at))
 }
 
@@ -207,11 +315,6 @@ fn place(cut: &Cut, record: &Record) -> String {
 pub fn bit_and_byte(at: usize) -> String {
     let (bit, byte) = (grouped(at as u64), grouped(at as u64 / 8));
     format!("bit {bit}; byte {byte}, bit {}", at % 8)
-}
-
-fn capital(word: &str) -> String {
-    let (first, others) = word.split_at(1);
-    first.to_uppercase() + others
 }
 
 fn passes_the_end(cut: &Cut, at: usize) -> String {
@@ -229,7 +332,7 @@ fn passes_the_end(cut: &Cut, at: usize) -> String {
             )
         }
         Some(stated) => {
-            let place = place(cut, &stated);
+            let place = place(cut, &stated, &Names::default());
             let [length, left] = [stated.length, left - 22].map(|bits| grouped(bits as u64));
             format!(
                 "{place}: length is {length}, but {left} bits are left after the record's 22; {whole}."

@@ -13,6 +13,7 @@ use crate::value::{self, Value};
 const IDS_IN_A_LIST: usize = 16;
 
 /// What a refusal is about.
+#[derive(Clone)]
 pub struct Fault {
     /// The field's name; kind and length stand in front of the body.
     pub field: &'static str,
@@ -173,17 +174,22 @@ fn missing(cut: &Cut, record: &Record, field: &Field, held: Value) -> Option<Str
                 .take_while(|other| other.at < record.at)
                 .count();
             let past = (stops..64).find(|k| held.bits >> (63 - k) & 1 == 1)?;
-            let (nth, stops) = (past + 1, number_of(stops, "stop record"));
-            Some(format!(
-                "{name} has a one bit for stop record {nth}, but the sheet has {stops} before it"
-            ))
+            let (nth, before) = (past + 1, number_of(stops, "stop record"));
+            Some(match past < cut.of_kind(2).count() {
+                true => format!(
+                    "{name} has a one bit for stop record {nth}, but that stop comes after it"
+                ),
+                false => format!(
+                    "{name} has a one bit for stop record {nth}, but the sheet has {before} before it"
+                ),
+            })
         }
         _ => None,
     }
 }
 
 /// 10: no record of the kind, in front of the one that names it, has the id.
-fn unnamed(cut: &Cut, name: &str, kind: usize, id: u64) -> String {
+pub fn unnamed(cut: &Cut, name: &str, kind: usize, id: u64) -> String {
     let noun = KINDS[kind];
     let ids = cut.ids(kind);
     if ids.contains(&id) {
@@ -213,16 +219,14 @@ pub fn outside(field: &Field, held: Value) -> Option<String> {
         return None;
     };
     let value = f64::from_bits(held.bits);
-    let (inside, words) = match range {
-        Range::Position => (within(value, -1e6, 1e6), "-1,000,000 to 1,000,000"),
-        Range::Speed => {
-            let inside = value == 0.0 || within(value, 1.0 / 1_024.0, 1e3);
-            (inside, "0, or 1/1,024 to 1,000")
-        }
-        Range::Amount => (within(value, 0.0, 1e9), "0 to 1,000,000,000"),
-        Range::Threshold => (within(value, 0.0, 1e3), "0 to 1,000"),
-        Range::TickRate => (within(value, 1.0, 1e6), "1 to 1,000,000"),
+    let inside = match range {
+        Range::Position => within(value, -1e6, 1e6),
+        Range::Speed => value == 0.0 || within(value, 1.0 / 1_024.0, 1e3),
+        Range::Amount => within(value, 0.0, 1e9),
+        Range::Threshold => within(value, 0.0, 1e3),
+        Range::TickRate => within(value, 1.0, 1e6),
     };
+    let words = range.words();
     let shown = value::show_double(held.bits);
     let shown = if value.is_nan() {
         format!("not a number ({shown})")

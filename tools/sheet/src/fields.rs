@@ -23,6 +23,18 @@ pub enum Range {
     TickRate,
 }
 
+impl Range {
+    pub const fn words(self) -> &'static str {
+        match self {
+            Range::Position => "-1,000,000 to 1,000,000",
+            Range::Speed => "0, or 1/1,024 to 1,000",
+            Range::Amount => "0 to 1,000,000,000",
+            Range::Threshold => "0 to 1,000",
+            Range::TickRate => "1 to 1,000,000",
+        }
+    }
+}
+
 #[derive(Clone, Copy, PartialEq, Eq)]
 pub enum Form {
     /// A whole number of so many bits.
@@ -298,6 +310,28 @@ pub fn fields(edition: u64, kind: usize) -> &'static [Field] {
         8 => &CLOSED,
         _ => &[],
     }
+}
+
+/// The ranges, each with the names of the doubles that have it, a name once.
+pub fn doubles() -> Vec<(Range, Vec<&'static str>)> {
+    let policies = (0..3).flat_map(policy_fields);
+    let fields = policies.chain((2..KINDS.len()).flat_map(|kind| fields(2, kind)));
+    let mut ranges: Vec<(Range, Vec<&str>)> = Vec::new();
+    for field in fields {
+        let Form::Double(range) = field.form else {
+            continue;
+        };
+        // An unused weight has no range: it is zeros.
+        if field.absence == Absence::Unused {
+            continue;
+        }
+        match ranges.iter_mut().find(|found| found.0 == range) {
+            Some(found) if found.1.contains(&field.name) => {}
+            Some(found) => found.1.push(field.name),
+            None => ranges.push((range, vec![field.name])),
+        }
+    }
+    ranges
 }
 
 #[cfg(test)]

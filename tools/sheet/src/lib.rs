@@ -2,9 +2,16 @@
 //! proved library refuses one, `draw` draws a sheet and its pass. `fields` is the one table of the
 //! format that they read. `store` writes and shows stores of weights, `weights` looks a day's weights up.
 //! `grades` reads what a site sent to be graded, `grade` says what came of it. `ramps` reads the rates of a run
-//! from a command line, `travel` has the seconds that it takes.
+//! from a command line, `travel` has the seconds that it takes. `compare` says what differs in two sheets and their passes,
+//! `proved` what is proved of these together, `raise` passes a sheet under every limit, `matrix` prints its cells. `many` works
+//! on many files, `report` says of each what a line, an object of JSON (`json`) or a row (`csv`) has.
 //! Verdicts, passes, weights, grades and seconds come from the crate dispatch-bench, with the feature `pass`.
 
+pub mod args;
+#[cfg(feature = "pass")]
+pub mod compare;
+pub mod completions;
+pub mod csv;
 pub mod cut;
 #[cfg(feature = "pass")]
 pub mod draw;
@@ -13,24 +20,46 @@ pub mod explain;
 #[cfg(feature = "pass")]
 mod faults;
 pub mod fields;
+pub mod files;
+pub mod foreign;
 #[cfg(feature = "pass")]
 pub mod grade;
 pub mod grades;
+pub mod json;
 pub mod line;
+pub mod man;
+pub mod many;
+#[cfg(feature = "pass")]
+pub mod matrix;
+#[cfg(feature = "pass")]
+mod mend;
 pub mod names;
 pub mod near;
 mod numbers;
+#[cfg(feature = "pass")]
+pub mod proved;
+#[cfg(feature = "pass")]
+pub mod raise;
 pub mod ramps;
 #[cfg(feature = "pass")]
 mod remedies;
+#[cfg(feature = "pass")]
+mod repair;
+#[cfg(feature = "pass")]
+pub mod report;
+pub mod rule;
 // The table of refusals is that of the crate dispatch-bench; `rule` needs it without the library too.
 #[path = "../../../rust/src/rules.rs"]
 pub mod rules;
 pub mod show;
+pub mod source;
 pub mod store;
 pub mod text;
 #[cfg(feature = "pass")]
 pub mod travel;
+pub mod usage;
 pub mod value;
+#[cfg(feature = "pass")]
+mod warnings;
 #[cfg(feature = "pass")]
 pub mod weights;

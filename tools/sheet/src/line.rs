@@ -23,45 +23,72 @@ struct Pair<'t> {
 pub struct Line<'t> {
     pub number: usize,
     pub word: &'t str,
+    /// `default` follows the word: what it says holds for later lines.
+    pub is_default: bool,
     column: usize,
     pairs: Vec<Pair<'t>>,
+    /// Some part of it is no field, so that a field may seem to be missing that is not.
+    is_broken: bool,
 }
 
 impl<'t> Line<'t> {
-    /// The line without its comment; `None` where nothing is left.
-    fn new(number: usize, text: &'t str) -> Option<Result<Self, Fault>> {
-        let said = text.split('#').next().unwrap_or("");
-        let mut words = said.split_whitespace();
-        let word = words.next()?;
+    /// The line without its comment, and what is wrong with its parts; `None` where nothing is left.
+    fn new(number: usize, text: &'t str) -> Option<(Self, Vec<Fault>)> {
+        let mut parts = parts(text).into_iter().peekable();
+        let word = parts.next()?;
         let mut line = Self {
             number,
             word,
+            is_default: parts.next_if_eq(&"default").is_some(),
             column: column(text, word),
             pairs: Vec::new(),
+            is_broken: false,
         };
-        for part in words {
+        let mut faults = Vec::new();
+        while let Some(part) = parts.next() {
             let column = column(text, part);
-            let what = match part.split_once('=') {
-                None => format!("\"{part}\": expected FIELD=VALUE, without blanks"),
-                Some((name, _)) if line.get(name).is_some() => {
-                    format!("{name}: expected once, found twice")
-                }
-                Some((name, value)) => {
-                    line.pairs.push(Pair {
-                        name,
-                        value,
+            // Blanks around `=` are one fault.
+            let has_sign = !part.contains('=') && parts.peek().is_some_and(|p| p.starts_with('='));
+            if has_sign && parts.next() == Some("=") {
+                parts.next();
+            }
+            match line.field(part, column) {
+                Ok(pair) => line.pairs.push(pair),
+                Err(what) => {
+                    line.is_broken = true;
+                    faults.push(Fault {
+                        line: number,
                         column,
+                        what,
                     });
-                    continue;
                 }
-            };
-            return Some(Err(Fault {
-                line: number,
-                column,
-                what,
-            }));
+            }
         }
-        Some(Ok(line))
+        Some((line, faults))
+    }
+
+    /// FIELD=VALUE or FIELD="VALUE", of a field that the line does not have yet.
+    fn field(&self, part: &'t str, column: usize) -> Result<Pair<'t>, String> {
+        let Some((name, value)) = part.split_once('=') else {
+            return Err(format!("\"{part}\": expected FIELD=VALUE, without blanks"));
+        };
+        if self.get(name).is_some() {
+            return Err(format!("{name}: expected once, found twice"));
+        }
+        let value = match value.strip_prefix('"') {
+            None => value,
+            Some(quoted) => {
+                let inside = quoted.strip_suffix('"').filter(|v| !v.contains('"'));
+                inside.ok_or_else(|| {
+                    format!("{name}: expected a value between two \", then a blank, found {value}")
+                })?
+            }
+        };
+        Ok(Pair {
+            name,
+            value,
+            column,
+        })
     }
 
     fn pair(&self, name: &str) -> Option<&Pair<'t>> {
@@ -95,19 +122,40 @@ impl<'t> Line<'t> {
         self.fault_in(field.name, &format!("is missing; expected {expected}"))
     }
 
+    /// The fields that are none of these.
+    fn others(&self, names: &[&str]) -> Vec<&'t str> {
+        let fields = self.pairs.iter().map(|pair| pair.name);
+        fields.filter(|name| !names.contains(name)).collect()
+    }
+
+    /// Every field but these is a fault, which may be named elsewhere.
+    pub fn beside(&self, names: &[&str], elsewhere: &[&str]) -> Vec<Fault> {
+        let fault = |name: &str| {
+            let (word, list) = (self.word, names.join(", "));
+            let expected = match nearest(name, names) {
+                Some(near) => format!("did you mean {near}? Its fields are {list}"),
+                None => format!("expected {list}"),
+            };
+            self.fault_in(name, &format!("{word} has no such field; {expected}"))
+        };
+        let others = self.others(names).into_iter();
+        let others = others.filter(|name| !elsewhere.contains(name));
+        others.map(fault).collect()
+    }
+
     /// No field but these.
     pub fn only(&self, names: &[&str]) -> Result<(), Fault> {
-        match self.pairs.iter().find(|pair| !names.contains(&pair.name)) {
+        match self.beside(names, &[]).into_iter().next() {
             None => Ok(()),
-            Some(Pair { name, .. }) => {
-                let (word, list) = (self.word, names.join(", "));
-                let expected = match nearest(name, names) {
-                    Some(near) => format!("did you mean {near}? Its fields are {list}"),
-                    None => format!("expected {list}"),
-                };
-                Err(self.fault_in(name, &format!("{word} has no such field; {expected}")))
-            }
+            Some(fault) => Err(fault),
         }
+    }
+
+    /// A field may be meant by a part of the line that cannot be read, or by a misspelt name.
+    pub fn may_mean(&self, field: &str, names: &[&str]) -> bool {
+        let others = self.others(names);
+        let mut meant = others.iter().filter_map(|name| nearest(name, names));
+        self.is_broken || meant.any(|name| name == field)
     }
 
     /// A whole number of so many bits; `None` where the field is left out.
@@ -143,30 +191,61 @@ pub struct Word<'t> {
     pub column: usize,
 }
 
+/// The parts of a line with blanks between them, without its comment. Blanks and `#` between two `"` belong to the part.
+fn parts(text: &str) -> Vec<&str> {
+    let (mut parts, mut from) = (Vec::new(), None);
+    let (mut is_quoted, mut before) = (false, ' ');
+    for (at, c) in text.char_indices() {
+        match (c, is_quoted) {
+            ('"', true) => is_quoted = false,
+            ('"', false) => is_quoted = before == '=',
+            (_, true) => {}
+            (c, false) if c == '#' || c.is_whitespace() => {
+                parts.extend(from.take().map(|from| &text[from..at]));
+                if c == '#' {
+                    return parts;
+                }
+                before = c;
+                continue;
+            }
+            _ => {}
+        }
+        from = from.or(Some(at));
+        before = c;
+    }
+    parts.extend(from.map(|from| &text[from..]));
+    parts
+}
+
+/// The lines of a text, which end with LF, CR and LF, or CR.
+fn each(text: &str) -> impl Iterator<Item = (usize, &str)> {
+    let lines = text.lines().flat_map(|line| line.split('\r'));
+    lines.enumerate().map(|(index, line)| (index + 1, line))
+}
+
 /// The words of the lines that say something, without their comments, each with the line's number.
 pub fn words(text: &str) -> Vec<(usize, Vec<Word<'_>>)> {
-    let of_line = |(index, text)| {
+    let of_line = |(number, text)| {
         let said = str::split(text, '#').next().unwrap_or("");
         let words = said.split_whitespace();
         let word = |word| Word {
             text: word,
             column: column(text, word),
         };
-        (index + 1, words.map(word).collect())
+        (number, words.map(word).collect())
     };
-    let all = text.lines().enumerate().map(of_line);
+    let all = each(text).map(of_line);
     all.filter(|line: &(usize, Vec<_>)| !line.1.is_empty())
         .collect()
 }
 
-/// The lines that say something, and those that cannot be read.
+/// The lines that say something, and what is wrong with their parts.
 pub fn lines(text: &str) -> (Vec<Line<'_>>, Vec<Fault>) {
     let (mut lines, mut faults) = (Vec::new(), Vec::new());
-    for (index, text) in text.lines().enumerate() {
-        match Line::new(index + 1, text) {
-            None => {}
-            Some(Ok(line)) => lines.push(line),
-            Some(Err(fault)) => faults.push(fault),
+    for (number, text) in each(text) {
+        if let Some((line, wrong)) = Line::new(number, text) {
+            lines.push(line);
+            faults.extend(wrong);
         }
     }
     (lines, faults)
@@ -195,7 +274,7 @@ mod tests {
     fn columns() {
         let (lines, faults) =
             lines("stop id=1\n\t caf\u{e9}  id=1\tposition=2 # c=d\n a b=1 b=2\n");
-        assert_eq!(lines.len(), 2);
+        assert_eq!(lines.len(), 3);
         let at = |name: &str| lines[1].fault_in(name, "").column;
         assert_eq!(
             (lines[1].number, at("none"), at("id"), at("position")),

@@ -20,6 +20,14 @@ pub fn instead(number: u32, words: &str) -> String {
     }
 }
 
+/// What to do about a fault, without what is said of a file that was changed on its way.
+pub fn short(cut: &Cut, record: &Record, number: u32, name: &str) -> String {
+    let of_rule = || rules::rule(number).map_or("", |rule| rule.remedy);
+    let found = find(cut, record, number, name);
+    let words = found.unwrap_or_else(|| of_rule().into());
+    words.trim_end_matches(rules::CHANGED).trim_end().into()
+}
+
 /// `None` where the rule's own words fit.
 pub fn find(cut: &Cut, record: &Record, number: u32, name: &str) -> Option<String> {
     let fields = cut.fields(record);
@@ -133,7 +141,11 @@ fn id(record: &Record, field: &Field, held: Value) -> String {
 fn missing(cut: &Cut, record: &Record, field: &Field, held: Value) -> Option<String> {
     let name = field.name;
     let Form::Id(Names::Record(kind)) = field.form else {
-        let words = || format!("Give {name}= stops that have a record: their ids, all, or none.");
+        let is_late = |stop: &Record| stop.at > record.at;
+        let words = || match cut.of_kind(2).any(is_late) {
+            true => "Put all stops in front of the lines and cars.".into(),
+            false => format!("Give {name}= stops that have a record: their ids, all, or none."),
+        };
         return (field.form == Form::Mask).then(words);
     };
     let (noun, id, ids) = (KINDS[kind], held.bits, cut.ids(kind));

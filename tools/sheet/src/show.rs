@@ -73,6 +73,8 @@ fn head(cut: &Cut) -> Option<String> {
     };
     let records = cut.records.len();
     match head.edition {
+        // A text without a record is none of a sheet where no line says so.
+        _ if records == 0 => {}
         1 if head.count == records => return None,
         2 if head.count == records => return Some("sheet edition=2".into()),
         _ => {}

@@ -99,19 +99,25 @@ pub fn write(text: &[u8]) -> Result<Vec<u8>, Vec<Fault>> {
         None => None,
     };
     for (index, line) in lines.iter().enumerate() {
+        let one = |fault: Fault| vec![fault];
         let written = match line.word {
+            word if line.is_default => Err(one(
+                line.fault(format!("{word} default: is no line of a store"))
+            )),
             "store" if index == 0 => Ok(()),
-            "store" => Err(line.fault("store: expected once, before every other line".into())),
-            _ if index > 0 && lines[index - 1].word == "rest" => {
-                Err(line.fault(format!("{}: expected above the line rest", line.word)))
-            }
+            "store" => Err(one(
+                line.fault("store: expected once, before every other line".into())
+            )),
+            _ if index > 0 && lines[index - 1].word == "rest" => Err(one(
+                line.fault(format!("{}: expected above the line rest", line.word))
+            )),
             "weight" => record(&mut writer, line, strategy),
-            "rest" => rest(&mut writer, line),
-            _ => Err(unknown(line)),
+            "rest" => rest(&mut writer, line).map_err(one),
+            _ => Err(one(unknown(line))),
         };
-        faults.extend(written.err());
+        faults.extend(written.err().into_iter().flatten());
     }
-    faults.sort_by_key(|fault| fault.line);
+    faults.sort_by_key(|fault| (fault.line, fault.column));
     if faults.is_empty() {
         Ok(writer.finish())
     } else {
@@ -132,29 +138,39 @@ fn head(line: &Line) -> Result<u64, Fault> {
     })
 }
 
-fn record(writer: &mut Writer, line: &Line, strategy: Option<u64>) -> Result<(), Fault> {
+/// Writes a record, or names every fault of its line.
+fn record(writer: &mut Writer, line: &Line, strategy: Option<u64>) -> Result<(), Vec<Fault>> {
     let fields = fields::store_fields(strategy);
-    line.only(&fields.each_ref().map(|field| field.name))?;
-    let mut values = Vec::new();
+    let names = fields.each_ref().map(|field| field.name);
+    let (mut values, mut faults) = (Vec::new(), line.beside(&names, &[]));
     for field in fields {
-        let text = line.get(field.name).ok_or_else(|| line.lacks(field))?;
-        let value = value::parse(field, text, &Stops(Vec::new()));
-        let value = value.map_err(|what| {
-            let by_name = field.name == "setting" && strategy.is_none();
-            let named = by_name && !text.starts_with(|c: char| c.is_ascii_digit());
-            let more = if named {
-                "; names need a first line such as store strategy=ETD"
-            } else {
-                ""
-            };
-            line.fault_in(field.name, &format!("{what}{more}"))
-        })?;
-        values.push((field, value));
+        match line.get(field.name) {
+            None if line.may_mean(field.name, &names) => {}
+            None => faults.push(line.lacks(field)),
+            Some(text) => match value::parse(field, text, &Stops(Vec::new())) {
+                Ok(value) => values.push((field, value)),
+                Err(what) => faults.push(wrong(line, field, text, &what, strategy)),
+            },
+        }
     }
     for (field, value) in values {
         value::put(writer, field, value);
     }
-    Ok(())
+    match faults.is_empty() {
+        true => Ok(()),
+        false => Err(faults),
+    }
+}
+
+/// A value that a field cannot have; a setting's name needs a strategy.
+fn wrong(line: &Line, field: &Field, text: &str, what: &str, strategy: Option<u64>) -> Fault {
+    let by_name = field.name == "setting" && strategy.is_none();
+    let named = by_name && !text.starts_with(|c: char| c.is_ascii_digit());
+    let more = match named {
+        true => "; names need a first line such as store strategy=ETD",
+        false => "",
+    };
+    line.fault_in(field.name, &format!("{what}{more}"))
 }
 
 /// The bytes of a record that is cut short.

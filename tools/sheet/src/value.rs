@@ -33,6 +33,17 @@ impl Stops {
         (same == 1).then_some(id)
     }
 
+    /// The bits of the stop records from one id to another, both of which must be there.
+    fn between(&self, first: u32, last: u32) -> Result<u64, String> {
+        if first > last {
+            return Err(format!("{first}-{last} runs down; write {last}-{first}"));
+        }
+        let mask = self.bit(first)? | self.bit(last)?;
+        let ids = self.0.iter().flatten();
+        let mut ids = ids.filter(|id| (first..=last).contains(id));
+        ids.try_fold(mask, |mask, id| Ok(mask | self.bit(*id)?))
+    }
+
     /// The bit of the stop record with this id.
     fn bit(&self, id: u32) -> Result<u64, String> {
         let mut found = (0..self.0.len()).filter(|k| self.0[*k] == Some(id));
@@ -226,10 +237,16 @@ fn mask(text: &str, stops: &Stops) -> Result<u64, String> {
     if text.starts_with("0x") {
         return sixteen(text).ok_or("these are not 16 hexadecimal digits".into());
     }
+    let id = |part: &str| match whole(part, 32) {
+        Some(id) => Ok(id as u32),
+        None => Err(format!("\"{part}\" is no id")),
+    };
     let mut mask = 0;
     for part in text.split(',') {
-        let id = whole(part, 32).ok_or(format!("\"{part}\" is no id"))?;
-        mask |= stops.bit(id as u32)?;
+        mask |= match part.split_once('-') {
+            Some((first, last)) => stops.between(id(first)?, id(last)?)?,
+            None => stops.bit(id(part)?)?,
+        };
     }
     Ok(mask)
 }
@@ -252,7 +269,7 @@ pub fn expected(field: &Field) -> String {
         }
         Form::Double(_) => DOUBLE.into(),
         Form::Mask => {
-            "all, stop ids with commas between them, or 0x and 16 hexadecimal digits".into()
+            "all, stop ids or ranges of them (1-12) with commas between, or 0x and 16 hexadecimal digits".into()
         }
     };
     match field.absence {

@@ -12,12 +12,12 @@ use crate::fields::{self, Absence, Form, STRATEGIES, WEIGHTS};
 use crate::numbers::{grouped, grouped_text};
 use crate::show::number_of;
 use crate::store::{self, Cut};
-use crate::{text, value};
+use crate::{files, text, value};
 
 /// The weights of a store in a file, or why there are none.
 pub fn of_file(path: &Path, day: u32) -> Result<[f64; 6], String> {
     let shown = path.display();
-    let bytes = std::fs::read(path).map_err(|error| format!("{shown}: {error}"))?;
+    let bytes = std::fs::read(path).map_err(|error| format!("{shown}: {}", files::why(&error)))?;
     dispatch_bench::weights(&bytes, day).map_err(|refusal| {
         let reason = reason(&Cut::new(&bytes), day, None, refusal);
         format!("{shown} for day {day}: {refusal} {reason}")

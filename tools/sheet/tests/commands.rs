@@ -14,13 +14,76 @@ fn help() {
     }
 }
 
+/// The line of the library: the SHA-256 of the archive that the crate in rust/ links.
+#[cfg(feature = "pass")]
+fn library() -> String {
+    let folders = match std::env::var_os("DISPATCH_BENCH_LIB") {
+        Some(folder) => vec![folder.into()],
+        None => vec![here("../../target/staticlib"), here("../../lib")],
+    };
+    let mut archives = folders.iter().map(|f| f.join("libdispatch_bench.a"));
+    let archive = archives.find(|archive| archive.is_file()).unwrap();
+    let sum = std::process::Command::new("sha256sum")
+        .arg(archive)
+        .output();
+    let sum = text(&sum.unwrap().stdout);
+    let interface = dispatch_bench::VERSION;
+    format!("library {}\ninterface {interface}\n", &sum[..64])
+}
+
+#[cfg(not(feature = "pass"))]
+fn library() -> String {
+    "library none\n".into()
+}
+
 #[test]
 fn version() {
-    let output = run(&["--version"], b"");
-    assert_eq!(output.status.code(), Some(0));
-    let said = format!("sheet {}\n", env!("CARGO_PKG_VERSION"));
-    assert_eq!(text(&output.stdout), said);
-    assert_eq!(text(&output.stderr), "");
+    for word in ["--version", "-V", "version"] {
+        let output = run(&[word], b"");
+        assert_eq!(output.status.code(), Some(0));
+        let said = format!("sheet {}\n{}", env!("CARGO_PKG_VERSION"), library());
+        assert_eq!(text(&output.stdout), said);
+        assert_eq!(text(&output.stderr), "");
+    }
+}
+
+/// What a command does is said after it, before it and among its words, and nothing is done.
+#[test]
+fn help_of_a_command() {
+    let said = "\
+usage: sheet draw SHEET [OUT] [--html OUT.html] [--fold] [RATES]
+Draw a sheet and its pass, or where it is refused, as SVG, or as a page for a browser (--html); with --fold lines
+without an idle-listed car are drawn as a strip.
+SHEET is a sheet, or a text that `write` takes: what is said of it then names the text's lines.
+  --html OUT.html      write a page for a browser, with the drawing, the lines of the pass and the matrix as a table
+  --fold               draw lines without an idle-listed car as a strip
+  --acceleration A     the rate at which a car speeds up; with it --deceleration must be there
+  --deceleration D     the rate at which a car slows down; with it --acceleration must be there
+  --speed V            the speed at the start of a run; 0 where it is not named
+example: sheet draw lobby.txt lobby.svg
+example: sheet draw lobby.sheet --html lobby.html
+example: sheet draw lobby.sheet lobby.svg --acceleration 1 --deceleration 1
+";
+    for args in [
+        &["draw", "--help"][..],
+        &["draw", "-h"],
+        &["help", "draw"],
+        &["draw", "/no/such/file", "--help"],
+    ] {
+        let output = run(args, b"");
+        assert_eq!(output.status.code(), Some(0), "{args:?}");
+        assert_eq!(text(&output.stdout), said, "{args:?}");
+    }
+    for args in [&["store", "--help"][..], &["help", "store"]] {
+        let said = text(&run(args, b"").stdout);
+        assert_eq!(said.matches("usage: sheet store ").count(), 4, "{said}");
+    }
+    for command in &sheet::usage::COMMANDS {
+        let words: Vec<&str> = command.name.split(' ').chain(["--help"]).collect();
+        let said = text(&run(&words, b"").stdout);
+        let usage = format!("usage: sheet {}\n", command.line());
+        assert!(said.starts_with(&usage), "{said}");
+    }
 }
 
 /// Nothing is done; what is wrong with the command line stands above the usage.
@@ -38,16 +101,21 @@ fn no_such_command() {
     has_no_meaning(&["draught", "a"], "\"draught\" is no command");
     let meant = "\"explane\" is no command; did you mean explain?";
     has_no_meaning(&["explane", "a"], meant);
+    has_no_meaning(&["help", "a"], "\"a\" is no command");
+    let option = "draw has no option --sped; did you mean --speed?";
+    has_no_meaning(&["draw", "a", "--sped", "1"], option);
+    has_no_meaning(&["show", "-x", "a"], "show has no option -x");
 }
+
+const GRADE: &str = " SHEET GRADES.txt [SHEET GRADES.txt ..] [OUTPUT]";
 
 #[test]
 fn too_few_or_too_many_words() {
     for (args, words, takes) in [
         (&["show"][..], "few", " SHEET"),
         (&["write"], "few", " IN.txt [OUT]"),
-        (&["explain", "a", "b"], "many", " SHEET"),
-        (&["pass", "a", "b"], "many", " SHEET [RATES]"),
-        (&["pass"], "few", " SHEET [RATES]"),
+        (&["explain"], "few", " SHEET [SHEET ..] [OUTPUT]"),
+        (&["pass"], "few", " SHEET [SHEET ..] [RATES] [OUTPUT]"),
         (
             &[
                 "pass",
@@ -59,16 +127,21 @@ fn too_few_or_too_many_words() {
                 "1",
             ],
             "few",
-            " SHEET [RATES]",
+            " SHEET [SHEET ..] [RATES] [OUTPUT]",
         ),
-        (&["grade", "a"], "few", " SHEET GRADES.txt"),
-        (&["grade", "a", "b", "c"], "many", " SHEET GRADES.txt"),
-        (&["draw", "a", "b", "c"], "many", " SHEET [OUT] [RATES]"),
+        (&["grade", "a"], "few", GRADE),
+        (&["grade", "a", "b", "c"], "few", GRADE),
+        (
+            &["draw", "a", "b", "c"],
+            "many",
+            " SHEET [OUT] [--html OUT.html] [--fold] [RATES]",
+        ),
         (&["example", "ETD", "RSR"], "many", " [STRATEGY|sideways]"),
         (&["rule", "1", "2"], "many", " [NUMBER]"),
-        (&["help", "a"], "many", ""),
+        (&["version", "a"], "many", ""),
         (&["--version", "a"], "many", ""),
         (&["store"], "few", " example|write|show|weights .."),
+        (&["show", "--", "-a", "b"], "many", " SHEET"),
     ] {
         let name = args[0];
         let why = format!("too {words} words after {name}: expected `sheet {name}{takes}`");
@@ -114,8 +187,14 @@ fn no_such_file() {
 #[cfg(not(feature = "pass"))]
 #[test]
 fn without_the_library() {
-    for command in ["explain", "draw", "pass"] {
-        let output = run(&[command, "-"], b"");
+    for args in [
+        &["explain", "-"][..],
+        &["draw", "-"],
+        &["pass", "-"],
+        &["pass", "-", "b"],
+        &["matrix", "-"],
+    ] {
+        let output = run(args, b"");
         assert_eq!(output.status.code(), Some(1));
         assert!(text(&output.stderr).contains("built without the proved library"));
         assert_eq!(text(&output.stdout), "");
@@ -148,7 +227,8 @@ fn texts_to_start_from() {
 #[test]
 fn rules() {
     let all = run(&["rule"], b"");
-    assert_eq!(text(&all.stdout).lines().count(), 2 * (16 + 4 + 7));
+    // Two lines each, 14 examples and 5 ranges.
+    assert_eq!(text(&all.stdout).lines().count(), 2 * (16 + 4 + 7) + 14 + 5);
     let one = run(&["rule", "1"], b"");
     assert!(text(&one.stdout).starts_with("rule 1: A buffer that the host lent"));
     for (number, sheet, store) in [
@@ -167,10 +247,9 @@ fn rules() {
             store,
             "{said}"
         );
-        assert_eq!(
-            said.lines().count(),
-            2 * (usize::from(sheet) + usize::from(store))
-        );
+        let examples = said.lines().filter(|line| line.starts_with("example: "));
+        let lines = 2 * (usize::from(sheet) + usize::from(store)) + examples.count();
+        assert_eq!(said.lines().count(), lines);
     }
     let given_no_more = text(&run(&["rule", "15"], b"").stdout);
     assert!(

@@ -37,38 +37,28 @@ fn explained_as_stored() {
     }
 }
 
-/// A text in a sheet's place: the refusal is that of its bytes, and a hint follows.
+/// A text in a sheet's place is taken for the sheet that it says; a refusal names its line.
 #[test]
-fn a_text_is_no_sheet() {
-    let lobby = here("examples/lobby.txt");
-    let explained = run(&["explain", lobby.to_str().unwrap()], b"");
-    let said = "\
-refused 3 at 0
-Head (bit 0): edition is 35, but this bench reads editions 1 and 2.
-rule 3: The edition in the first 8 bits is not 1 or 2.
-to do: Have the sheet written as edition 1 or 2, or take a bench that reads its edition. The file may also be no sheet at all, or not the right one. If the writer is not at fault, the file may have been changed on its way: fetch it again, in binary.
-hint: If this is a sheet's text, `sheet write` turns it into a sheet.
-";
-    assert_eq!(text(&explained.stdout), said);
-    assert_eq!(text(&explained.stderr), "");
-    let drawn = run(&["draw", "-"], &std::fs::read(&lobby).unwrap());
-    assert_eq!(drawn.status.code(), Some(0));
-    assert_eq!(
-        text(&drawn.stderr),
-        format!("-: hint: {}\n", sheet::text::HINT)
-    );
-    let svg = text(&drawn.stdout);
-    assert!(svg.contains(">Refused 3 at 0<") && svg.contains(sheet::text::HINT));
-    let passed = run(&["pass", lobby.to_str().unwrap()], b"");
-    assert_eq!(text(&passed.stdout), "refused 3 at 0\n");
-    let hint = format!("{}: hint: {}\n", lobby.display(), sheet::text::HINT);
-    assert_eq!(text(&passed.stderr), hint);
-    for (_, profile) in PROFILES {
-        for index in 0..300 {
-            let bytes = generate(profile, 11, index);
-            let hinted = explain::explain(&bytes).contains("\nhint: ");
-            assert!(!hinted || read(&bytes).is_err(), "{profile:?} {index}");
+fn a_text_is_taken_for_its_sheet() {
+    for path in [files("examples", "txt"), files("tests/explained", "txt")].concat() {
+        let shown = path.to_str().unwrap();
+        let sheet = run(&["write", shown], b"").stdout;
+        for command in ["pass", "draw"] {
+            let [of_text, of_sheet] = [(shown, &b""[..]), ("-", &sheet)]
+                .map(|(word, input)| run(&[command, word], input));
+            assert_eq!(of_text.status.code(), Some(0), "{shown}");
+            if command == "pass" {
+                assert_eq!(text(&of_text.stdout), text(&of_sheet.stdout), "{shown}");
+            }
+            let said = text(&of_text.stderr);
+            assert_eq!(said.is_empty(), read(&sheet).is_ok(), "{said}");
+            assert!(said.is_empty() || said.starts_with(shown), "{said}");
         }
+        let explained = run(&["explain", shown], b"");
+        assert_eq!(explained.status.code(), Some(0));
+        let first = text(&explained.stdout);
+        let stored = text(&std::fs::read(path.with_extension("explain")).unwrap());
+        assert_eq!(first.lines().next(), stored.lines().next(), "{shown}");
     }
 }
 
@@ -91,7 +81,7 @@ fn passes_as_stored() {
             assert_eq!(lines.lines().count(), 1);
         }
     }
-    assert_eq!(passes, 13);
+    assert_eq!(passes, 14);
     let example = run(&["pass", "-"], &sheetgen::Sheet::example().write());
     let stored = std::fs::read(here("../../crates/passprint/stdout")).unwrap();
     assert_eq!(example.stdout, stored);
@@ -196,8 +186,8 @@ fn riders_bound_for_closed_stops_are_named() {
 /// The number of the line that `explain` says is to be put right.
 fn line_to_repair(said: &str) -> Option<usize> {
     let repair = said.lines().find(|line| line.starts_with("repair: "))?;
-    let (_, after) = repair.split_once("put right line ")?;
-    let (number, _) = after.split_once(" of a.txt")?;
+    let (before, _) = repair.split_once(" of a.txt, which is this record")?;
+    let (_, number) = before.rsplit_once(' ')?;
     number.replace(',', "").parse().ok()
 }
 
@@ -215,7 +205,11 @@ fn the_line_to_repair_is_the_record() {
         };
         let shown = show::show(&bytes);
         let above: Vec<&str> = shown.lines().take(number - 1).collect();
-        let above = sheet::text::write(above.join("\n").as_bytes(), Path::new("")).unwrap();
+        let above = match above.iter().all(|line| line.starts_with(['#', 's'])) {
+            // Without a record above it there is the head.
+            true if number <= 3 => vec![0; 3],
+            _ => sheet::text::write(above.join("\n").as_bytes(), Path::new("")).unwrap(),
+        };
         let offset = read(&bytes).unwrap_err().offset as usize;
         assert_eq!(above.len(), offset.div_ceil(8), "{}", name(&path));
         repaired += 1;
@@ -327,6 +321,8 @@ fn has_sentence(sheet: &[u8]) {
     assert_eq!(lines[3].ends_with(rules::CHANGED), by_damage, "{said}");
     assert!(!lines[3].contains("the field"), "{said}");
     assert!(said.lines().all(|line| line.len() < 700), "{said}");
+    let mended = lines.iter().filter(|line| line.starts_with("mended: "));
+    assert_eq!(mended.count(), 1, "{said}");
     has_its_line(sheet, &said);
 }
 
@@ -406,4 +402,93 @@ fn the_manual_has_an_example_of_every_number() {
         let shown = examples.filter(|n| is_shown(n));
         assert_eq!(shown.count(), 1, "refusal {number}");
     }
+}
+
+/// What is wrong with a text: what stands there, what is put in its place, and the number that it is refused by.
+type Spoilt = (&'static str, &'static str, u32);
+
+/// Faults of the text of `small_etd`, in the order of their records, and by rising number within one.
+const SPOILT: [Spoilt; 16] = [
+    ("age=0.005", "age=0.005 weight_6=1", 8),
+    ("tick_rate=60", "tick_rate=0x7ff8000000000000", 11),
+    ("limit=none", "limit=0", 12),
+    (
+        "stop id=1 position=0\nstop id=2 position=4",
+        "stop id=2 position=4\nstop id=1 position=0",
+        9,
+    ),
+    ("position=8\n", "position=2000000\n", 11),
+    ("serves=all", "serves=0xf000000000000000", 10),
+    ("id=7 line=1", "id=7 line=5", 10),
+    ("max_speed=2 ", "max_speed=0.0005 ", 11),
+    ("phase=moving stop=3", "phase=moving", 9),
+    ("load=75", "load=-75", 11),
+    ("aboard car=8", "aboard car=9", 10),
+    ("waiting stop=2", "waiting stop=0", 9),
+    ("weight=75", "weight=-75", 11),
+    ("wait_ticks=600", "wait_ticks=9007199254740993", 14),
+    ("demand stop=3", "demand stop=7", 10),
+    (
+        "riderless_call=no",
+        "riderless_call=no\nrest length=16 bits=000a",
+        16,
+    ),
+];
+
+/// The numbers that `explain` names, the refusal's first.
+fn numbers_of(said: &str) -> Vec<u32> {
+    let number = |line: &str| {
+        let after = line
+            .strip_prefix("refused ")
+            .or(line.strip_prefix("also "))?;
+        after.split([' ', ':']).next()?.parse().ok()
+    };
+    said.lines().filter_map(number).collect()
+}
+
+/// Twenty warnings are printed, and how many more there are.
+#[test]
+fn many_warnings() {
+    let start = text(&std::fs::read(here("examples/small_etd.txt")).unwrap());
+    let (above, below) = start.split_at(start.find("demand").unwrap());
+    let riders = "waiting stop=2 destination=2 weight=75 wait_ticks=1\n".repeat(25);
+    let bytes = sheet::text::write([above, &riders, below].concat().as_bytes(), Path::new(""));
+    let said = explain::explain(&bytes.unwrap());
+    let warnings = said.lines().filter(|line| line.starts_with("warning: "));
+    assert_eq!(warnings.count(), 21, "{said}");
+    assert!(
+        said.ends_with("warning: There are 5 more warnings like these.\n"),
+        "{said}"
+    );
+}
+
+/// Whichever faults a text has, `explain` names them all and no other: one, two or three of them.
+#[test]
+fn every_fault_is_named() {
+    let file = text(&std::fs::read(here("examples/small_etd.txt")).unwrap());
+    let mut tried = 0;
+    for a in 0..SPOILT.len() {
+        for b in a..SPOILT.len() {
+            for c in b..SPOILT.len() {
+                let mut chosen = vec![a, b, c];
+                chosen.dedup();
+                let mut spoilt = file.clone();
+                for k in &chosen {
+                    let (right, wrong, _) = SPOILT[*k];
+                    assert!(spoilt.contains(right), "{right}");
+                    spoilt = spoilt.replacen(right, wrong, 1);
+                }
+                let bytes = sheet::text::write(spoilt.as_bytes(), Path::new("")).unwrap();
+                let said = explain::explain(&bytes);
+                let numbers: Vec<u32> = chosen.iter().map(|k| SPOILT[*k].2).collect();
+                assert_eq!(numbers_of(&said), numbers, "{chosen:?}\n{said}");
+                assert!(
+                    said.contains("\nmended: ") && said.contains("accepts the copy"),
+                    "{said}"
+                );
+                tried += 1;
+            }
+        }
+    }
+    assert_eq!(tried, 16 * 17 * 18 / 6);
 }

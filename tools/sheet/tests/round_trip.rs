@@ -151,5 +151,5 @@ fn any_text_has_an_answer() {
             }
         }
     }
-    assert!(written > 300 && refused > 300, "{written} {refused}");
+    assert!(written > 80 && refused > 300, "{written} {refused}");
 }

@@ -5,9 +5,11 @@ use super::svg::{self, Anchor, Svg};
 /// The width of a mark, and from there to its words.
 const MARK: f64 = 16.0;
 const GAP: f64 = 5.0;
-const ROW: f64 = 16.0;
+const ROW: f64 = 15.0;
 
 pub struct Legend {
+    /// How much was drawn before it: what it explains.
+    drawn: usize,
     left: f64,
     width: f64,
     x: f64,
@@ -15,8 +17,9 @@ pub struct Legend {
 }
 
 impl Legend {
-    pub fn new(left: f64, top: f64, width: f64) -> Self {
+    pub fn new(svg: &Svg, left: f64, top: f64, width: f64) -> Self {
         Self {
+            drawn: svg.length(),
             left,
             width,
             x: left,
@@ -33,6 +36,19 @@ impl Legend {
         let (x, y) = (self.x + MARK / 2.0, self.y - 3.0);
         svg.group("legend", |svg| mark(svg, x, y));
         self.words(svg, words);
+    }
+
+    /// The same, where what is drawn before the legend has a part.
+    pub fn entry_of(
+        &mut self,
+        svg: &mut Svg,
+        part: &str,
+        words: &str,
+        mark: impl FnOnce(&mut Svg, f64, f64),
+    ) {
+        if svg.has_before(self.drawn, part) {
+            self.entry(svg, words, mark);
+        }
     }
 
     /// Colours side by side, and their words.
@@ -60,18 +76,21 @@ impl Legend {
         }
     }
 
-    /// Words alone, in rows of their own.
+    /// Words alone, in rows of their own, where there are any.
     pub fn sentence(&mut self, svg: &mut Svg, words: &str) {
         self.next_row();
+        if words.is_empty() {
+            return;
+        }
         for line in svg::wrapped("small", words, self.width) {
             svg.text("small", self.left, self.y, Anchor::Start, &line);
             self.y += ROW;
         }
     }
 
-    /// The right and lower edge, with all that was drawn above and to the left.
-    pub fn end(mut self) -> (f64, f64) {
+    /// The lower edge, with all that was drawn above.
+    pub fn end(mut self) -> f64 {
         self.next_row();
-        (self.left + self.width, self.y - ROW + 4.0)
+        self.y - ROW + 4.0
     }
 }

@@ -1,30 +1,47 @@
 //! One drawing of a sheet and its pass, or of a refused record where it stands.
 
+mod aboard;
 mod building;
+mod header;
 mod heights;
 mod held;
+mod html;
+mod key;
+mod landings;
 mod legend;
 mod matrix;
+mod pair;
 mod plan;
+mod raised;
 mod reasons;
 mod refused;
 mod riders;
+mod shaft;
 mod svg;
+mod ties;
+mod title;
 
-use dispatch_bench::{Pass, Refusal, SENTINEL};
-use sheetgen::Sheet;
+use dispatch_bench::{OutsideDomain, Pass, Refusal, SENTINEL};
+use sheetgen::{Car, Sheet};
 
-use crate::fields::STRATEGIES;
+use crate::fields::PHASES;
 use crate::names::Names;
 use crate::ramps::Ramps;
-use crate::show::number_of;
+use crate::source::Source;
+use crate::travel;
+use building::Building;
+pub use html::{html, pair_page};
+pub use pair::pair;
+pub use raised::raised;
 use svg::{Anchor, Svg};
 
 /// What a cost of 1 counts.
 const UNIT: u64 = 1_000_000;
 const EDGE: f64 = 24.0;
-/// The least and the most width of a legend.
-const LEGEND: (f64, f64) = (660.0, 1_100.0);
+/// The least width of a legend.
+const LEGEND: f64 = 780.0;
+/// The widest name in a label; under the pointer it is whole.
+const NAME: f64 = 110.0;
 
 /// What is drawn with a sheet that the sheet does not say.
 #[derive(Default)]
@@ -34,13 +51,65 @@ pub struct About<'a> {
     /// The rates of a run: with them the seconds of each run to a stop are drawn.
     pub ramps: Option<&'a Ramps>,
     pub names: Names,
+    /// Lines without an idle-listed car are drawn as one narrow strip each.
+    pub fold: bool,
+    /// Cars whose decisions differ from those of a sheet that is drawn beside this one.
+    pub marked: Vec<u32>,
+    /// Where its bytes come from; a refusal is drawn with the line of its text.
+    pub source: Option<&'a Source>,
+}
+
+impl About<'_> {
+    /// `5`, with its name where it has one: `5 lobby`.
+    fn stop(&self, id: u32) -> String {
+        named(&id.to_string(), self.names.stops.get(&id), f64::INFINITY)
+    }
+
+    /// The same for a label.
+    fn stop_label(&self, id: u32) -> String {
+        named(&id.to_string(), self.names.stops.get(&id), NAME)
+    }
+
+    /// `car 3`, with its name where it has one.
+    fn car(&self, id: u32) -> String {
+        named(
+            &format!("car {id}"),
+            self.names.cars.get(&id),
+            f64::INFINITY,
+        )
+    }
+
+    fn car_label(&self, id: u32) -> String {
+        named(&format!("car {id}"), self.names.cars.get(&id), NAME)
+    }
+
+    /// The file's name above the title, as far as there is room.
+    fn name_file(&self, svg: &mut Svg, width: f64) {
+        if let Some(file) = self.file {
+            let file = svg::cropped("small", file, width);
+            svg.text("file", EDGE, 13.0, Anchor::Start, &file);
+        }
+    }
+}
+
+fn named(id: &str, name: Option<&String>, most: f64) -> String {
+    match name {
+        Some(name) => format!("{id} {}", svg::cropped("name", name, most)),
+        None => id.into(),
+    }
+}
+
+/// A car's phase in words.
+fn phase(car: &Car) -> String {
+    let name = PHASES.get(usize::from(car.phase));
+    name.unwrap_or(&"?").replace('_', " ")
 }
 
 /// A sheet and its pass, or where the sheet is refused.
 pub fn draw(bytes: &[u8], about: &About) -> String {
     match Chosen::of(bytes) {
-        Ok(chosen) => draw_pass(&Sheet::of_accepted(bytes), &chosen, about.ramps),
-        Err(refusal) => refused::draw(bytes, refusal),
+        Ok(chosen) => draw_pass(&Sheet::of_accepted(bytes), &chosen, about),
+        Err(refusal) => refused::draw(bytes, refusal, about),
     }
 }
 
@@ -53,6 +122,8 @@ struct Chosen {
     pending: Vec<u32>,
     /// The cells that are held at the ceiling, row by row.
     held: Vec<bool>,
+    /// For each idle car whether it is sent by the rule of ties.
+    ties: Vec<bool>,
 }
 
 impl Chosen {
@@ -60,10 +131,12 @@ impl Chosen {
         let pass = dispatch_bench::pass(bytes)?;
         let choice = dispatch_bench::choose(pass.cars, pass.columns(), &pass.matrix);
         let pending = dispatch_bench::pending(bytes)?;
+        let columns = choice.map_or(Vec::new(), |choice| choice.columns);
         Ok(Self {
             held: held::held(&Sheet::of_accepted(bytes), &pass, &pending),
+            ties: ties::ties(&pass, &columns),
             pass,
-            columns: choice.map_or(Vec::new(), |choice| choice.columns),
+            columns,
             pending,
         })
     }
@@ -88,9 +161,52 @@ impl Chosen {
         columns.any(|(row, column)| self.is_held(row, *column as usize))
     }
 
+    /// The chosen cell of an idle car, as a cost.
+    fn chosen_cost(&self, row: usize) -> Option<String> {
+        self.cost(row, *self.columns.get(row)? as usize)
+    }
+
+    /// The number of car record `k` among the idle-listed ones, where it is one.
+    fn row(&self, sheet: &Sheet, k: usize) -> Option<usize> {
+        let idle = sheet.cars[..k].iter().filter(|car| car.idle).count();
+        sheet.cars[k].idle.then_some(idle)
+    }
+
+    /// The sweep and mode of car record `k` after the pass.
+    fn sweep(&self, k: usize) -> &'static str {
+        match self.pass.sweeps.get(k).map(|sweep| sweep.code()) {
+            None => "",
+            Some(0) => "up strict",
+            Some(1) => "up lenient",
+            Some(2) => "down strict",
+            Some(_) => "down lenient",
+        }
+    }
+
+    /// The seconds of the run of car record `k`, where it is sent and there are rates.
+    fn seconds(&self, sheet: &Sheet, about: &About, k: usize) -> Option<String> {
+        let row = self.row(sheet, k)?;
+        let id = (*self.pass.decisions.get(row)?)?;
+        let stop = sheet.stops.iter().find(|stop| stop.id == id.get())?;
+        Some(match travel::seconds(&sheet.cars[k], stop, about.ramps?) {
+            Ok(seconds) => format!("{} s", svg::short(seconds)),
+            Err(_) => format!("refused {}", OutsideDomain::NUMBER),
+        })
+    }
+
     /// The chosen cell of an idle car.
     fn cell(&self, row: usize) -> Option<u64> {
         cell(&self.pass, row, *self.columns.get(row)? as usize)
+    }
+
+    fn is_tied(&self, row: usize) -> bool {
+        self.ties.get(row).is_some_and(|tied| *tied)
+    }
+
+    /// Some car is sent to a stop.
+    fn is_sent_to(&self, stop: u32) -> bool {
+        let mut stops = self.pass.decisions.iter().flatten();
+        stops.any(|id| id.get() == stop)
     }
 
     /// How many cars are sent, and the sum of their cells.
@@ -106,63 +222,22 @@ fn cell(pass: &Pass, row: usize, column: usize) -> Option<u64> {
     pass.rows().nth(row)?.get(column).copied()
 }
 
-fn draw_pass(sheet: &Sheet, chosen: &Chosen, ramps: Option<&Ramps>) -> String {
+fn draw_pass(sheet: &Sheet, chosen: &Chosen, about: &About) -> String {
     let mut svg = Svg::default();
-    let (title, total) = (title(sheet, chosen), total(chosen));
-    svg.text("title", EDGE, 30.0, Anchor::Start, &title);
-    svg.text("", EDGE, 49.0, Anchor::Start, &total);
-    let (width, height) = building::draw(&mut svg, sheet, chosen, ramps, (EDGE, 78.0));
-    let (right, bottom) = matrix::draw(&mut svg, sheet, chosen, (EDGE, height + 40.0));
-    let width = width.max(right).max(svg::width("title", &title) + EDGE);
-    let width = width.max(svg::width("", &total) + EDGE);
+    if !about.marked.is_empty() {
+        svg.style(pair::STYLE);
+    }
+    let building = Building::new(sheet, chosen, about, EDGE);
+    let matrix = matrix::Table::new(sheet, chosen, about, EDGE);
+    let narrow = matrix.right();
+    let width = building.right().max(narrow);
+    let top = title::draw(&mut svg, sheet, chosen, about, width - EDGE);
+    let below = building.draw(&mut svg, top + 30.0, width);
+    svg.view("building", [0.0, 0.0, width + EDGE, below + 10.0]);
+    let bottom = matrix.draw(&mut svg, below + 34.0);
+    let costs = below + 14.0;
+    svg.view("costs", [0.0, costs, narrow + EDGE, bottom + 10.0 - costs]);
     svg.finish(width + EDGE, bottom + EDGE)
-}
-
-fn title(sheet: &Sheet, chosen: &Chosen) -> String {
-    let strategy = STRATEGIES
-        .get(usize::from(sheet.policy.strategy))
-        .unwrap_or(&"?");
-    let limit = match sheet.policy.limit {
-        sheetgen::sheet::NO_LIMIT => "none".into(),
-        limit => limit.to_string(),
-    };
-    let pass = &chosen.pass;
-    let cars = number_of(pass.cars, "idle car");
-    let stops = number_of(pass.stops, "pending stop");
-    let (sent, costs) = chosen.sent();
-    let mut parts = vec![format!("{cars}, {stops}")];
-    if sent > 0 {
-        let than = if chosen.sends_held() { "above" } else { "of" };
-        parts.push(format!("{sent} sent at a cost {than} {}", exact(costs)));
-    }
-    match pass.cars - sent {
-        0 => {}
-        1 => parts.push("1 stays idle".into()),
-        idle => parts.push(format!("{idle} stay idle")),
-    }
-    if pass.held > 0 {
-        let held = number_of(pass.held as usize, "cell");
-        parts.push(format!("{held} held at the ceiling"));
-    }
-    format!("{strategy}, limit {limit}: {}", parts.join("; "))
-}
-
-/// The answered total and what it holds, to the last digit.
-fn total(chosen: &Chosen) -> String {
-    let (sent, costs) = chosen.sent();
-    let pass = &chosen.pass;
-    let of_costs = format!("{costs} for the cost (1,000,000 for 1)");
-    let of_idle = match pass.cars - sent {
-        1 => format!("{SENTINEL} for the car that stays idle"),
-        idle => format!("{idle} × {SENTINEL} for the cars that stay idle"),
-    };
-    let holds = match (sent, pass.cars - sent) {
-        (0, 0) => "there is no idle car".into(),
-        (_, 0) => of_costs,
-        (0, _) => of_idle,
-        _ => format!("{of_costs} + {of_idle}"),
-    };
-    format!("Answered total {}: {holds}", pass.total)
 }
 
 /// A sum of cells as a cost, with all its digits.
@@ -176,17 +251,6 @@ fn cost(cell: u64) -> String {
     match cell {
         SENTINEL.. => "no rank".into(),
         _ => svg::short(cell as f64 / UNIT as f64),
-    }
-}
-
-/// From here on an id fills the width of a shaft by itself.
-const LONG_ID: u32 = 10_000_000;
-
-/// A car's name, short enough for its shaft.
-fn car_name(id: u32) -> String {
-    match id {
-        LONG_ID.. => id.to_string(),
-        _ => format!("car {id}"),
     }
 }
 

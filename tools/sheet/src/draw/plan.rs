@@ -4,14 +4,14 @@ use sheetgen::{Car, Sheet, Stop};
 
 use super::heights::Heights;
 use super::svg::{self, Anchor, Svg, short};
-use super::{Chosen, car_name};
+use super::{About, Chosen};
 
 const WIDTH: f64 = 260.0;
 /// Left of the plan, and beside its frame for what lies at its edges.
 const GAP: f64 = 34.0;
 const MARGIN: f64 = 26.0;
 /// How a decision looks.
-const STYLE: &str = ".sent{stroke:#d55e00;stroke-width:1.2;stroke-dasharray:4 3}.goal{stroke:#d55e00;stroke-width:1.6;fill:none}";
+const STYLE: &str = ".way{stroke:#0072b2;stroke-width:1.2}.sent{stroke:#d55e00;stroke-width:1.2;stroke-dasharray:4 3}.goal{stroke:#d55e00;stroke-width:1.6;fill:none}";
 
 /// Where the plan stands.
 pub struct Plan {
@@ -47,8 +47,7 @@ impl Plan {
     pub fn draw(
         &self,
         svg: &mut Svg,
-        sheet: &Sheet,
-        chosen: &Chosen,
+        (sheet, chosen, about): (&Sheet, &Chosen, &About),
         y: &dyn Fn(f64) -> f64,
         (top, bottom): (f64, f64),
     ) {
@@ -64,11 +63,12 @@ impl Plan {
         svg.rect("shaft", self.left, top, WIDTH + 2.0 * MARGIN, bottom - top);
         self.names(svg, sheet, y, frame);
         for stop in &sheet.stops {
-            self.stop(svg, stop, y(stop.position));
+            self.stop(svg, stop, about, y(stop.position));
         }
+        self.goings(svg, sheet, y);
         self.decisions(svg, sheet, chosen, y);
         for car in &sheet.cars {
-            self.car(svg, car, y(car.position));
+            self.car(svg, car, about, y(car.position));
         }
         self.scale(svg, sheet, bottom + 12.0);
     }
@@ -78,7 +78,7 @@ impl Plan {
         let stops = sheet.stops.iter();
         let stops = stops.map(|s| (s.id.to_string(), "small", s.across, s.position));
         let cars = sheet.cars.iter();
-        let cars = cars.map(|c| (car_name(c.id), "name", c.across, c.position));
+        let cars = cars.map(|c| (format!("car {}", c.id), "name", c.across, c.position));
         let marked: Vec<_> = stops.chain(cars).collect();
         let mark =
             |at: &(String, &str, f64, f64)| Area::around((self.x(at.2), y(at.3)), (6.0, 5.0));
@@ -111,17 +111,28 @@ impl Plan {
         }
     }
 
-    fn stop(&self, svg: &mut Svg, stop: &Stop, y: f64) {
+    fn stop(&self, svg: &mut Svg, stop: &Stop, about: &About, y: f64) {
         let x = self.x(stop.across);
-        let (id, position, across) = (stop.id, stop.position, stop.across);
+        let (id, position, across) = (about.stop(stop.id), stop.position, stop.across);
         let tip = format!("stop {id} at {position}, across {across}");
         svg.tipped(&tip, |svg| mark_stop(svg, x, y));
     }
 
-    fn car(&self, svg: &mut Svg, car: &Car, y: f64) {
-        let x = self.x(car.across);
-        let tip = format!("car {} at {}, across {}", car.id, car.position, car.across);
+    fn car(&self, svg: &mut Svg, car: &Car, about: &About, y: f64) {
+        let (x, name) = (self.x(car.across), about.car(car.id));
+        let tip = format!("{name} at {}, across {}", car.position, car.across);
         mark_car(svg, (x, y), car.idle, &tip);
+    }
+
+    /// From each moving car to the stop that it moves to.
+    fn goings(&self, svg: &mut Svg, sheet: &Sheet, y: &dyn Fn(f64) -> f64) {
+        for car in &sheet.cars {
+            let stops = sheet.stops.iter();
+            for stop in stops.filter(|stop| car.stop != 0 && stop.id == car.stop) {
+                let from = (self.x(car.across), y(car.position));
+                svg.line("way", from, (self.x(stop.across), y(stop.position)));
+            }
+        }
     }
 
     /// From each sent car to its stop.

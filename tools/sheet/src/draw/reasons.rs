@@ -22,6 +22,16 @@ pub enum NoRank {
 }
 
 impl NoRank {
+    pub fn word(self) -> &'static str {
+        match self {
+            NoRank::Spare => "spare",
+            NoRank::Line => "off the line",
+            NoRank::Barred => "barred",
+            NoRank::Cut(_) => "cut",
+            NoRank::Open => "no rank",
+        }
+    }
+
     pub fn words(self) -> &'static str {
         match self {
             NoRank::Spare => "a spare column, no stop",

@@ -7,40 +7,42 @@ use crate::cut::{Cut, Record};
 use crate::explain::{self, Reason};
 use crate::fields::KINDS;
 use crate::numbers::grouped;
-use crate::{text, value};
+use crate::value;
 
-use super::EDGE;
 use super::svg::{self, Anchor, Svg};
+use super::{About, EDGE};
 
 /// The width of the strip, and what is left beside it.
 const WIDTH: f64 = 1000.0;
 const BESIDE: f64 = 120.0;
-/// From one kind of the legend to the next.
-const STEP: f64 = 88.0;
 /// By kind; 0 is for what has no known kind.
 const COLOURS: [&str; 9] = [
     "#999999", "#6a3d9a", "#1f78b4", "#33a02c", "#ff7f00", "#b2df8a", "#a6cee3", "#fdbf6f",
     "#7a1f1f",
 ];
 
-pub fn draw(bytes: &[u8], refusal: Refusal) -> String {
+pub fn draw(bytes: &[u8], refusal: Refusal, about: &About) -> String {
     let cut = Cut::new(bytes);
     let Refusal { number, offset } = refusal;
     let reason = explain::reason(&cut, refusal);
     let mut svg = Svg::default();
+    about.name_file(&mut svg, WIDTH);
     let title = format!("Refused {number} at {offset}");
     svg.text("title", EDGE, 30.0, Anchor::Start, &title);
     let rule = format!("Rule {number}: {}", refusal.rule());
     let to_do = format!("To do: {}", reason.remedy);
-    let mut y = sentence(&mut svg, "fault", 50.0, &reason.sentence);
+    let says = about.source.and_then(explain::sentence);
+    let says = says.unwrap_or_else(|| reason.sentence.clone());
+    let mut y = sentence(&mut svg, "fault", 50.0, &says);
     y = sentence(&mut svg, "", y, &rule);
     y = sentence(&mut svg, "", y, &to_do);
-    if text::is_text(bytes) {
-        y = sentence(&mut svg, "name", y, text::HINT);
+    if let Some(foreign) = about.source.and_then(|source| source.foreign) {
+        let is = format!("This is {}, and no sheet.", foreign.is);
+        y = sentence(&mut svg, "name", y, &is);
     }
     strip(&mut svg, &cut, y + 24.0);
     mark(&mut svg, &cut, &reason, offset, y + 24.0);
-    legend(&mut svg, y + 96.0);
+    legend(&mut svg, &cut, y + 96.0);
     let bottom = fields(&mut svg, &cut, &reason, y + 128.0);
     svg.finish(WIDTH + 2.0 * EDGE + BESIDE, bottom + EDGE)
 }
@@ -108,20 +110,29 @@ fn mark(svg: &mut Svg, cut: &Cut, reason: &Reason, offset: u64, y: f64) {
     svg.text("fault", x, y + 53.0, anchor, &bit);
 }
 
-fn legend(svg: &mut Svg, y: f64) {
-    for (kind, colour) in COLOURS.iter().enumerate() {
-        let x = EDGE + STEP * kind as f64;
-        svg.tile((x, y - 9.0), (12.0, 11.0), colour, "cell", "");
-        let name = if kind == 0 { "other kind" } else { KINDS[kind] };
-        svg.text("small", x + 16.0, y, Anchor::Start, name);
-    }
-    let x = EDGE + STEP * COLOURS.len() as f64;
-    for (x, class, words) in [
-        (x, "field", "head, or no record"),
-        (x + 130.0, "hatched", "record that passes the end"),
-    ] {
-        svg.rect(class, x, y - 9.0, 12.0, 11.0);
+/// The kinds of record that are there, and what is none.
+fn legend(svg: &mut Svg, cut: &Cut, y: f64) {
+    let known = |kind: usize| if kind < COLOURS.len() { kind } else { 0 };
+    let is_there = |kind: usize| cut.records.iter().any(|record| known(record.kind) == kind);
+    let mut x = EDGE;
+    let mut entry = |svg: &mut Svg, words: &str, mark: &dyn Fn(&mut Svg, f64)| {
+        mark(svg, x);
         svg.text("small", x + 16.0, y, Anchor::Start, words);
+        x += 32.0 + svg::width("small", words);
+    };
+    for (kind, colour) in COLOURS.iter().enumerate().filter(|(k, _)| is_there(*k)) {
+        let name = if kind == 0 { "other kind" } else { KINDS[kind] };
+        entry(svg, name, &|svg, x| {
+            svg.tile((x, y - 9.0), (12.0, 11.0), colour, "cell", "");
+        });
+    }
+    entry(svg, "head, or no record", &|svg, x| {
+        svg.rect("field", x, y - 9.0, 12.0, 11.0);
+    });
+    if cut.is_cut_short() {
+        entry(svg, "record that passes the end", &|svg, x| {
+            svg.rect("hatched", x, y - 9.0, 12.0, 11.0);
+        });
     }
 }
 
@@ -155,7 +166,7 @@ fn fields(svg: &mut Svg, cut: &Cut, reason: &Reason, top: f64) -> f64 {
             EDGE + 200.0,
             y + 12.5,
             Anchor::Start,
-            &cropped(&shown),
+            &svg::cropped(class, &shown, 256.0),
         );
         y += 18.0;
     }
@@ -173,12 +184,4 @@ fn front(record: &Record) -> Vec<(&'static str, usize, String)> {
         ("kind", record.at, kind),
         ("length", record.at + 6, record.length.to_string()),
     ]
-}
-
-/// As much of a value as fits its box.
-fn cropped(text: &str) -> String {
-    match text.char_indices().nth(40) {
-        Some((end, _)) => format!("{}..", &text[..end]),
-        None => text.into(),
-    }
 }

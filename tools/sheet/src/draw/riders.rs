@@ -2,6 +2,7 @@
 
 use sheetgen::{Sheet, Stop, Waiting};
 
+use super::About;
 use super::svg::{self, Anchor, Svg};
 
 /// The most riders that are drawn one by one.
@@ -41,12 +42,21 @@ impl Way {
         }
     }
 
+    pub fn class(self) -> &'static str {
+        match self {
+            Way::Up => "waiting up",
+            Way::Down => "waiting down",
+            Way::Unknown => "waiting unknown",
+        }
+    }
+
     /// Its mark around a middle.
     pub fn draw(self, svg: &mut Svg, x: f64, y: f64) {
+        let class = self.class();
         match self {
-            Way::Up => svg.triangle("waiting", (x, y + 3.0), (3.6, 6.0), true),
-            Way::Down => svg.triangle("waiting", (x, y - 3.0), (3.6, 6.0), false),
-            Way::Unknown => svg.circle("waiting", x, y, 2.8),
+            Way::Up => svg.triangle(class, (x, y + 3.0), (3.6, 6.0), true),
+            Way::Down => svg.triangle(class, (x, y - 3.0), (3.6, 6.0), false),
+            Way::Unknown => svg.circle(class, x, y, 2.8),
         }
     }
 }
@@ -55,19 +65,24 @@ struct Rider {
     way: Way,
     /// `to 4, 600 ticks, line 2`.
     words: String,
-    weight: f64,
+    /// All that is known of the rider, under the pointer.
+    tip: String,
 }
 
 /// The riders who wait at a stop.
 pub struct Riders(Vec<Rider>);
 
 impl Riders {
-    pub fn at(sheet: &Sheet, stop: &Stop) -> Self {
+    pub fn at(sheet: &Sheet, stop: &Stop, about: &About) -> Self {
         let here = sheet.waiting.iter().filter(|rider| rider.stop == stop.id);
-        let rider = |rider: &Waiting| Rider {
-            way: Way::of(sheet, stop, rider),
-            words: words(rider),
-            weight: rider.weight,
+        let rider = |rider: &Waiting| {
+            let way = Way::of(sheet, stop, rider);
+            let (named, weight) = (words(rider, |id| about.stop(id)), rider.weight);
+            Rider {
+                way,
+                words: words(rider, |id| id.to_string()),
+                tip: format!("a waiting rider, {}: {named}, weight {weight}", way.words()),
+            }
         };
         Self(here.map(rider).collect())
     }
@@ -92,7 +107,7 @@ impl Riders {
 
     pub fn draw(&self, svg: &mut Svg, x: f64, y: f64, in_words: bool) {
         if self.0.len() > MOST {
-            let tips: Vec<String> = self.0.iter().map(tip).collect();
+            let tips: Vec<&str> = self.0.iter().map(|rider| rider.tip.as_str()).collect();
             svg.tipped(&tips.join("\n"), |svg| {
                 svg.text("many halo", x, y + 3.0, Anchor::Start, &self.count());
             });
@@ -100,7 +115,7 @@ impl Riders {
         }
         let mut x = x + 3.0;
         for rider in &self.0 {
-            svg.tipped(&tip(rider), |svg| {
+            svg.tipped(&rider.tip, |svg| {
                 rider.way.draw(svg, x, y);
                 if in_words {
                     svg.text("many halo", x + GAP, y + 3.0, Anchor::Start, &rider.words);
@@ -128,20 +143,15 @@ fn step(rider: &Rider, in_words: bool) -> f64 {
     }
 }
 
-fn words(rider: &Waiting) -> String {
+fn words(rider: &Waiting, stop: impl Fn(u32) -> String) -> String {
     let mut parts = Vec::new();
-    parts.extend(rider.destination.map(|stop| format!("to {stop}")));
+    parts.extend(rider.destination.map(|id| format!("to {}", stop(id))));
     parts.push(match rider.wait {
         1 => "1 tick".into(),
         ticks => format!("{ticks} ticks"),
     });
     parts.extend(rider.line.map(|line| format!("line {line}")));
     parts.join(", ")
-}
-
-fn tip(rider: &Rider) -> String {
-    let (way, words) = (rider.way.words(), &rider.words);
-    format!("a waiting rider, {way}: {words}, weight {}", rider.weight)
 }
 
 #[cfg(test)]
@@ -161,13 +171,13 @@ mod tests {
                 wait: k as u64,
             });
         }
-        Riders::at(&sheet, &sheet.stops[1])
+        Riders::at(&sheet, &sheet.stops[1], &About::default())
     }
 
     #[test]
     fn ways_and_words() {
         let riders = riders(&[Some(3), Some(1), Some(2), Some(4), Some(9), None]);
-        let tips: Vec<String> = riders.0.iter().map(tip).collect();
+        let tips: Vec<&str> = riders.0.iter().map(|rider| rider.tip.as_str()).collect();
         let said = [
             "up: to 3, 0 ticks, line 7",
             "down: to 1, 1 tick",

@@ -5,6 +5,8 @@ use std::fmt::Write;
 #[derive(Default)]
 pub struct Svg {
     body: String,
+    /// The parts that can be looked at by themselves, by name, with their left upper corner and their size.
+    views: Vec<(&'static str, [f64; 4])>,
 }
 
 /// Where a text's point stands in it.
@@ -25,10 +27,22 @@ impl Anchor {
     }
 }
 
-fn escape(text: &str) -> String {
-    text.replace('&', "&amp;")
-        .replace('<', "&lt;")
-        .replace('>', "&gt;")
+/// A text as XML and HTML take it, in an element or in quotes. Characters that neither has are replaced.
+pub fn escape(text: &str) -> String {
+    let mut escaped = String::with_capacity(text.len());
+    for c in text.chars() {
+        match c {
+            '&' => escaped += "&amp;",
+            '<' => escaped += "&lt;",
+            '>' => escaped += "&gt;",
+            '"' => escaped += "&quot;",
+            '\n' => escaped.push(c),
+            '\u{fffe}' | '\u{ffff}' => escaped.push(char::REPLACEMENT_CHARACTER),
+            _ if c.is_control() => escaped.push(char::REPLACEMENT_CHARACTER),
+            _ => escaped.push(c),
+        }
+    }
+    escaped
 }
 
 /// A coordinate with one decimal.
@@ -38,21 +52,27 @@ fn c(value: f64) -> String {
     text.strip_suffix(".0").unwrap_or(&text).into()
 }
 
+// What stands on a cell or a car takes no pointer: the details are those of the cell or the car.
 const STYLE: &str = "\
 text{font-family:DejaVu Sans,Verdana,sans-serif;font-size:10px;fill:#222}\
 .title{font-size:15px;font-weight:bold}\
 .name{font-weight:bold}\
-.small{font-size:9px;fill:#555}\
+.tag{font-size:8.5px;font-weight:bold}\
+.small,.file{font-size:9px;fill:#444}\
+.tiny{font-size:7px}\
 .cost{font-size:10px;font-weight:bold;fill:#a33c00}\
 .halo{paint-order:stroke;stroke:#fff;stroke-width:3px}\
 .number{font-size:9px}\
 .many{font-size:9px;fill:#00734f}\
 .pale{fill:#fff}\
 .fault{fill:#b00020;font-weight:bold}\
-.shaft{fill:#f6f6f6;stroke:#ccc}\
-.floor{stroke:#bbb;stroke-width:1}\
+.shaft{fill:#f3f3f3;stroke:#ccc}\
+.blind{fill:#e2e2e2;stroke:none}\
+.folded{fill:#ececec;stroke:#aaa;stroke-dasharray:3 2}\
+.floor{stroke:#999;stroke-width:1}\
 .guide{stroke:#dcdcdc;stroke-width:0.8}\
 .served{fill:#777}\
+.button{fill:#555}\
 .closed{fill:#7a1f1f;stroke:none}\
 .held{fill:#e3173e;stroke:none}\
 .shut{font-size:9px;font-weight:bold;fill:#7a1f1f}\
@@ -64,8 +84,16 @@ text{font-family:DejaVu Sans,Verdana,sans-serif;font-size:10px;fill:#222}\
 .call{fill:none;stroke:#0072b2;stroke-width:1.6}\
 .car{stroke:#444;stroke-width:1}\
 .listed{stroke:#000;stroke-width:2.4}\
-.full{fill:#555;fill-opacity:0.55}\
-.lamp{fill:#e69f00;stroke:none}\
+.gauge{fill:#fff;stroke:#444;stroke-width:0.6}\
+.full{fill:#333}\
+.lit{fill:#e69f00;stroke:#4d3500;stroke-width:0.6}\
+.dark{fill:#fff;stroke:#444;stroke-width:0.8}\
+.aboard{fill:#8e3a8e}\
+.inside{font-size:8px;font-weight:bold}\
+.bound{font-size:8px;font-weight:bold;fill:#8e3a8e}\
+.going{stroke:#0072b2;stroke-width:1.6;fill:none}\
+.ahead{fill:#0072b2}\
+.target{fill:#fff;stroke:#0072b2;stroke-width:1.6}\
 .waiting{fill:#009e73}\
 .arrow{stroke:#d55e00;stroke-width:2.2;fill:none}\
 .head{fill:#d55e00}\
@@ -73,15 +101,18 @@ text{font-family:DejaVu Sans,Verdana,sans-serif;font-size:10px;fill:#222}\
 .shade{stroke:#bbb;stroke-width:0.6}\
 .refused{fill:none;stroke:#b00020;stroke-width:2.6}\
 .here{fill:#b00020}\
-.chosen{fill:none;stroke:#d55e00;stroke-width:2.6}\
+.chosen{fill:none;stroke:#d55e00;stroke-width:2.2}\
+.tie{fill:#fff;stroke:#d55e00}\
+.equal{stroke:#222;stroke-width:0.9}\
 .unsent{fill:none;stroke:#222;stroke-width:1.6;stroke-dasharray:3 2}\
+.number,.tiny,.inside,.chosen,.unsent,.tie,.equal,.held,.barred,.cut,.dash,.gauge,.full,.lit,.dark{pointer-events:none}\
 .field{fill:#fff;stroke:#999}\
 .wrong{fill:#ffd9dd;stroke:#b00020;stroke-width:2}";
 
 /// Strokes side by side, for what a line does not serve.
 const HATCH: &str = "\
 <pattern id=\"hatch\" width=\"4\" height=\"4\" patternUnits=\"userSpaceOnUse\" patternTransform=\"rotate(45)\">\
-<rect width=\"4\" height=\"4\" fill=\"#f4f4f4\"/><rect width=\"1.4\" height=\"4\" fill=\"#9a9a9a\"/></pattern>";
+<rect width=\"4\" height=\"4\" fill=\"#fafafa\"/><rect width=\"0.8\" height=\"4\" fill=\"#c4c4c4\"/></pattern>";
 
 impl Svg {
     pub fn rect(&mut self, class: &str, x: f64, y: f64, width: f64, height: f64) {
@@ -103,6 +134,26 @@ impl Svg {
             self.body,
             "<rect class=\"{class}\" x=\"{x}\" y=\"{y}\" width=\"{w}\" height=\"{h}\" fill=\"{fill}\"{end}"
         );
+    }
+
+    /// A part that can be looked at by itself: FILE.svg#NAME.
+    pub fn view(&mut self, name: &'static str, place: [f64; 4]) {
+        self.views.push((name, place));
+    }
+
+    /// How long what is drawn is.
+    pub fn length(&self) -> usize {
+        self.body.len()
+    }
+
+    /// Something that is drawn has this part.
+    pub fn has(&self, part: &str) -> bool {
+        self.body.contains(part)
+    }
+
+    /// Something of the drawing as it was at a length has this part.
+    pub fn has_before(&self, length: usize, part: &str) -> bool {
+        self.body[..length].contains(part)
     }
 
     /// Classes that few drawings have.
@@ -157,6 +208,26 @@ impl Svg {
         );
     }
 
+    /// A triangle that points sideways, by the middle of its base, half the base and how far it points to the right.
+    pub fn pointer(&mut self, class: &str, (x, y): (f64, f64), (half, by): (f64, f64)) {
+        let (top, bottom, tip) = (c(y - half), c(y + half), c(x + by));
+        let (x, y) = (c(x), c(y));
+        let _ = writeln!(
+            self.body,
+            "<path class=\"{class}\" d=\"M{x} {top}L{x} {bottom}L{tip} {y}Z\"/>"
+        );
+    }
+
+    /// A square that stands on a corner, around a middle.
+    pub fn diamond(&mut self, class: &str, (x, y): (f64, f64), half: f64) {
+        let (left, right, up, down) = (c(x - half), c(x + half), c(y - half), c(y + half));
+        let (x, y) = (c(x), c(y));
+        let _ = writeln!(
+            self.body,
+            "<path class=\"{class}\" d=\"M{left} {y}L{x} {up}L{right} {y}L{x} {down}Z\"/>"
+        );
+    }
+
     pub fn text(&mut self, class: &str, x: f64, y: f64, anchor: Anchor, text: &str) {
         let (x, y, anchor, text) = (c(x), c(y), anchor.name(), escape(text));
         let _ = writeln!(
@@ -174,15 +245,52 @@ impl Svg {
         );
     }
 
-    /// The whole drawing, on white.
+    /// A text from below to above.
+    pub fn upright(&mut self, class: &str, x: f64, y: f64, anchor: Anchor, text: &str) {
+        let (x, y, anchor, text) = (c(x), c(y), anchor.name(), escape(text));
+        let _ = writeln!(
+            self.body,
+            "<text class=\"{class}\" x=\"{x}\" y=\"{y}\" text-anchor=\"{anchor}\" transform=\"rotate(-90 {x} {y})\">{text}</text>"
+        );
+    }
+
+    /// The whole drawing, on white; it has no size in pixels, so that it fits the window that it is shown in.
     pub fn finish(self, width: f64, height: f64) -> String {
         let (w, h) = (c(width), c(height));
+        let views = self.views.iter().map(|(name, place)| {
+            let place = place.map(c).join(" ");
+            format!("<view id=\"{name}\" viewBox=\"{place}\"/>\n")
+        });
         format!(
-            "<svg xmlns=\"http://www.w3.org/2000/svg\" width=\"{w}\" height=\"{h}\" viewBox=\"0 0 {w} {h}\">\n\
-             <style>{STYLE}</style>\n{HATCH}\n<rect width=\"{w}\" height=\"{h}\" fill=\"#fff\"/>\n{}</svg>\n",
+            "<svg xmlns=\"http://www.w3.org/2000/svg\" viewBox=\"0 0 {w} {h}\">\n\
+             <style>{STYLE}</style>\n{HATCH}\n{}<rect width=\"{w}\" height=\"{h}\" fill=\"#fff\"/>\n{}</svg>\n",
+            views.collect::<String>(),
             self.body
         )
     }
+
+    /// A whole drawing as a part of this one, with its left upper corner at a place; what all drawings share stands once. Answers its size.
+    pub fn part(&mut self, drawing: &str, x: f64, y: f64) -> (f64, f64) {
+        let Some((w, h, body)) = taken_apart(drawing) else {
+            return (0.0, 0.0);
+        };
+        let (left, top) = (c(x), c(y));
+        let _ = write!(
+            self.body,
+            "<svg x=\"{left}\" y=\"{top}\" width=\"{w}\" height=\"{h}\" viewBox=\"0 0 {w} {h}\">\n{body}</svg>\n"
+        );
+        (w.parse().unwrap_or(0.0), h.parse().unwrap_or(0.0))
+    }
+}
+
+/// The width, the height and the shapes of a whole drawing.
+fn taken_apart(drawing: &str) -> Option<(&str, &str, &str)> {
+    let (_, after) = drawing.split_once("viewBox=\"0 0 ")?;
+    let (size, _) = after.split_once('"')?;
+    let (w, h) = size.split_once(' ')?;
+    let ground = format!("<rect width=\"{w}\" height=\"{h}\" fill=\"#fff\"/>\n");
+    let (_, body) = drawing.split_once(&ground)?;
+    Some((w, h, body.strip_suffix("</svg>\n")?))
 }
 
 /// How wide a text is, at the most.
@@ -191,6 +299,8 @@ pub fn width(class: &str, text: &str) -> f64 {
         "title" => 10.5,
         "name" | "cost" | "fault" => 7.0,
         "" | "shut" => 6.4,
+        "tag" => 6.0,
+        "tiny" => 4.5,
         _ => 5.8,
     };
     digit * text.chars().map(in_digits).sum::<f64>()
@@ -202,6 +312,7 @@ fn in_digits(c: char) -> f64 {
         ' ' | '.' | ',' | ':' | ';' | '(' | ')' | '-' | 'f' | 'i' | 'j' | 'l' | 'r' | 't' => 0.66,
         'm' | 'w' | 'M' | 'W' => 1.55,
         '0'..='9' | 'a'..='z' => 1.0,
+        '\u{1100}'.. => 1.8,
         _ => 1.35,
     }
 }
@@ -210,6 +321,17 @@ fn in_digits(c: char) -> f64 {
 pub fn widest(class: &str, texts: &[String]) -> f64 {
     let widths = texts.iter().map(|text| width(class, text));
     widths.fold(0.0, f64::max)
+}
+
+/// As much of a text as is at most so wide, with two dots where it is cut.
+pub fn cropped(class: &str, text: &str, most: f64) -> String {
+    if width(class, text) <= most {
+        return text.into();
+    }
+    let ends = text.char_indices().map(|(end, _)| &text[..end]);
+    let fits = |start: &&str| width(class, start) + width(class, "..") <= most;
+    let start = ends.take_while(fits).last().unwrap_or("");
+    format!("{start}..")
 }
 
 /// A text in lines of words that are at most so wide.

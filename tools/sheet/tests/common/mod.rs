@@ -53,3 +53,35 @@ pub fn stored(list: &[u8]) -> Stored<'_> {
     let (sheet, after) = list[2..].split_at(length);
     Stored { sheet, after }
 }
+
+/// Python's reader takes each line, and each has the keys of the first, in their order. Where there is no Python nothing is asked.
+pub fn is_json(lines: &str) {
+    const CHECK: &str = "\
+import json, sys
+keys = [list(json.loads(line)) for line in sys.stdin]
+assert keys and all(k == keys[0] for k in keys), keys
+";
+    let python = Command::new("python3")
+        .args(["-c", CHECK])
+        .stdin(Stdio::piped())
+        .spawn();
+    let Ok(mut python) = python else { return };
+    let mut input = python.stdin.take().unwrap();
+    input.write_all(lines.as_bytes()).unwrap();
+    drop(input);
+    assert!(python.wait().unwrap().success(), "{lines}");
+}
+
+/// A stored text is what is said. With UPDATE set it is stored.
+pub fn stored_as(stored: &str, said: &str) {
+    let path = here(stored);
+    if std::env::var_os("UPDATE").is_some() {
+        std::fs::create_dir_all(path.parent().unwrap()).unwrap();
+        std::fs::write(&path, said).unwrap();
+    }
+    assert_eq!(
+        said,
+        std::fs::read_to_string(&path).unwrap_or_default(),
+        "{stored}"
+    );
+}
