@@ -2,8 +2,8 @@
 //! proved library refuses one, `draw` draws a sheet and its pass. `fields` is the one table of the
 //! format that they read. `store` writes and shows stores of weights, `weights` looks a day's weights up.
 //! `grades` reads what a site sent to be graded, `grade` says what came of it. `ramps` reads the rates of a run
-//! from a command line, `travel` has the seconds that it takes.
-//! Verdicts, passes, weights, grades and seconds come from the crate dispatch-bench, with the feature `pass`.
+//! from a command line, `travel` has the seconds that it takes. `why` says why a car costs what it does for a stop.
+//! Verdicts, passes, costs, weights, grades and seconds come from the crate dispatch-bench, with the feature `pass`.
 
 pub mod args;
 pub mod completions;
@@ -48,3 +48,5 @@ pub mod value;
 mod warnings;
 #[cfg(feature = "pass")]
 pub mod weights;
+#[cfg(feature = "pass")]
+pub mod why;
