@@ -60,6 +60,18 @@ fn as_stored() {
     assert_eq!(numbers, (0..=12).collect::<Vec<_>>());
 }
 
+/// The manual's examples are the stored outputs.
+#[test]
+fn the_manual_has_it() {
+    let manual = include_str!("../../../docs/manual/planners.md");
+    for name in ["lobby_1_3", "small_rsr_2_3"] {
+        let stored = text(&std::fs::read(here(&format!("tests/why/{name}.why"))).unwrap());
+        let stored = stored.replace("examples/", "");
+        let lines: String = stored.lines().map(|line| format!("    {line}\n")).collect();
+        assert_eq!(manual.matches(&lines).count(), 1, "{name}");
+    }
+}
+
 /// A sheet says what its text does, but for the names and the lines.
 #[test]
 fn of_a_sheet() {
@@ -239,7 +251,7 @@ fn agrees(bytes: &[u8], seen: &mut [usize; 13]) {
             let number = match (answer, value) {
                 (Why::Ranked(terms), Some(value)) => {
                     assert_eq!(cell(terms.cost()), value);
-                    let few = seen[0] % 37 == 0;
+                    let few = seen[0].is_multiple_of(37);
                     let facts = few.then(|| Facts::of(&source, car.id, stop.id).unwrap());
                     facts
                         .iter()
