@@ -17,6 +17,8 @@ uint32_t __wrap_dispatch_bench_pass(const uint8_t *, size_t, uint32_t *, size_t,
                                     uint64_t *, uint64_t *, uint64_t *);
 uint32_t __real_dispatch_bench_pending(const uint8_t *, size_t, uint32_t *, size_t, uint64_t *, uint64_t *);
 uint32_t __wrap_dispatch_bench_pending(const uint8_t *, size_t, uint32_t *, size_t, uint64_t *, uint64_t *);
+uint32_t __real_dispatch_bench_why(const uint8_t *, size_t, uint32_t, uint32_t, double *, size_t, uint32_t *, uint64_t *);
+uint32_t __wrap_dispatch_bench_why(const uint8_t *, size_t, uint32_t, uint32_t, double *, size_t, uint32_t *, uint64_t *);
 uint32_t __real_dispatch_bench_weights(const uint8_t *, size_t, uint32_t, double *, size_t, uint64_t *);
 uint32_t __wrap_dispatch_bench_weights(const uint8_t *, size_t, uint32_t, double *, size_t, uint64_t *);
 
@@ -359,6 +361,67 @@ uint32_t __wrap_dispatch_bench_pending(const uint8_t *sheet, size_t length, uint
         *offset += is("pending_offset") && number == 11;
     }
     return is("pending_few") && number == 1 && places == 63 ? 2 : is("pending_number") && number == 9 ? 10 : number;
+}
+
+/* One reason in the place of another. */
+static void exchange_reason(const char *fault, uint32_t *reason, uint32_t from, uint32_t to) {
+    *reason = is(fault) && *reason == from ? to : *reason;
+}
+
+/* The faults of a reason that was found; held is what stood in the first place. */
+static void spoil_why(double *terms, size_t places, uint8_t held, uint32_t *reason, uint64_t *offset) {
+    int ranked = *reason == DISPATCH_BENCH_RANKED;
+    *offset ^= is("why_writes_offset");
+    exchange_reason("why_no_stop_first", reason, 1, 2);
+    exchange_reason("why_listed", reason, 3, 4);
+    exchange_reason("why_pending", reason, 4, 0);
+    exchange_reason("why_line_as_bar", reason, 5, 6);
+    exchange_reason("why_barred", reason, 6, 9);
+    exchange_reason("why_cut_all", reason, 10, 7);
+    exchange_reason("why_off_path", reason, 12, 11);
+    exchange_reason("why_never", reason, 0, 12);
+    exchange_reason("why_ranked", reason, 9, 0);
+    exchange_reason("why_thirteen", reason, 12, 13);
+    if (ranked && *reason == DISPATCH_BENCH_RANKED) {
+        terms[7] += is("why_cost") ? 1 : 0;
+        terms[1] = is("why_infinite") ? INFINITY : terms[1];
+        terms[6] += is("why_zeros") ? 1 : 0;
+        terms[7] += is("why_held") && (held & 2) != 0 ? 0.25 : 0;
+        if (is("why_past") && places > DISPATCH_BENCH_TERMS) {
+            terms[DISPATCH_BENCH_TERMS] = 0;
+        }
+    } else if (is("why_unranked_writes")) {
+        terms[0] = 0;
+    }
+}
+
+uint32_t __wrap_dispatch_bench_why(const uint8_t *sheet, size_t length, uint32_t car, uint32_t stop, double *terms, size_t places, uint32_t *reason,
+                                   uint64_t *offset) {
+    uint8_t held = places > 0 ? *(const uint8_t *)terms : 0;
+    if (is_unknown(sheet, length) && places >= DISPATCH_BENCH_TERMS) {
+        *offset = 0;
+        return DISPATCH_BENCH_EDITION;
+    }
+    uint32_t number = __real_dispatch_bench_why(read_otherwise(sheet, length), length, car, stop, terms, places, reason, offset);
+    if (number == 0) {
+        spoil_why(terms, places, held, reason, offset);
+    } else {
+        if (places > 0 && is("why_refusal_writes")) {
+            terms[0] = 0;
+        }
+        *reason ^= is("why_refusal_writes_reason");
+        *offset += is("why_offset") && number == 11;
+    }
+    if (is("why_reads_past") && length > 0) {
+        *(volatile uint32_t *)reason += ((const volatile uint8_t *)sheet)[length] & 0;
+    }
+    if (is("why_writes_before")) {
+        ((uint64_t *)(void *)terms)[-1] ^= 1;
+    }
+    if (is("why_writes_sheet") && length > 0) {
+        ((uint8_t *)(uintptr_t)sheet)[0] ^= 1;
+    }
+    return is("why_few") && number == 1 && places == 7 ? 2 : is("why_number") && number == 9 ? 10 : number;
 }
 
 #define RECORD (DISPATCH_BENCH_WEIGHT_BITS / 8)

@@ -1,5 +1,5 @@
-/* Any bytes as a sheet, through the C interface: dispatch_bench_read, dispatch_bench_pass, dispatch_bench_pending and, on what the pass leaves,
-   dispatch_bench_choose. Every pointer leads to guarded pages. The pass is run twice, with other contents, lengths and places of the buffers; and once
+/* Any bytes as a sheet, through the C interface: dispatch_bench_read, dispatch_bench_pass, dispatch_bench_pending, dispatch_bench_why (why.c) and, on
+   what the pass leaves, dispatch_bench_choose. Every pointer leads to guarded pages. The pass is run twice, with other contents, lengths and places of the buffers; and once
    with each buffer too short. So are the pending stops asked for. An accepted sheet is passed in its other edition too where all its second
    coordinates are zero, or else mirrored in them. */
 #include <math.h>
@@ -12,6 +12,7 @@
 #include "guarded.h"
 #include "require.h"
 #include "sheet.h"
+#include "why.h"
 
 #define SENTINEL UINT64_C(281474976710656)
 #define CEILING (SENTINEL - 1)
@@ -57,6 +58,10 @@ static void print_counts(void) {
         if (number != DISPATCH_BENCH_LOAD_WEIGHT) {
             fprintf(stderr, " %d: %lu", number, refusals[number]);
         }
+    }
+    fprintf(stderr, "; pairs with a rank %lu, reasons", reasons[0]);
+    for (int reason = 1; reason <= 12; reason++) {
+        fprintf(stderr, " %d: %lu", reason, reasons[reason]);
     }
     fprintf(stderr, "\n");
 }
@@ -489,7 +494,10 @@ int LLVMFuzzerTestOneInput(const uint8_t *data, size_t size) {
     if (h % 8 == 0) {
         check_long(data, size, h / 8);
     }
+    size_t cars = first.value[CARS], stops = first.value[STOPS], columns = cars < stops ? stops : cars;
+    struct passed passed = {data, size, read.number, read.value[OFFSET], &facts, pending.stops, stops, first.matrix, columns};
     if (first.number != 0) {
+        check_why(&passed, h);
         refusals[first.number]++;
         tell_refusal(&first, data, size);
         return 0;
@@ -502,6 +510,7 @@ int LLVMFuzzerTestOneInput(const uint8_t *data, size_t size) {
     check_decisions(&first, &pending, &facts);
     check_scan(&first, &pending, &facts);
     check_editions(&first, &pending, &facts, data, size);
+    check_why(&passed, h);
     passes[facts.strategy]++;
     tell_pass(&first, &pending, &facts);
     closed_passes += facts.closed != 0;

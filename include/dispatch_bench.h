@@ -45,7 +45,7 @@ uint32_t dispatch_bench_choose_plain(size_t cars, size_t columns, const uint64_t
    dispatch_bench_grade alone, 21 by dispatch_bench_travel_time alone, 22 by dispatch_bench_choose_plain alone. */
 enum dispatch_bench_refusal {
     DISPATCH_BENCH_ACCEPTED = 0,
-    DISPATCH_BENCH_SHORT_BUFFER = 1,    /* a lent buffer is too short (dispatch_bench_pass, _pending, _weights, _grade, _choose_plain) */
+    DISPATCH_BENCH_SHORT_BUFFER = 1,    /* a lent buffer is too short (dispatch_bench_pass, _pending, _why, _weights, _grade, _choose_plain) */
     DISPATCH_BENCH_PAST_END = 2,        /* what is stated passes the last byte */
     DISPATCH_BENCH_EDITION = 3,         /* an edition that is not 1 or 2 */
     DISPATCH_BENCH_UNKNOWN_KIND = 4,    /* a kind that is not 1 to 8 */
@@ -76,6 +76,9 @@ enum dispatch_bench_refusal {
 
 /* The least places for the pending stops. */
 #define DISPATCH_BENCH_STOPS 64
+
+/* The terms of a pair's cost, and so the least places for them. */
+#define DISPATCH_BENCH_TERMS 8
 
 /* The weights of a policy, and so the least places for them. */
 #define DISPATCH_BENCH_WEIGHTS 6
@@ -127,6 +130,37 @@ uint32_t dispatch_bench_pass(const uint8_t *sheet, size_t length, uint32_t *deci
    the refusal's number with the bit offset where the refused record starts in *offset, and nothing else is written: 1 at 0 where fewer than
    DISPATCH_BENCH_STOPS places are lent, else what dispatch_bench_read answers. */
 uint32_t dispatch_bench_pending(const uint8_t *sheet, size_t length, uint32_t *stops, size_t places, uint64_t *count, uint64_t *offset);
+
+/* Why a pair of a car and a stop has no rank, the first that holds in the order in which a pass asks. */
+enum dispatch_bench_reason {
+    DISPATCH_BENCH_RANKED = 0,          /* it has one */
+    DISPATCH_BENCH_NO_CAR = 1,          /* the sheet has no car with this id */
+    DISPATCH_BENCH_NO_STOP = 2,         /* the sheet has no stop with this id */
+    DISPATCH_BENCH_NOT_LISTED = 3,      /* the car is not idle-listed */
+    DISPATCH_BENCH_NOT_PENDING = 4,     /* the stop is not pending */
+    DISPATCH_BENCH_OFF_LINE = 5,        /* the car's line does not serve the stop */
+    DISPATCH_BENCH_BARRED = 6,          /* the stop is barred to the car */
+    DISPATCH_BENCH_CUT = 7,             /* the candidate limit cuts it */
+    DISPATCH_BENCH_PASSED_BY = 8,       /* the car moves, is loaded to the threshold of its direction, and the stop lies ahead */
+    DISPATCH_BENCH_FULL = 9,            /* the car is full */
+    DISPATCH_BENCH_NOBODY = 10,         /* nobody who waits there can board: too heavy, or the lamp is dark; or nobody waits, and no hall call is without a rider */
+    DISPATCH_BENCH_OFF_PATH = 11,       /* the stop is off the path of the riders aboard (RSR alone) */
+    DISPATCH_BENCH_NO_RANK = 12         /* no rank all the same: the car's speed is 0 (ETD, RSR), or the stop is behind the sweep (SCAN) */
+};
+
+/* Why the car with one id costs what it does for the stop with another, or has no rank. 0: *reason is the reason; where it is DISPATCH_BENCH_RANKED
+   the eight terms stand first in terms, what stands past them is left, and with any other reason all of terms is; *offset keeps its contents.
+   Otherwise the refusal's number with the bit offset where the refused record starts in *offset, and nothing else is written: 1 at 0 where fewer than
+   DISPATCH_BENCH_TERMS places are lent, else what dispatch_bench_read answers.
+
+   The last term is the cost; times 1,000,000, rounded and held to the ceiling it is the cell that dispatch_bench_pass leaves. The terms by strategy:
+     ETD   seconds of travel; seconds that riders aboard lose, summed; seconds of halts at demand stops on the way; the bonus for direction, 0 or
+           below; their sum by the weights, at least 0; the squares of the ticks waited at the stop, summed; the ticks waited there, summed; the cost
+     RSR   seconds of travel; the cost of these; after the wrong direction; after the car call; after the load; the ticks waited at the stop, summed;
+           the cost after these; the cost, at least 0
+     SCAN  the distance; six zeros; the cost, which is the distance */
+uint32_t dispatch_bench_why(const uint8_t *sheet, size_t length, uint32_t car, uint32_t stop, double *terms, size_t places, uint32_t *reason,
+                            uint64_t *offset);
 
 /* The weights of a store for a day. A store is up to 256 records of 15 bytes, most significant bit first: setting 8 bits (0 to 5, the weight slots),
    start day 32, issue 16, value 64 (an IEEE double). Each slot takes the record with the latest start not after the day, and of these the highest

@@ -1,6 +1,6 @@
-/* dispatch_bench_weights, dispatch_bench_grade, dispatch_bench_travel_time and dispatch_bench_choose_plain as a host in C calls them: each number
-   with its offset, and what is left in every place. The argument is document 01's example, which is graded. Ends with 0 where all is as the header
-   says; what is not is said on standard error. */
+/* dispatch_bench_why, dispatch_bench_weights, dispatch_bench_grade, dispatch_bench_travel_time and dispatch_bench_choose_plain as a host in C calls
+   them: each number with its offset, and what is left in every place. The argument is document 01's example, which is graded and asked about. Ends
+   with 0 where all is as the header says; what is not is said on standard error. */
 #include <inttypes.h>
 #include <math.h>
 #include <stdio.h>
@@ -230,6 +230,54 @@ static void grades_are_refused(void) {
     grade("the least number", &s, sheet_length, LENT, DISPATCH_BENCH_PRICES, 0, 0);
 }
 
+#define KEPT_REASON UINT32_C(0xdeadbeef)
+
+/* The call with so many places, of which PLACES stand there: the number and its offset, or the reason, and the eight terms where it is 0. */
+static void why(const char *name, size_t bytes, uint32_t car, uint32_t stop, size_t lent, uint32_t number, uint64_t offset, uint32_t reason,
+                const double *terms) {
+    static uint8_t before[sizeof sheet];
+    double places[PLACES];
+    uint64_t bits[PLACES], wanted[PLACES], found = KEPT_OFFSET;
+    uint32_t told = KEPT_REASON;
+    for (size_t i = 0; i < PLACES; i++) {
+        bits[i] = KEPT_PLACE;
+    }
+    memcpy(places, bits, sizeof places);
+    memcpy(wanted, bits, sizeof wanted);
+    memcpy(before, sheet, sizeof sheet);
+    uint32_t answer = dispatch_bench_why(sheet, bytes, car, stop, places, lent, &told, &found);
+    memcpy(bits, places, sizeof bits);
+    if (terms != NULL) {
+        memcpy(wanted, terms, DISPATCH_BENCH_TERMS * sizeof *terms);
+    }
+    if (answer != number || found != offset || told != reason) {
+        fprintf(stderr, "%s: answers %" PRIu32 " at %" PRIu64 ", reason %" PRIu32 "\n", name, answer, found, told);
+        wrong++;
+    }
+    if (memcmp(bits, wanted, sizeof bits) != 0) {
+        say(name, "another term, or a place is written that is not the answer's");
+    }
+    if (memcmp(sheet, before, sizeof sheet) != 0) {
+        say(name, "the sheet is written");
+    }
+}
+
+static void pairs_are_explained(void) {
+    const double distance[DISPATCH_BENCH_TERMS] = {10, 0, 0, 0, 0, 0, 0, 10};
+    const size_t all = sheet_length;
+    why("a rank", all, 7, 2, 8, DISPATCH_BENCH_ACCEPTED, KEPT_OFFSET, DISPATCH_BENCH_RANKED, distance);
+    why("a rank, more places", all, 7, 2, PLACES, DISPATCH_BENCH_ACCEPTED, KEPT_OFFSET, DISPATCH_BENCH_RANKED, distance);
+    why("no such car", all, 9, 2, 8, DISPATCH_BENCH_ACCEPTED, KEPT_OFFSET, DISPATCH_BENCH_NO_CAR, NULL);
+    why("no such car and stop", all, 0, 0, 8, DISPATCH_BENCH_ACCEPTED, KEPT_OFFSET, DISPATCH_BENCH_NO_CAR, NULL);
+    why("no such stop", all, 7, UINT32_MAX, 8, DISPATCH_BENCH_ACCEPTED, KEPT_OFFSET, DISPATCH_BENCH_NO_STOP, NULL);
+    why("not pending", all, 7, 1, 8, DISPATCH_BENCH_ACCEPTED, KEPT_OFFSET, DISPATCH_BENCH_NOT_PENDING, NULL);
+    why("no place for terms", all, 7, 2, 0, DISPATCH_BENCH_SHORT_BUFFER, 0, KEPT_REASON, NULL);
+    why("seven places", all, 7, 2, 7, DISPATCH_BENCH_SHORT_BUFFER, 0, KEPT_REASON, NULL);
+    why("seven places for no sheet", 0, 7, 2, 7, DISPATCH_BENCH_SHORT_BUFFER, 0, KEPT_REASON, NULL);
+    why("no sheet", 0, 7, 2, 8, DISPATCH_BENCH_PAST_END, 0, KEPT_REASON, NULL);
+    why("a policy cut short", 40, 7, 2, 8, DISPATCH_BENCH_PAST_END, 24, KEPT_REASON, NULL);
+}
+
 /* The call: the number, and the time's bits where it is 0. */
 static void run(const char *name, const double *in, uint32_t number, uint64_t wanted) {
     double time;
@@ -321,6 +369,7 @@ int main(int count, char **words) {
     a_full_store();
     grades_are_given();
     grades_are_refused();
+    pairs_are_explained();
     times_are_given();
     times_are_refused();
     small_matrices();

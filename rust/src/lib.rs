@@ -1,5 +1,5 @@
-//! The dispatch bench for Rust hosts: one group pass of lift dispatch over a binary sheet, the weights of a policy from a store, the grade of
-//! a choice that a site made, the seconds of a run with ramps, and the choice of a matrix of cells.
+//! The dispatch bench for Rust hosts: one group pass of lift dispatch over a binary sheet, why a pair costs what it does, the weights of
+//! a policy from a store, the grade of a choice that a site made, the seconds of a run with ramps, and the choice of a matrix of cells.
 //!
 //! Every function of the linked library is proved to meet its contract; this crate is what a Rust host needs around it and is not proved. Each
 //! function ends on every input, with an answer or a refusal, and none panics. There is no state, so any number of threads may call at once;
@@ -32,6 +32,7 @@ mod refusal;
 mod rules;
 mod travel;
 mod weights;
+mod why;
 
 pub use grade::{Grade, Graded, MOST_PRICE, Sent, grade, grade_into};
 pub use lines::lines;
@@ -44,6 +45,7 @@ pub use records::{Car, cars};
 pub use refusal::Refusal;
 pub use travel::{LEAST_RATE, MOST_INPUT, OutsideDomain, Run, travel_time};
 pub use weights::{SLOTS, StoreRefusal, weights};
+pub use why::{Reason, TERMS, Terms, Why, why};
 
 /// The cell of a pair that has no rank and of a spare column, what a car that stays idle counts in the total, and the largest cell that
 /// [`choose`] takes. A cost of 1 is a cell of 1,000,000.

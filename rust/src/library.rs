@@ -51,6 +51,16 @@ unsafe extern "C" {
         count: *mut u64,
         offset: *mut u64,
     ) -> u32;
+    fn dispatch_bench_why(
+        sheet: *const u8,
+        length: usize,
+        car: u32,
+        stop: u32,
+        terms: *mut f64,
+        places: usize,
+        reason: *mut u32,
+        offset: *mut u64,
+    ) -> u32;
     fn dispatch_bench_weights(
         store: *const u8,
         length: usize,
@@ -192,6 +202,29 @@ pub fn pending(sheet: &[u8], stops: &mut [u32], count: &mut u64, offset: &mut u6
             stops.as_mut_ptr(),
             stops.len(),
             count,
+            offset,
+        )
+    }
+}
+
+/// 0 where `reason` is why a pair has no rank, or 0 with its terms first in `terms`; or the refusal's number.
+pub fn why(
+    sheet: &[u8],
+    (car, stop): (u32, u32),
+    terms: &mut [f64],
+    reason: &mut u32,
+    offset: &mut u64,
+) -> u32 {
+    // SAFETY: both slices are lent as their addresses and lengths, and each number as the address of one; see above.
+    unsafe {
+        dispatch_bench_why(
+            sheet.as_ptr(),
+            sheet.len(),
+            car,
+            stop,
+            terms.as_mut_ptr(),
+            terms.len(),
+            reason,
             offset,
         )
     }

@@ -7,6 +7,8 @@ pub struct Car {
 }
 
 const CAR: u64 = 4;
+/// The edition and the number of records.
+const HEAD: usize = 24;
 /// A record's kind and length.
 const FRONT: usize = 22;
 /// Where a car record holds whether it is idle-listed, in both editions: edition 2 has more behind the position, which comes later.
@@ -26,7 +28,7 @@ const MOST_BYTES: usize = 65_536;
 /// ```
 pub fn cars(sheet: &[u8]) -> impl Iterator<Item = Car> + '_ {
     let sheet = &sheet[..sheet.len().min(MOST_BYTES)];
-    let mut at = 24;
+    let mut at = HEAD;
     let records = (0..field(sheet, 8, 16)).map_while(move |_| {
         let start = at;
         at += FRONT + field(sheet, start + 6, 16) as usize;
@@ -38,6 +40,11 @@ pub fn cars(sheet: &[u8]) -> impl Iterator<Item = Car> + '_ {
             id: field(sheet, start + FRONT, 32) as u32,
             idle_listed: field(sheet, start + IDLE_LISTED, 1) == 1,
         })
+}
+
+/// The code of an accepted sheet's strategy, which begins the body of its first record: 0 ETD, 1 RSR, 2 SCAN.
+pub(crate) fn strategy(sheet: &[u8]) -> u64 {
+    field(sheet, HEAD + FRONT, 2)
 }
 
 /// Up to 64 bits at a bit, most significant first; past the end they are zero.

@@ -21,7 +21,7 @@ pub const CHANGED: &str = changed!();
 /// The refusals of a sheet: rule `number` is entry `number` - 1.
 pub const RULES: [Rule; 16] = [
     Rule {
-        says: "A buffer that the host lent is too short: decisions need 32 entries, the matrix 2,048, the sweeps 32, the pending stops 64.",
+        says: "A buffer that the host lent is too short: decisions need 32 entries, the matrix 2,048, the sweeps 32, the pending stops 64, the terms 8.",
         remedy: "Lend longer buffers; the sheet is not at fault.",
     },
     Rule {

@@ -169,7 +169,7 @@ fn value(choice: &Choice, next: Option<&OsString>) -> Result<Option<OsString>, S
     let noun = match word.takes {
         Takes::File => "file",
         Takes::Number => "number",
-        Takes::One(_) | Takes::Command => "word",
+        Takes::One(_) | Takes::Command | Takes::Id => "word",
     };
     let missing = || format!("no {noun} is named after {}", choice.name);
     next.cloned().map(Some).ok_or_else(missing)

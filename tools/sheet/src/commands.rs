@@ -38,6 +38,7 @@ pub fn run(args: &[OsString]) -> Result<(), Stop> {
         "compare" => compare(&args),
         "raise" => raise(&args),
         "grade" => grade(&args),
+        "why" => why(&args),
         "rule" => rules(args.word(0)),
         "store example" => print(STORE_EXAMPLE),
         "store write" => write(&args, store_bytes, Format::Store),
@@ -325,6 +326,16 @@ fn grade(args: &Args) -> Result<(), Stop> {
     }
 }
 
+/// Why a car costs what it does for a stop, or the refusal explained.
+#[cfg(feature = "pass")]
+fn why(args: &Args) -> Result<(), Stop> {
+    let source = Source::read(args.path(0))?;
+    let [car, stop] = [1, 2].map(|k| args.word(k).unwrap_or_default());
+    of_the_interface()?;
+    let (car, stop) = sheet::why::ids(&source, &car, &stop)?;
+    print(&sheet::why::of(&source, car, stop))
+}
+
 /// The six weights, or the refusal explained.
 #[cfg(feature = "pass")]
 fn weights_of(bytes: &[u8], day: u32, strategy: Option<u64>) -> Result<String, Stop> {
@@ -388,6 +399,10 @@ mod without {
     }
 
     pub fn raise(_: &Args) -> Result<(), Stop> {
+        unlinked()
+    }
+
+    pub fn why(_: &Args) -> Result<(), Stop> {
         unlinked()
     }
 

@@ -37,7 +37,7 @@ fn choices(word: &Word) -> Vec<&'static str> {
     match word.takes {
         Takes::One(words) => words.to_vec(),
         Takes::Command => firsts(),
-        Takes::File | Takes::Number => Vec::new(),
+        Takes::File | Takes::Number | Takes::Id => Vec::new(),
     }
 }
 

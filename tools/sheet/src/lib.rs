@@ -4,8 +4,9 @@
 //! `grades` reads what a site sent to be graded, `grade` says what came of it. `ramps` reads the rates of a run
 //! from a command line, `travel` has the seconds that it takes. `compare` says what differs in two sheets and their passes,
 //! `proved` what is proved of these together, `raise` passes a sheet under every limit, `matrix` prints its cells. `many` works
-//! on many files, `report` says of each what a line, an object of JSON (`json`) or a row (`csv`) has.
-//! Verdicts, passes, weights, grades and seconds come from the crate dispatch-bench, with the feature `pass`.
+//! on many files, `report` says of each what a line, an object of JSON (`json`) or a row (`csv`) has. `why` says why a car costs
+//! what it does for a stop.
+//! Verdicts, passes, costs, weights, grades and seconds come from the crate dispatch-bench, with the feature `pass`.
 
 pub mod args;
 #[cfg(feature = "pass")]
@@ -63,3 +64,5 @@ pub mod value;
 mod warnings;
 #[cfg(feature = "pass")]
 pub mod weights;
+#[cfg(feature = "pass")]
+pub mod why;

@@ -14,6 +14,8 @@ pub enum Takes {
     Number,
     /// The name of a command.
     Command,
+    /// An id, or a name of the text.
+    Id,
 }
 
 /// A word that follows a command.
@@ -200,7 +202,7 @@ const STARTS: Choice = rate(
 
 const A_TEXT: &str = "SHEET is a sheet, or a text that `write` takes: what is said of it then names the text's lines.";
 
-pub static COMMANDS: [Command; 19] = [
+pub static COMMANDS: [Command; 20] = [
     Command {
         words: &[maybe("STRATEGY|sideways", Takes::One(EXAMPLES))],
         examples: &["sheet example >lobby.txt", "sheet example SCAN"],
@@ -323,6 +325,19 @@ pub static COMMANDS: [Command; 19] = [
         ..plain(
             "grade",
             "say whether the prices that a site sent show its choice of columns to be least, and if not, the first rule that they break",
+        )
+    },
+    Command {
+        words: &[
+            file("SHEET"),
+            needed("CAR", Takes::Id),
+            needed("STOP", Takes::Id),
+        ],
+        more: "CAR and STOP are ids, or names that a text gives. With a rank each term stands beside its weight, then the cost and its cell; without one the rule that says so, the records to look at, and what to do. SHEET is a sheet, or a text that `write` takes.",
+        examples: &["sheet why lobby.sheet 1 3", "sheet why lobby.txt 1 3"],
+        ..plain(
+            "why",
+            "say why a car costs what it does for a stop, or why it has no rank there",
         )
     },
     Command {

@@ -4,11 +4,11 @@
 mod common;
 
 use common::{files, here, name, run, text};
-use dispatch_bench::{CEILING, Pass, SENTINEL, choose, pass};
+use dispatch_bench::{CEILING, Pass, Reason, SENTINEL, Terms, Why, choose, pass, why};
 use sheet::draw::{About, draw, html};
 use sheetgen::generate::{self, Profile};
 use sheetgen::rng::Rng;
-use sheetgen::sheet::{NO_LIMIT, mask_bit};
+use sheetgen::sheet::{NO_LIMIT, SCAN, mask_bit};
 use sheetgen::{Car, Sheet};
 
 /// Numbers of a stored answer, most significant byte first.
@@ -95,16 +95,17 @@ fn words(svg: &str) -> String {
     texts.collect::<Vec<_>>().join(" ")
 }
 
-/// The words of each cell, row by row, and its number.
-fn cells(svg: &str) -> Vec<(&str, &str)> {
+/// The words of each cell, row by row, its number, and the lines below them.
+fn cells(svg: &str) -> Vec<(&str, &str, &str)> {
     let tips = svg.split("<title>").skip(1);
     let tips = tips.filter_map(|tip| tip.split_once("</title></rect>"));
     tips.filter_map(|(tip, _)| tip.split_once(" (cell "))
-        .map(|(words, number)| (words, number.split_once(')').unwrap().0))
+        .map(|(words, number)| (words, number.split_once(')').unwrap()))
+        .map(|(words, (number, below))| (words, number, below))
         .collect()
 }
 
-/// Why a cell has no rank, by the records and by the pass without a limit.
+/// Why a cell has no rank, by the records and by the pass without a limit. The rest is the library's to say.
 fn reason(sheet: &Sheet, car: &Car, column: &str, lifted: u64) -> usize {
     let Some(id) = column.strip_prefix("stop ") else {
         return 0;
@@ -126,8 +127,71 @@ const REASONS: [&str; 5] = [
     "no rank, the car's line does not serve the stop",
     "no rank, the stop is barred to the car",
     "no rank, cut by the candidate limit, a rank without it: ",
-    "no rank",
+    "no rank, ",
 ];
+
+/// How the words of a cell of the last kind end, by the library's reason.
+fn other(why: Why, strategy: u8) -> &'static str {
+    match why {
+        Why::Unranked(Reason::Cut) => "cut by the candidate limit, none without it either",
+        Why::Unranked(Reason::PassedBy) => "the loaded car passes the stop by",
+        Why::Unranked(Reason::Full) => "the car is full",
+        Why::Unranked(Reason::Nobody) => "nobody there can board the car",
+        Why::Unranked(Reason::OffPath) => "off the path of the riders aboard",
+        Why::Unranked(Reason::NoRank) if strategy == SCAN => "behind the sweep",
+        Why::Unranked(Reason::NoRank) => "the car's speed is 0",
+        _ => panic!("{why:?}"),
+    }
+}
+
+fn asked(bytes: &[u8], car: &Car, column: &str) -> Why {
+    let stop = column.strip_prefix("stop ").unwrap().parse().unwrap();
+    why(bytes, car.id, stop).unwrap()
+}
+
+/// The first line below a cost has its terms, rounded; under SCAN there is none.
+fn has_terms(below: &str, why: Why) {
+    let line = below.lines().nth(1).unwrap_or("");
+    let Some(terms) = terms(why) else {
+        assert!(!line.starts_with("travel "), "{line}");
+        return;
+    };
+    let numbers = line.split([' ', ',', ':', ';']);
+    let numbers: Vec<f64> = numbers.filter_map(|word| word.parse().ok()).collect();
+    let is_near = |(a, b): (&f64, &f64)| (a - b).abs() <= 0.0006 + 0.006 * b.abs();
+    let are_near = numbers.iter().zip(&terms).all(is_near);
+    assert!(
+        numbers.len() == terms.len() && are_near && line.starts_with("travel "),
+        "{line}: {terms:?}"
+    );
+}
+
+/// The terms that stand under a cell's cost.
+fn terms(why: Why) -> Option<Vec<f64>> {
+    match why {
+        Why::Ranked(Terms::Etd {
+            travel,
+            delay,
+            doors,
+            bonus,
+            sum,
+            squares,
+            waited,
+            ..
+        }) => Some(vec![travel, delay, doors, bonus, sum, squares, waited]),
+        Why::Ranked(Terms::Rsr {
+            travel,
+            eta,
+            direction,
+            car_call,
+            load,
+            waited,
+            age,
+            ..
+        }) => Some(vec![travel, eta, direction, car_call, load, waited, age]),
+        _ => None,
+    }
+}
 
 /// Each cell says its number, and why it has no rank where it has none; answers how often each reason does.
 fn explained(svg: &str, sheet: &Sheet, answered: &Pass) -> [usize; 5] {
@@ -135,8 +199,9 @@ fn explained(svg: &str, sheet: &Sheet, answered: &Pass) -> [usize; 5] {
     without.policy.limit = NO_LIMIT;
     let lifted = pass(&without.write()).unwrap().matrix;
     let idle: Vec<&Car> = sheet.cars.iter().filter(|car| car.idle).collect();
+    let bytes = sheet.write();
     let mut seen = [0; 5];
-    for (k, (words, number)) in cells(svg).into_iter().enumerate() {
+    for (k, (words, number, below)) in cells(svg).into_iter().enumerate() {
         let value = answered.matrix[k];
         assert_eq!(number, value.to_string());
         let (place, said) = words.split_once(": ").unwrap();
@@ -148,12 +213,18 @@ fn explained(svg: &str, sheet: &Sheet, answered: &Pass) -> [usize; 5] {
             };
             assert!(cost.parse::<f64>().is_ok(), "{words}");
             assert_eq!(lifted[k], value);
+            has_terms(below, asked(&bytes, idle[k / answered.columns()], column));
             continue;
         }
         let car = idle[k / answered.columns()];
         let reason = reason(sheet, car, column, lifted[k]);
         match reason {
             3 => assert!(said.starts_with(REASONS[3]), "{words}"),
+            4 => {
+                let why = asked(&bytes, car, column);
+                let other = other(why, sheet.policy.strategy);
+                assert_eq!(said, format!("{}{other}", REASONS[4]));
+            }
             _ => assert_eq!(said, REASONS[reason]),
         }
         seen[reason] += 1;

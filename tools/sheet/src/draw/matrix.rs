@@ -1,6 +1,6 @@
 //! The cost matrix as a heat map, the chosen cells framed, the cells without a rank marked by their reasons, the held ones by a bar.
 
-use dispatch_bench::{CEILING, SENTINEL};
+use dispatch_bench::{CEILING, Reason, SENTINEL, Why};
 use sheetgen::Sheet;
 use sheetgen::sheet::SCAN;
 
@@ -9,6 +9,7 @@ use super::pair;
 use super::reasons::{NoRank, Reasons};
 use super::svg::{self, Anchor, Svg, widest};
 use super::{About, Chosen, LEGEND, cost, exact};
+use crate::why::{brief, in_short};
 
 /// From the least cost to the most, in the order of the costs.
 const COLOURS: [&str; 7] = [
@@ -131,14 +132,14 @@ impl<'a> Table<'a> {
         }
     }
 
-    /// What stands under the pointer at a cell, line by line. Further lines of a cell belong here.
+    /// What stands under the pointer at a cell, line by line: with a rank its terms too.
     pub fn details(&self, row: usize, column: usize) -> Vec<String> {
         let Some(value) = super::cell(&self.chosen.pass, row, column) else {
             return Vec::new();
         };
         let name = format!("{}, {}", self.whole.0[row], self.whole.1[column]);
         let said = match self.reasons.of(row, column) {
-            Some(reason) => said(reason),
+            Some(reason) => self.said(reason),
             None => {
                 let held = if self.chosen.is_held(row, column) {
                     HELD
@@ -149,6 +150,9 @@ impl<'a> Table<'a> {
             }
         };
         let mut lines = vec![format!("{name}: {said} (cell {value})")];
+        if let Some(Why::Ranked(terms)) = self.chosen.why(row, column) {
+            lines.extend(brief(&terms, svg::short));
+        }
         if self.is_chosen(row, column) {
             lines.push(match (self.is_sent(row), self.chosen.is_tied(row)) {
                 (false, _) => "chosen, the car stays idle".into(),
@@ -157,6 +161,19 @@ impl<'a> Table<'a> {
             });
         }
         lines
+    }
+
+    /// A reason in words, with the rank that the limit cut.
+    fn said(&self, reason: NoRank) -> String {
+        let words = match reason {
+            NoRank::Other(reason) => in_short(reason, self.sheet.policy.strategy),
+            _ => reason.words(),
+        };
+        match reason {
+            NoRank::Cut(CEILING) => format!("no rank, {words}: {} or more", cost(CEILING)),
+            NoRank::Cut(rank) => format!("no rank, {words}: {}", cost(rank)),
+            _ => format!("no rank, {words}"),
+        }
     }
 
     fn cost(&self, row: usize, column: usize) -> String {
@@ -273,7 +290,7 @@ impl<'a> Table<'a> {
             NoRank::Line,
             NoRank::Barred,
             NoRank::Cut(0),
-            NoRank::Open,
+            NoRank::Other(Reason::NoRank),
             NoRank::Spare,
         ];
         for kind in kinds.into_iter().filter(|kind| self.has(*kind)) {
@@ -303,16 +320,6 @@ impl<'a> Table<'a> {
     }
 }
 
-/// A reason in words, with the rank that the limit cut.
-fn said(reason: NoRank) -> String {
-    match reason {
-        NoRank::Cut(CEILING) => format!("no rank, {}: {} or more", reason.words(), cost(CEILING)),
-        NoRank::Cut(rank) => format!("no rank, {}: {}", reason.words(), cost(rank)),
-        NoRank::Open => reason.words().into(),
-        _ => format!("no rank, {}", reason.words()),
-    }
-}
-
 /// A cell without a rank; each reason has a form of its own, that reads without colours too.
 fn mark(svg: &mut Svg, at: (f64, f64), size: (f64, f64), reason: NoRank, tip: &str) {
     let (x, y) = (at.0 + size.0 / 2.0, at.1 + size.1 / 2.0);
@@ -327,7 +334,7 @@ fn mark(svg: &mut Svg, at: (f64, f64), size: (f64, f64), reason: NoRank, tip: &s
     match reason {
         NoRank::Barred => svg.cross("barred", x, y, 3.5),
         NoRank::Cut(_) => svg.line("cut", (x - 5.0, y + 5.0), (x + 5.0, y - 5.0)),
-        NoRank::Open => svg.line("dash", (x - 3.5, y), (x + 3.5, y)),
+        NoRank::Other(_) => svg.line("dash", (x - 3.5, y), (x + 3.5, y)),
         NoRank::Spare | NoRank::Line => {}
     }
 }

@@ -21,7 +21,7 @@ mod svg;
 mod ties;
 mod title;
 
-use dispatch_bench::{OutsideDomain, Pass, Refusal, SENTINEL};
+use dispatch_bench::{OutsideDomain, Pass, Refusal, SENTINEL, Why};
 use sheetgen::{Car, Sheet};
 
 use crate::fields::PHASES;
@@ -124,6 +124,8 @@ struct Chosen {
     held: Vec<bool>,
     /// For each idle car whether it is sent by the rule of ties.
     ties: Vec<bool>,
+    /// For each idle car and pending stop, row by row, what the cost is made of, or why there is none.
+    whys: Vec<Why>,
 }
 
 impl Chosen {
@@ -135,6 +137,7 @@ impl Chosen {
         Ok(Self {
             held: held::held(&Sheet::of_accepted(bytes), &pass, &pending),
             ties: ties::ties(&pass, &columns),
+            whys: whys(bytes, &pending)?,
             pass,
             columns,
             pending,
@@ -144,6 +147,13 @@ impl Chosen {
     fn is_held(&self, row: usize, column: usize) -> bool {
         let cell = self.held.get(row * self.pass.columns() + column);
         cell.is_some_and(|held| *held)
+    }
+
+    /// `None` in a spare column.
+    fn why(&self, row: usize, column: usize) -> Option<Why> {
+        let is_stop = column < self.pending.len();
+        let why = self.whys.get(row * self.pending.len() + column);
+        why.filter(|_| is_stop).copied()
     }
 
     /// The cell of an idle car as a cost: of a held one, that it is more.
@@ -216,6 +226,15 @@ impl Chosen {
         let cells = sent.filter_map(|(row, _)| self.cell(row));
         cells.fold((0, 0), |(cars, sum), cell| (cars + 1, sum + cell))
     }
+}
+
+/// The library's answer for each idle car and pending stop.
+fn whys(bytes: &[u8], pending: &[u32]) -> Result<Vec<Why>, Refusal> {
+    let idle = dispatch_bench::cars(bytes).filter(|car| car.idle_listed);
+    let pairs = idle.flat_map(|car| pending.iter().map(move |stop| (car.id, *stop)));
+    pairs
+        .map(|(car, stop)| dispatch_bench::why(bytes, car, stop))
+        .collect()
 }
 
 fn cell(pass: &Pass, row: usize, column: usize) -> Option<u64> {

@@ -1,9 +1,8 @@
-//! Why a cell has no rank, as far as that can be known. The first three are read off the records; that the limit
-//! cut a cell is the library's answer to the same sheet without its limit. The rest stays open.
+//! Why a cell has no rank: the library's reason. The rank of a cell that the limit cut is the library's answer to the same sheet without its limit.
 
-use dispatch_bench::{Pass, SENTINEL};
-use sheetgen::sheet::{NO_LIMIT, mask_bit};
-use sheetgen::{Car, Sheet};
+use dispatch_bench::{Pass, Reason, SENTINEL, Why};
+use sheetgen::Sheet;
+use sheetgen::sheet::NO_LIMIT;
 
 use super::{Chosen, cell};
 
@@ -18,7 +17,7 @@ pub enum NoRank {
     /// Without the limit the cell has this rank.
     Cut(u64),
     /// The cell has no rank without the limit either.
-    Open,
+    Other(Reason),
 }
 
 impl NoRank {
@@ -28,32 +27,31 @@ impl NoRank {
             NoRank::Line => "off the line",
             NoRank::Barred => "barred",
             NoRank::Cut(_) => "cut",
-            NoRank::Open => "no rank",
+            NoRank::Other(_) => "no rank",
         }
     }
 
+    /// What the legend says of its mark.
     pub fn words(self) -> &'static str {
         match self {
             NoRank::Spare => "a spare column, no stop",
             NoRank::Line => "the car's line does not serve the stop",
             NoRank::Barred => "the stop is barred to the car",
             NoRank::Cut(_) => "cut by the candidate limit, a rank without it",
-            NoRank::Open => "no rank",
+            NoRank::Other(_) => "no rank",
         }
     }
 }
 
 pub struct Reasons<'a> {
-    sheet: &'a Sheet,
     chosen: &'a Chosen,
     /// The pass without the limit, where there is one.
     lifted: Option<Pass>,
 }
 
 impl<'a> Reasons<'a> {
-    pub fn new(sheet: &'a Sheet, chosen: &'a Chosen) -> Self {
+    pub fn new(sheet: &Sheet, chosen: &'a Chosen) -> Self {
         Self {
-            sheet,
             chosen,
             lifted: lifted(sheet, &chosen.pass),
         }
@@ -61,32 +59,19 @@ impl<'a> Reasons<'a> {
 
     /// `None` where the cell has a rank.
     pub fn of(&self, row: usize, column: usize) -> Option<NoRank> {
-        if cell(&self.chosen.pass, row, column)? < SENTINEL {
-            return None;
-        }
-        if column >= self.chosen.pass.stops {
-            return Some(NoRank::Spare);
-        }
-        let by_records = self.by_records(row, column);
+        let reason = match self.chosen.why(row, column) {
+            None => return Some(NoRank::Spare),
+            Some(Why::Ranked(_)) => return None,
+            Some(Why::Unranked(reason)) => reason,
+        };
         let lifted = self.lifted.as_ref();
         let rank = || cell(lifted?, row, column).filter(|cell| *cell < SENTINEL);
-        Some(match by_records {
-            Some(reason) => reason,
-            None => rank().map_or(NoRank::Open, NoRank::Cut),
+        Some(match reason {
+            Reason::OffLine => NoRank::Line,
+            Reason::Barred => NoRank::Barred,
+            Reason::Cut => rank().map_or(NoRank::Other(reason), NoRank::Cut),
+            _ => NoRank::Other(reason),
         })
-    }
-
-    /// What the records of the car, its line and the stop say.
-    fn by_records(&self, row: usize, column: usize) -> Option<NoRank> {
-        let car: &Car = self.sheet.cars.iter().filter(|car| car.idle).nth(row)?;
-        let line = self.sheet.lines.iter().find(|line| line.id == car.line)?;
-        let id = *self.chosen.pending.get(column)?;
-        let bit = mask_bit(self.sheet.stops.iter().position(|stop| stop.id == id)?);
-        match (line.mask & bit, car.restricted & bit) {
-            (0, _) => Some(NoRank::Line),
-            (_, 0) => None,
-            _ => Some(NoRank::Barred),
-        }
     }
 }
 
