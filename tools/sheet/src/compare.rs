@@ -310,20 +310,20 @@ fn cells(one: &Matrix, two: &Matrix) -> Vec<Difference> {
 
 /// The sweeps and modes of the idle cars after the pass.
 fn sweeps(first: &Source, second: &Source, one: &Matrix, two: &Matrix) -> Vec<Difference> {
-    let after = |source: &Source, car: u32| {
-        let lines = dispatch_bench::lines(&source.bytes);
+    let lines = [first, second].map(|source| dispatch_bench::lines(&source.bytes));
+    let after = |lines: &str, car: u32| {
         let start = format!("sweep {car} ");
         let mut sweeps = lines.lines().filter_map(|line| line.strip_prefix(&start));
         sweeps.next().map(String::from)
     };
-    let difference = |car: u32| Difference {
+    let difference = |car: &u32| Difference {
         what: "sweep",
         of: format!("car {car}"),
         field: "",
-        sides: [after(first, car), after(second, car)],
+        sides: [0, 1].map(|side| after(&lines[side], *car)),
     };
     let both = one.cars.iter().filter(|car| two.cars.contains(car));
-    let all = both.map(|car| difference(*car));
+    let all = both.map(difference);
     all.filter(|d| d.sides[0] != d.sides[1]).collect()
 }
 
