@@ -135,6 +135,21 @@ fn another_order_of_records() {
     );
 }
 
+/// The names of a text stand beside the ids.
+#[test]
+fn names_are_told() {
+    let before = example("bar_before.txt").replace("car id=7", "car name=north id=7");
+    let added = example("bar_added.txt").replace("stop id=2", "stop name=\"the roof\" id=2");
+    let said = compared("names", &before, &added, &[]);
+    for line in [
+        "  car 7 north: restricted none, then 1\n",
+        "  car 7 north: idle, then stop 2 the roof\n",
+        "  cell of car 7 north, stop 2 the roof: no rank, then 12000000\n",
+    ] {
+        assert!(said.contains(line), "{said}");
+    }
+}
+
 const MORE: &str = "Nothing is proved of the two totals together: the sheets differ in more than the limit alone (demand 3), and in more than bars alone (F-14). The totals are ";
 
 /// What is proved is said where all that it asks for holds, and else what fails.
