@@ -310,20 +310,20 @@ fn cells(one: &Matrix, two: &Matrix) -> Vec<Difference> {
 
 /// The sweeps and modes of the idle cars after the pass.
 fn sweeps(first: &Source, second: &Source, one: &Matrix, two: &Matrix) -> Vec<Difference> {
-    let after = |source: &Source, car: u32| {
-        let lines = dispatch_bench::lines(&source.bytes);
+    let lines = [first, second].map(|source| dispatch_bench::lines(&source.bytes));
+    let after = |lines: &str, car: u32| {
         let start = format!("sweep {car} ");
         let mut sweeps = lines.lines().filter_map(|line| line.strip_prefix(&start));
         sweeps.next().map(String::from)
     };
-    let difference = |car: u32| Difference {
+    let difference = |car: &u32| Difference {
         what: "sweep",
         of: format!("car {car}"),
         field: "",
-        sides: [after(first, car), after(second, car)],
+        sides: [0, 1].map(|side| after(&lines[side], *car)),
     };
     let both = one.cars.iter().filter(|car| two.cars.contains(car));
-    let all = both.map(|car| difference(*car));
+    let all = both.map(difference);
     all.filter(|d| d.sides[0] != d.sides[1]).collect()
 }
 
@@ -356,11 +356,11 @@ impl Comparison<'_> {
             said += "  the same in every bit\n";
         }
         let of_sheets = ["record", "order"].iter().flat_map(|what| self.of(what));
-        said += &of_sheets.map(line).collect::<String>();
+        said += &of_sheets.map(|d| self.line(d)).collect::<String>();
         said += "\nThe passes\n";
         said += &indented(&aligned(&self.table()));
         for what in ["pending", "decision", "cell", "sweep"] {
-            let lines: Vec<String> = self.of(what).map(line).collect();
+            let lines: Vec<String> = self.of(what).map(|d| self.line(d)).collect();
             let most = if what == "cell" { CELLS } else { lines.len() };
             said += &lines.iter().take(most).cloned().collect::<String>();
             if lines.len() > most {
@@ -369,6 +369,40 @@ impl Comparison<'_> {
             }
         }
         said + &format!("\n{}\n", self.proved.sentence)
+    }
+
+    /// A difference in a line, with the names that a text gives to cars and stops.
+    fn line(&self, d: &Difference) -> String {
+        let side = |k: usize| match &d.sides[k] {
+            Some(cell) if d.what == "cell" && *cell == SENTINEL.to_string() => "no rank".into(),
+            Some(stop) if d.what == "decision" => self.named(stop),
+            Some(side) => side.clone(),
+            None if d.what == "decision" => "not listed".into(),
+            None => "none".into(),
+        };
+        let of = self.named(&d.of);
+        format!("  {}\n", told(d, &of, [side(0), side(1)]))
+    }
+
+    /// `car 7, stop 2` with the names, of the first sheet where both have one: `car 7 north, stop 2 lobby`.
+    fn named(&self, words: &str) -> String {
+        let name = |kind: usize, id: &str| {
+            let id = id.trim_end_matches(',').parse().ok()?;
+            self.sources
+                .iter()
+                .find_map(|source| source.names.of(kind, id))
+        };
+        let (mut said, mut before) = (Vec::new(), "");
+        for word in words.split(' ') {
+            let kind = KINDS.iter().position(|kind| *kind == before);
+            said.push(match kind.and_then(|kind| name(kind, word)) {
+                Some(name) if word.ends_with(',') => format!("{} {name},", &word[..word.len() - 1]),
+                Some(name) => format!("{word} {name}"),
+                None => word.into(),
+            });
+            before = word;
+        }
+        said.join(" ")
     }
 
     /// The verdicts and the numbers of both passes, by key and in words.
@@ -470,28 +504,18 @@ fn indented(lines: &str) -> String {
     lines.lines().map(|line| format!("  {line}\n")).collect()
 }
 
-/// A difference in a line.
-fn line(d: &Difference) -> String {
-    let side = |k: usize| match &d.sides[k] {
-        Some(cell) if d.what == "cell" && *cell == SENTINEL.to_string() => "no rank".into(),
-        Some(side) => side.clone(),
-        None if d.what == "decision" => "not listed".into(),
-        None => "none".into(),
-    };
-    let of = match (d.what, d.field) {
-        ("sweep", _) => format!("sweep of {}", d.of),
-        ("order", _) => return format!("  {}: in another order\n", d.of),
-        ("cell", _) => format!("cell of {}", d.of),
-        (_, "") => d.of.clone(),
-        (_, field) => format!("{}: {field}", d.of),
-    };
+/// A difference in words, after its name.
+fn told(d: &Difference, of: &str, sides: [String; 2]) -> String {
+    let [first, second] = sides;
     match (&d.sides, d.what, d.field) {
-        ([Some(line), None], "record", "") => format!("  {of}, in the first alone: {line}\n"),
-        ([None, Some(line)], "record", "") => format!("  {of}, in the second alone: {line}\n"),
-        ([Some(_), None], "pending", _) => format!("  {of}: pending in the first alone\n"),
-        ([None, Some(_)], "pending", _) => format!("  {of}: pending in the second alone\n"),
-        (_, "record", "") => format!("  {of}: {}, then {}\n", side(0), side(1)),
-        (_, "record", _) => format!("  {of} {}, then {}\n", side(0), side(1)),
-        _ => format!("  {of}: {}, then {}\n", side(0), side(1)),
+        (_, "order", _) => format!("{of}: in another order"),
+        ([Some(_), None], "record", "") => format!("{of}, in the first alone: {first}"),
+        ([None, Some(_)], "record", "") => format!("{of}, in the second alone: {second}"),
+        ([Some(_), None], "pending", _) => format!("{of}: pending in the first alone"),
+        ([None, Some(_)], "pending", _) => format!("{of}: pending in the second alone"),
+        (_, "sweep", _) => format!("sweep of {of}: {first}, then {second}"),
+        (_, "cell", _) => format!("cell of {of}: {first}, then {second}"),
+        (_, _, "") => format!("{of}: {first}, then {second}"),
+        (_, _, field) => format!("{of}: {field} {first}, then {second}"),
     }
 }

@@ -178,7 +178,10 @@ fn each<T: Sync>(
         summary.add(&report.end);
         out.line(&heading, &report)
     });
-    out.end()?;
+    // Who reads no more is told no more.
+    if !out.end()? {
+        return Ok(());
+    }
     if !is_bare && items.len() > 1 {
         complain(&format!("{}\n", summary.words(noun, ends)));
     }
@@ -235,15 +238,17 @@ impl Lines {
         self.fault.is_none()
     }
 
-    fn end(mut self) -> Result<(), Stop> {
+    /// Whether all was printed; where the reader went away early that is no fault.
+    fn end(mut self) -> Result<bool, Stop> {
         self.progress.clear();
         let flushed = self.out.flush().err();
         match self.fault.take().or(flushed) {
-            Some(error) if error.kind() != ErrorKind::BrokenPipe => {
+            None => Ok(true),
+            Some(error) if error.kind() == ErrorKind::BrokenPipe => Ok(false),
+            Some(error) => {
                 let why = files::why(&error);
                 Err(Stop::Failed(format!("standard output: {why}")))
             }
-            _ => Ok(()),
         }
     }
 }

@@ -5,6 +5,12 @@ mod common;
 
 use std::path::PathBuf;
 
+use sheet::compare::Comparison;
+use sheet::raise::Raised;
+use sheet::report::Form;
+use sheet::source::Source;
+use sheetgen::generate::{PROFILES, generate};
+
 use common::{here, is_json, run, stored_as, text};
 
 /// A folder of its own, away at the end.
@@ -127,6 +133,21 @@ fn another_order_of_records() {
         said.contains("\nThe sheets\n  car records: in another order\n\n"),
         "{said}"
     );
+}
+
+/// The names of a text stand beside the ids.
+#[test]
+fn names_are_told() {
+    let before = example("bar_before.txt").replace("car id=7", "car name=north id=7");
+    let added = example("bar_added.txt").replace("stop id=2", "stop name=\"the roof\" id=2");
+    let said = compared("names", &before, &added, &[]);
+    for line in [
+        "  car 7 north: restricted none, then 1\n",
+        "  car 7 north: idle, then stop 2 the roof\n",
+        "  cell of car 7 north, stop 2 the roof: no rank, then 12000000\n",
+    ] {
+        assert!(said.contains(line), "{said}");
+    }
 }
 
 const MORE: &str = "Nothing is proved of the two totals together: the sheets differ in more than the limit alone (demand 3), and in more than bars alone (F-14). The totals are ";
@@ -309,4 +330,83 @@ fn raised_limits_are_plotted() {
             .contains("refused 8 at 750, so it has no pass under any limit; `sheet explain ")
     );
     assert_eq!(std::fs::read_to_string(&svg).unwrap(), drawn);
+}
+
+/// Generated sheets, refused ones among them: what differs is named exactly where the bytes differ, each in every form.
+#[test]
+fn generated_pairs() {
+    let (mut compared, mut objects) = (0, String::new());
+    for (_, profile) in PROFILES {
+        for index in 0..12 {
+            let first = generate(profile, 19, index);
+            let mut bent = first.clone();
+            let place = first.len() * (index as usize + 1) / 14;
+            if let Some(byte) = bent.get_mut(place) {
+                *byte ^= 1 << (index % 8);
+            }
+            for second in [generate(profile, 19, index + 1), bent, first.clone()] {
+                let [one, two] = [&first, &second].map(|bytes| Source::of_sheet(bytes.clone()));
+                let comparison = Comparison::new(&one, &two);
+                assert_eq!(
+                    comparison.differences.is_empty(),
+                    first == second,
+                    "{index}"
+                );
+                objects += &comparison.text(Form::Json);
+                assert!(
+                    comparison
+                        .text(Form::Csv)
+                        .starts_with("what,of,field,first,second\n")
+                );
+                assert!(
+                    comparison
+                        .text(Form::Words)
+                        .ends_with(&format!("\n{}\n", comparison.proved.sentence))
+                );
+                compared += 1;
+            }
+        }
+    }
+    assert_eq!(compared, 36 * PROFILES.len());
+    is_json(&objects);
+}
+
+/// What demand 3 and F-14 say holds of generated sheets: limits raised one by one, and a bar added where there is no limit.
+#[test]
+fn what_is_proved_holds() {
+    let (mut raised, mut barred) = (0, 0);
+    for (name, profile) in PROFILES {
+        for index in 0..20 {
+            let bytes = generate(profile, 23, index);
+            let Ok(limits) = Raised::new(&bytes) else {
+                continue;
+            };
+            let totals: Vec<u64> = limits.steps.iter().map(|step| step.total).collect();
+            assert!(
+                totals.is_sorted_by(|one, next| one >= next),
+                "{name} {index}: {totals:?}"
+            );
+            raised += 1;
+            let mut sheet = sheetgen::Sheet::of_accepted(&bytes);
+            sheet.policy.limit = sheetgen::sheet::NO_LIMIT;
+            let first = Source::of_sheet(sheet.write());
+            let has_stops = !sheet.stops.is_empty();
+            let can_be_barred = |car: &&mut sheetgen::Car| car.restricted == 0 && has_stops;
+            let Some(car) = sheet.cars.iter_mut().find(can_be_barred) else {
+                continue;
+            };
+            car.restricted = sheetgen::sheet::mask_bit(0);
+            let second = Source::of_sheet(sheet.write());
+            let proved = Comparison::new(&first, &second).proved;
+            assert_eq!(
+                (proved.claim, proved.holds),
+                (Some("F-14"), true),
+                "{name} {index}"
+            );
+            let total = |source: &Source| dispatch_bench::pass(&source.bytes).unwrap().total;
+            assert!(total(&first) <= total(&second), "{name} {index}");
+            barred += 1;
+        }
+    }
+    assert!(raised > 200 && barred > 50, "{raised} {barred}");
 }
