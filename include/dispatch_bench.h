@@ -143,7 +143,7 @@ enum dispatch_bench_reason {
     DISPATCH_BENCH_CUT = 7,             /* the candidate limit cuts it */
     DISPATCH_BENCH_PASSED_BY = 8,       /* the car moves, is loaded to the threshold of its direction, and the stop lies ahead */
     DISPATCH_BENCH_FULL = 9,            /* the car is full */
-    DISPATCH_BENCH_NOBODY = 10,         /* nobody who waits there can board: too heavy, or the lamp is dark; or nobody waits, and no hall call is without a rider */
+    DISPATCH_BENCH_NOBODY = 10,         /* nobody who waits can board (weight, dark lamp), or nobody waits and no hall call is without a rider */
     DISPATCH_BENCH_OFF_PATH = 11,       /* the stop is off the path of the riders aboard (RSR alone) */
     DISPATCH_BENCH_NO_RANK = 12         /* no rank all the same: the car's speed is 0 (ETD, RSR), or the stop is behind the sweep (SCAN) */
 };

@@ -149,14 +149,14 @@ fn asked(bytes: &[u8], car: &Car, column: &str) -> Why {
     why(bytes, car.id, stop).unwrap()
 }
 
-/// The first line below a cost has its terms, rounded; under SCAN there is none.
+/// The first two lines below a cost have its terms, rounded; under SCAN there are none.
 fn has_terms(below: &str, why: Why) {
-    let line = below.lines().nth(1).unwrap_or("");
+    let line = below.lines().skip(1).take(2).collect::<Vec<_>>().join(" ");
     let Some(terms) = terms(why) else {
         assert!(!line.starts_with("travel "), "{line}");
         return;
     };
-    let numbers = line.split([' ', ',', ':', ';']);
+    let numbers = line.split([' ', ',', ':']);
     let numbers: Vec<f64> = numbers.filter_map(|word| word.parse().ok()).collect();
     let is_near = |(a, b): (&f64, &f64)| (a - b).abs() <= 0.0006 + 0.006 * b.abs();
     let are_near = numbers.iter().zip(&terms).all(is_near);

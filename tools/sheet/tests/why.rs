@@ -145,6 +145,39 @@ fn ids_and_names() {
     assert_eq!(text(&of_sheet.stderr), said);
 }
 
+/// Of the cars that cover a stop those alone are named that go there, and of many riders the first three.
+#[test]
+fn records_to_look_at() {
+    let of = |text: &str, car: &str, stop: &str| {
+        let output = run(&["why", "-", car, stop], text.as_bytes());
+        let said = common::text(&output.stdout);
+        let looks = said
+            .lines()
+            .filter_map(|line| line.strip_prefix("look at: -:"));
+        looks
+            .map(|look| look.split_once(' ').unwrap().1.to_string())
+            .collect::<Vec<_>>()
+    };
+    let small = text(&std::fs::read(here("examples/small_rsr.txt")).unwrap());
+    let loading = small.replace(
+        "id=2 line=1 phase=stopped",
+        "id=2 line=1 phase=loading target=1",
+    );
+    assert_ne!(small, loading);
+    let car_3 = "car id=3 line=1 phase=moving target=5 capacity=800 load=155";
+    assert_eq!(of(&loading, "1", "5"), [car_3]);
+    let reasons = text(&std::fs::read(here("tests/why/reasons.txt")).unwrap());
+    let aboard = "aboard car=3 destination=1\n";
+    let many = reasons.replace(aboard, &aboard.repeat(5));
+    let shown = of(&many, "below", "roof");
+    assert_eq!(shown[2..], ["aboard car=3 destination=1"; 3]);
+    let output = text(&run(&["why", "-", "below", "roof"], many.as_bytes()).stdout);
+    assert!(
+        output.contains("\nlook at: 2 more of kind aboard\nto do: "),
+        "{output}"
+    );
+}
+
 /// A refused sheet is explained, whatever is asked for.
 #[test]
 fn refused() {

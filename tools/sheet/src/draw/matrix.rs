@@ -151,7 +151,7 @@ impl<'a> Table<'a> {
         };
         let mut lines = vec![format!("{name}: {said} (cell {value})")];
         if let Some(Why::Ranked(terms)) = self.chosen.why(row, column) {
-            lines.extend(brief(&terms, svg::short));
+            lines.extend(brief(&terms, svg::short).into_iter().flatten());
         }
         if self.is_chosen(row, column) {
             lines.push(match (self.is_sent(row), self.chosen.is_tied(row)) {

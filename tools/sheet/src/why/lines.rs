@@ -158,8 +158,8 @@ fn without(unranked: &Unranked) -> String {
     lines + &format!("to do: {to_do}\n")
 }
 
-/// The terms of a rank in one line for a cell, each made short; under SCAN the cost says it all.
-pub fn brief(terms: &Terms, short: fn(f64) -> String) -> Option<String> {
+/// The terms of a rank in two lines for a cell, each made short; under SCAN the cost says it all.
+pub fn brief(terms: &Terms, short: fn(f64) -> String) -> Option<[String; 2]> {
     match *terms {
         Terms::Etd {
             travel,
@@ -173,9 +173,10 @@ pub fn brief(terms: &Terms, short: fn(f64) -> String) -> Option<String> {
         } => {
             let [travel, delay, doors, bonus] = [travel, delay, doors, bonus].map(short);
             let [sum, squares, waited] = [sum, squares, waited].map(short);
-            Some(format!(
-                "travel {travel}, delay {delay}, doors {doors}, bonus {bonus}: {sum}; squares {squares}, waited {waited}"
-            ))
+            Some([
+                format!("travel {travel}, delay {delay}, doors {doors}, bonus {bonus}: {sum}"),
+                format!("squares {squares}, waited {waited}"),
+            ])
         }
         Terms::Rsr {
             travel,
@@ -189,9 +190,12 @@ pub fn brief(terms: &Terms, short: fn(f64) -> String) -> Option<String> {
         } => {
             let [travel, eta, direction, call] = [travel, eta, direction, car_call].map(short);
             let [load, waited, age] = [load, waited, age].map(short);
-            Some(format!(
-                "travel {travel}: {eta}, direction {direction}, car call {call}, load {load}; waited {waited}: {age}"
-            ))
+            Some([
+                format!(
+                    "travel {travel}: {eta}, direction {direction}, car call {call}, load {load}"
+                ),
+                format!("waited {waited}: {age}"),
+            ])
         }
         Terms::Scan { .. } => None,
     }

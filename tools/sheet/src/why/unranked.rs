@@ -6,6 +6,7 @@ use sheetgen::sheet::SCAN;
 
 use crate::cut::{Cut, Record};
 use crate::fields::KINDS;
+use crate::numbers::grouped;
 use crate::show::number_of;
 use crate::source::Source;
 use crate::value;
@@ -91,14 +92,25 @@ impl Records<'_> {
         }
     }
 
-    /// The first few records of a kind whose field holds an id, and how many there are.
+    /// The records of a kind whose field holds an id.
     fn looks(&self, kind: usize, field: &str, id: u32, names: &[&str]) -> Vec<Look> {
-        let is_it = |record: &&Record| self.cut.named(record, field) == Some(id.into());
-        let records = self.cut.of_kind(kind).filter(is_it);
-        records
-            .take(FEW)
-            .map(|record| self.look(record, names))
-            .collect()
+        let is_it = |record: &Record| self.cut.named(record, field) == Some(id.into());
+        self.few(kind, is_it, names)
+    }
+
+    /// The first few of the records that are meant, and how many there are more.
+    fn few(&self, kind: usize, is_it: impl Fn(&Record) -> bool, names: &[&str]) -> Vec<Look> {
+        let records: Vec<&Record> = self.cut.of_kind(kind).filter(|r| is_it(r)).collect();
+        let first = records.iter().take(FEW);
+        let mut looks: Vec<Look> = first.map(|record| self.look(record, names)).collect();
+        if records.len() > FEW {
+            let more = grouped((records.len() - FEW) as u64);
+            looks.push(Look {
+                before: String::new(),
+                says: format!("{more} more of kind {}", KINDS[kind]),
+            });
+        }
+        looks
     }
 
     fn car_look(&self, names: &[&str]) -> Vec<Look> {
@@ -135,59 +147,57 @@ impl Records<'_> {
 
     /// 4: closed, without demand, on no line; else covered, since nothing else keeps a stop from being pending.
     fn not_pending(&self) -> Said {
-        let (mut more, mut looks, mut to_do) = (Vec::new(), Vec::new(), Vec::new());
-        let mut add = |says: &str, look: Vec<Look>, does: &str| {
-            more.push(says.to_string());
-            looks.extend(look);
-            to_do.push(does.to_string());
-        };
-        if self.sheet.closed.contains(&self.stop) {
-            let look = self.looks(8, "stop", self.stop, &["stop"]);
-            add(
-                "Its landing is closed.",
-                look,
-                "Take the closed record out once the landing is open.",
-            );
+        let (sheet, stop) = (self.sheet, self.stop);
+        let closed = (
+            "Its landing is closed.",
+            self.looks(8, "stop", stop, &["stop"]),
+            "Take the closed record out once the landing is open.",
+        );
+        let asked_for = (
+            "It has no demand: nobody waits there, nobody rides there, and no hall call is without a rider.",
+            self.demand_look(),
+            "Nothing, unless a rider or a call is missing: a waiting or a demand record makes demand.",
+        );
+        let no_line = (
+            "No line serves it.",
+            Vec::new(),
+            "Put the stop into serves of a line.",
+        );
+        let covered = (
+            "It is covered: cars that are on their way to it or at it take everybody who waits there.",
+            self.covering(),
+            "Nothing, if these cars do go there; else put their target or phase right.",
+        );
+        let mut holds = vec![
+            (sheet.closed.contains(&stop), closed),
+            (!sheet.has_demand(stop), asked_for),
+            (!sheet.is_served(stop), no_line),
+        ];
+        holds.retain(|(holds, _)| *holds);
+        if holds.is_empty() {
+            holds.push((true, covered));
         }
-        if !self.sheet.has_demand(self.stop) {
-            let says = "It has no demand: nobody waits there, nobody rides there, and no hall call is without a rider.";
-            let look = self.looks(
-                7,
-                "stop",
-                self.stop,
-                &["stop", "riding_count", "riderless_call"],
-            );
-            add(
-                says,
-                look,
-                "Nothing, unless a rider or a call is missing: a waiting or a demand record makes demand.",
-            );
-        }
-        if !self.sheet.is_served(self.stop) {
-            let does = "Put the stop into serves of a line.";
-            add("No line serves it.", Vec::new(), does);
-        }
-        if more.is_empty() {
-            let says = "It is covered: cars that are on their way to it or at it take everybody who waits there.";
-            return (
-                says.into(),
-                self.covering(),
-                "Nothing, if these cars do go there; else put their target or phase right.".into(),
-            );
-        }
-        (more.join(" "), looks, to_do.join(" "))
+        let says: Vec<&str> = holds.iter().map(|(_, said)| said.0).collect();
+        let does: Vec<&str> = holds.iter().map(|(_, said)| said.2).collect();
+        let (says, does) = (says.join(" "), does.join(" "));
+        let looks = holds.into_iter().flat_map(|(_, said)| said.1).collect();
+        (says, looks, does)
+    }
+
+    fn demand_look(&self) -> Vec<Look> {
+        let names = ["stop", "riding_count", "riderless_call"];
+        self.looks(7, "stop", self.stop, &names)
     }
 
     /// The cars that may cover the stop.
     fn covering(&self) -> Vec<Look> {
-        let is_serving = |record: &&Record| {
+        let is_serving = |record: &Record| {
             let phase = self.cut.named(record, "phase");
             let target = self.cut.named(record, "target");
             target == Some(self.stop.into()) && phase.is_some_and(|phase| SERVING.contains(&phase))
         };
         let names = ["id", "line", "phase", "target", "capacity", "load"];
-        let cars = self.cut.of_kind(4).filter(is_serving).take(FEW);
-        cars.map(|record| self.look(record, &names)).collect()
+        self.few(4, is_serving, &names)
     }
 
     fn off_line(&self) -> Said {
@@ -260,12 +270,7 @@ impl Records<'_> {
         let waiting = waiting.count();
         if waiting == 0 {
             let more = "Nobody waits there, and no hall call is without a rider.";
-            let looks = self.looks(
-                7,
-                "stop",
-                self.stop,
-                &["stop", "riding_count", "riderless_call"],
-            );
+            let looks = self.demand_look();
             let to_do = "Nothing, unless a rider or a call is missing: a waiting record, or riderless_call=yes.";
             return (more.into(), looks, to_do.into());
         }
