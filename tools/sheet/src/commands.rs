@@ -12,7 +12,7 @@ use sheet::source::{self, Source};
 use sheet::{completions, man, rule, show, store, text, usage};
 
 #[cfg(feature = "pass")]
-use crate::study::{by_lines, compare, is_by_lines, matrix, raise};
+use crate::study::{by_lines, compare, form, is_by_lines, matrix, raise};
 use crate::{Stop, complain};
 
 /// Does what a command line asks for.
@@ -333,7 +333,7 @@ fn why(args: &Args) -> Result<(), Stop> {
     let [car, stop] = [1, 2].map(|k| args.word(k).unwrap_or_default());
     of_the_interface()?;
     let (car, stop) = sheet::why::ids(&source, &car, &stop)?;
-    print(&sheet::why::of(&source, car, stop))
+    print(&sheet::why::of(&source, car, stop, form(args)?))
 }
 
 /// The six weights, or the refusal explained.

@@ -333,6 +333,7 @@ pub static COMMANDS: [Command; 20] = [
             needed("CAR", Takes::Id),
             needed("STOP", Takes::Id),
         ],
+        options: &FORMS,
         more: "CAR and STOP are ids, or names that a text gives. With a rank each term stands beside its weight, then the cost and its cell; without one the rule that says so, the records to look at, and what to do. SHEET is a sheet, or a text that `write` takes.",
         examples: &["sheet why lobby.sheet 1 3", "sheet why lobby.txt 1 3"],
         ..plain(

@@ -60,6 +60,32 @@ fn as_stored() {
     assert_eq!(numbers, (0..=12).collect::<Vec<_>>());
 }
 
+/// For programs: a pair with a rank, one without, and a refused sheet.
+#[test]
+fn forms_as_stored() {
+    for (path, car, stop, name) in [
+        ("examples/lobby.txt", "1", "3", "lobby_1_3"),
+        ("examples/load_weight.txt", "1", "3", "load_weight_1_3"),
+        ("examples/small_rsr.txt", "2", "3", "small_rsr_2_3"),
+        ("tests/why/reasons.txt", "away", "roof", "reasons_away_roof"),
+        (
+            "examples/refusal_08_phase.txt",
+            "1",
+            "3",
+            "refusal_08_phase_1_3",
+        ),
+    ] {
+        for form in ["json", "csv"] {
+            let stored = here(&format!("tests/why/{name}.{form}"));
+            let found = output(&["why", path, car, stop, &format!("--{form}")]);
+            if std::env::var_os("UPDATE").is_some() {
+                std::fs::write(&stored, &found).unwrap();
+            }
+            assert_eq!(found, text(&std::fs::read(&stored).unwrap()), "{name}");
+        }
+    }
+}
+
 /// The manual's examples are the stored outputs.
 #[test]
 fn the_manual_has_it() {

@@ -1,6 +1,7 @@
 //! Why a car costs what it does for a stop, or has no rank. Reasons, terms, running costs and cells are the proved library's: what stands here puts
 //! the policy's weights beside them, and names the records that a reason is about.
 
+mod forms;
 mod lines;
 mod parts;
 mod unranked;
@@ -10,6 +11,7 @@ use dispatch_bench::{Reason, Refusal, Why};
 use sheetgen::Sheet;
 
 use crate::explain;
+use crate::report::Form;
 use crate::source::Source;
 pub use lines::{brief, in_short, lines};
 pub use parts::{Amount, Effect, Part};
@@ -105,10 +107,15 @@ fn place(bytes: &[u8], car: u32, stop: u32) -> Result<(usize, usize, u64), Refus
     Ok((row + 1, column + 1, cell))
 }
 
-/// What `sheet why` prints: the facts, or the refusal explained.
-pub fn of(source: &Source, car: u32, stop: u32) -> String {
-    match Facts::of(source, car, stop) {
-        Ok(facts) => lines(&facts),
-        Err(_) => explain::of(source),
+/// What `sheet why` prints: the facts, or the refusal, in words explained.
+pub fn of(source: &Source, car: u32, stop: u32, form: Form) -> String {
+    match (form, Facts::of(source, car, stop)) {
+        (Form::Json, facts) => format!("{}\n", forms::json(&source.file, &facts)),
+        (Form::Words, Ok(facts)) => lines(&facts),
+        (Form::Words, Err(_)) => explain::of(source),
+        (Form::Csv, Ok(facts)) => forms::rows(&facts),
+        (Form::Csv, Err(Refusal { number, offset })) => {
+            format!("refused {number} at {offset}\n")
+        }
     }
 }
