@@ -211,7 +211,7 @@ fn refused() {
     assert_eq!(output(&["why", path, "1", "1"]), output(&["explain", path]));
     let output = run(&["why", path, "1"], b"");
     assert_eq!(output.status.code(), Some(2));
-    let said = "sheet: too few words after why: expected `sheet why SHEET CAR STOP`\n";
+    let said = "sheet: too few words after why: expected `sheet why SHEET CAR STOP";
     assert!(text(&output.stderr).starts_with(said));
 }
 
