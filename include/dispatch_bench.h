@@ -267,8 +267,8 @@ uint32_t dispatch_bench_put_demand(uint8_t *sheet, size_t length, uint32_t *stat
 /* A closed landing. */
 uint32_t dispatch_bench_put_closed(uint8_t *sheet, size_t length, uint32_t *state, size_t state_count, uint32_t stop);
 
-/* Finishes a sheet. 0: the head counts the records, the last byte is filled with zero bits, and the first *bytes bytes are the sheet. The state is not
-   written, so more records may be put, and the sheet finished again. Otherwise, and nothing is written: 1 where the state is none, 2 where the bytes
+/* Finishes a sheet. 0: the head counts the records, the last byte is filled with zero bits, and the first *bytes bytes are the sheet. The state is
+   not written, so more records may be put, and the sheet finished again. Otherwise, and nothing is written: 1 where the state is none, 2 where the bytes
    that are lent end before the last record. A sheet without a policy is finished too; a reader refuses it by 6. */
 uint32_t dispatch_bench_finish(uint8_t *sheet, size_t length, const uint32_t *state, size_t state_count, uint64_t *bytes);
 
