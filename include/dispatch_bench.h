@@ -1,4 +1,5 @@
-/* The dispatch bench, for hosts in C. `tools/library` puts the library into target/staticlib.
+/* The dispatch bench, for hosts in C. `tools/library` puts the library into target/staticlib, `make install` installs it. What the numbers stand for in
+   sentences is in dispatch_bench_sentences.h.
 
    There is no state but what a host lends, nothing is allocated, and any number of threads may call at once. Every pointer must be valid for its
    length. One with length 0 may be null, and no other: null with a length above 0, or null for a number that is answered, is read or written as any
@@ -17,6 +18,11 @@ extern "C" {
      2   dispatch_bench_pass has the parameter held, between ranked and offset (document 02, F-5)
      1   the first release, and later ones whose dispatch_bench_pass has no held */
 #define DISPATCH_BENCH_VERSION 2
+
+/* A host that was written for one number says so before it includes this header, and is not compiled with another: #define DISPATCH_BENCH_WANTED 2 */
+#if defined(DISPATCH_BENCH_WANTED) && DISPATCH_BENCH_WANTED != DISPATCH_BENCH_VERSION
+#error "dispatch_bench.h has another interface than DISPATCH_BENCH_WANTED"
+#endif
 
 /* The number of the library's interface: DISPATCH_BENCH_VERSION of the header that it was built with. Every library has this function, the first
    release's too. Ask before the first pass: a library of interface 1 takes held for its offset, so a refusal's offset stands in *held, *offset keeps
