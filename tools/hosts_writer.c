@@ -398,8 +398,19 @@ static void null_of_length_0(void) {
     start(1);
     is("finish, no bytes", dispatch_bench_finish(NULL, 0, state, places, &count), DISPATCH_BENCH_PAST_END);
     is("finish, no state", dispatch_bench_finish(NULL, 0, NULL, 0, &count), DISPATCH_BENCH_SHORT_BUFFER);
-    is("a closure, no bytes", dispatch_bench_put_closed(NULL, 0, state, places, 1), DISPATCH_BENCH_PAST_END);
     is("a weight, no bytes", dispatch_bench_put_weight(NULL, 0, &records, 0, 0, 0, 1), DISPATCH_BENCH_PAST_END);
+}
+
+/* Each put with so many bytes and places at null or at an address. */
+static void null_puts(uint8_t *at, size_t bytes, uint32_t *kept, size_t numbers, uint32_t wanted) {
+    is("a policy", dispatch_bench_put_policy(at, bytes, kept, numbers, 2, 1, 60, 0, 0, 0, 0, 0, 0, 0), wanted);
+    is("a stop", dispatch_bench_put_stop(at, bytes, kept, numbers, 1, 0, 0), wanted);
+    is("a line", dispatch_bench_put_line(at, bytes, kept, numbers, 1, 0), wanted);
+    is("a car", dispatch_bench_put_car(at, bytes, kept, numbers, 1, 1, 0, 0, 0, 0, 0, 0, 0, 0, 0, 0, 0, 0, 0, 0, 0, 0, 0, 0, 0, 0, 0), wanted);
+    is("aboard", dispatch_bench_put_aboard(at, bytes, kept, numbers, 1, 0), wanted);
+    is("waiting", dispatch_bench_put_waiting(at, bytes, kept, numbers, 1, 0, 0, 0, 0), wanted);
+    is("a demand", dispatch_bench_put_demand(at, bytes, kept, numbers, 1, 0, 0), wanted);
+    is("a closure", dispatch_bench_put_closed(at, bytes, kept, numbers, 1), wanted);
 }
 
 /* A grade of a sheet without idle cars and stops: accepted with null for the three lists. */
@@ -431,6 +442,9 @@ int main(int count, char **words) {
     back();
     a_store();
     null_of_length_0();
+    start(1);
+    null_puts(NULL, 0, state, places, DISPATCH_BENCH_PAST_END);
+    null_puts(sheet, lent, NULL, 0, DISPATCH_BENCH_SHORT_BUFFER);
     grade_of_nothing();
     return wrong != 0;
 }
