@@ -4,7 +4,7 @@
 
 #include <stdint.h>
 
-/* The rule of a refusal of a sheet, of what is sent with it, of a run or of a small matrix, 1 to 16 and 19 to 22; 17 and 18 are a store's. Empty for any other number. */
+/* The rule of a refusal of a sheet, of what is sent with it, of a run or of a small matrix; 17 and 18 are a store's. Empty for any other number. */
 static inline const char *dispatch_bench_sentence(uint32_t number) {
     switch (number) {
     case 1:
