@@ -92,6 +92,20 @@ pub struct SheetWriter<'b> {
     state: [u32; STATE],
 }
 
+/// How many records of each kind were put.
+impl fmt::Debug for SheetWriter<'_> {
+    fn fmt(&self, f: &mut fmt::Formatter<'_>) -> fmt::Result {
+        let kinds = [
+            "policies", "stops", "lines", "cars", "aboard", "waiting", "demands", "closed",
+        ];
+        let mut said = f.debug_struct("SheetWriter");
+        for (kind, count) in kinds.iter().zip(&self.state[1..]) {
+            said.field(kind, count);
+        }
+        said.finish()
+    }
+}
+
 impl SheetWriter<'static> {
     /// A sheet in bytes of its own, which become more as records need them.
     pub fn new(edition: Edition) -> Self {

@@ -74,6 +74,10 @@ fn the_example_in_bytes_of_its_own_and_in_lent_ones() {
     let mut writer = SheetWriter::new(Edition::First);
     put_example(&mut writer).unwrap();
     assert_eq!(writer.sheet(), EXAMPLE);
+    assert_eq!(
+        format!("{writer:?}"),
+        "SheetWriter { policies: 1, stops: 3, lines: 1, cars: 2, aboard: 0, waiting: 0, demands: 2, closed: 0 }"
+    );
     assert_eq!(writer.finish(), EXAMPLE);
     let mut bytes = [0xff; SHEET_BYTES];
     let mut writer = SheetWriter::lent(&mut bytes, Edition::First).unwrap();
