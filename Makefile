@@ -23,7 +23,11 @@ INSTALLED := $(addprefix $(INCLUDEDIR)/,$(HEADERS)) $(addprefix $(LIBDIR)/,$(NAM
 all: $(BUILT)/$(SHARED)
 
 library:
-	$(if $(DISPATCH_BENCH_LIB),@test -f $(FOLDER)/$(NAME).a,@tools/library)
+ifdef DISPATCH_BENCH_LIB
+	@test -f $(FOLDER)/$(NAME).a || { echo "$(FOLDER)/$(NAME).a is missing: DISPATCH_BENCH_LIB names a folder without the library" >&2; exit 1; }
+else
+	@tools/library
+endif
 
 # Every function of the archive, and nothing that is not there.
 $(BUILT)/$(SHARED): library
