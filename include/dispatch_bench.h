@@ -49,7 +49,8 @@ uint32_t dispatch_bench_choose_plain(size_t cars, size_t columns, const uint64_t
                                      uint64_t *total);
 
 /* The refusals, by the numbers of documents 01 and 02. Those of a store of weights are 1, 2, 7, 8, 11, 17 and 18; 19 and 20 are given by
-   dispatch_bench_grade alone, 21 by dispatch_bench_travel_time alone, 22 by dispatch_bench_choose_plain alone. */
+   dispatch_bench_grade alone, 21 by dispatch_bench_travel_time alone, 22 by dispatch_bench_choose_plain alone. The writer answers 1, 2, 3, 6, 7 and 8,
+   of what it was asked to write. */
 enum dispatch_bench_refusal {
     DISPATCH_BENCH_ACCEPTED = 0,
     DISPATCH_BENCH_SHORT_BUFFER = 1,    /* a lent buffer is too short (dispatch_bench_pass, _pending, _why, _weights, _grade, _choose_plain) */

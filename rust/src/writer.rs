@@ -121,7 +121,7 @@ impl SheetWriter<'static> {
 }
 
 impl<'b> SheetWriter<'b> {
-    /// A sheet in bytes that are lent; [`SHEET_BYTES`] hold every sheet that is accepted. Nothing is allocated.
+    /// A sheet in bytes that are lent; [`SHEET_BYTES`] hold every sheet that is accepted. Nothing is allocated, but by [`finish`](Self::finish).
     ///
     /// ```
     /// use dispatch_bench::record::{Edition, Stop};
