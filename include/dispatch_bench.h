@@ -1,7 +1,9 @@
-/* The dispatch bench, for hosts in C. `tools/library` puts the library into target/staticlib.
+/* The dispatch bench, for hosts in C. `tools/library` puts the library into target/staticlib, `make install` installs it. What the numbers stand for in
+   sentences is in dispatch_bench_sentences.h.
 
-   There is no state, and any number of threads may call at once. Every pointer must be valid for its length, and none may be null, that of an
-   empty sheet or buffer included; no two of one call may overlap. */
+   There is no state but what a host lends, nothing is allocated, and any number of threads may call at once. Every pointer must be valid for its
+   length. One with length 0 may be null, and no other: null with a length above 0, or null for a number that is answered, is read or written as any
+   address is, and nothing tests it. No two of one call may overlap. */
 #ifndef DISPATCH_BENCH_H
 #define DISPATCH_BENCH_H
 
@@ -16,6 +18,11 @@ extern "C" {
      2   dispatch_bench_pass has the parameter held, between ranked and offset (document 02, F-5)
      1   the first release, and later ones whose dispatch_bench_pass has no held */
 #define DISPATCH_BENCH_VERSION 2
+
+/* A host that was written for one number says so before it includes this header, and is not compiled with another: #define DISPATCH_BENCH_WANTED 2 */
+#if defined(DISPATCH_BENCH_WANTED) && DISPATCH_BENCH_WANTED != DISPATCH_BENCH_VERSION
+#error "dispatch_bench.h has another interface than DISPATCH_BENCH_WANTED"
+#endif
 
 /* The number of the library's interface: DISPATCH_BENCH_VERSION of the header that it was built with. Every library has this function, the first
    release's too. Ask before the first pass: a library of interface 1 takes held for its offset, so a refusal's offset stands in *held, *offset keeps
@@ -42,7 +49,8 @@ uint32_t dispatch_bench_choose_plain(size_t cars, size_t columns, const uint64_t
                                      uint64_t *total);
 
 /* The refusals, by the numbers of documents 01 and 02. Those of a store of weights are 1, 2, 7, 8, 11, 17 and 18; 19 and 20 are given by
-   dispatch_bench_grade alone, 21 by dispatch_bench_travel_time alone, 22 by dispatch_bench_choose_plain alone. */
+   dispatch_bench_grade alone, 21 by dispatch_bench_travel_time alone, 22 by dispatch_bench_choose_plain alone. The writer answers 1, 2, 3, 6, 7 and 8,
+   of what it was asked to write. */
 enum dispatch_bench_refusal {
     DISPATCH_BENCH_ACCEPTED = 0,
     DISPATCH_BENCH_SHORT_BUFFER = 1,    /* a lent buffer is too short (dispatch_bench_pass, _pending, _why, _weights, _grade, _choose_plain) */
@@ -108,6 +116,13 @@ enum dispatch_bench_refusal {
 
 /* Bytes of a store of weights past these change no answer: 257 records. */
 #define DISPATCH_BENCH_MOST_STORE_BYTES 3855
+
+/* The numbers of a writer's state. */
+#define DISPATCH_BENCH_STATE 9
+
+/* The bytes of the longest sheet that is accepted, and of the longest store: a writer that is lent as many never lacks room for one of them. */
+#define DISPATCH_BENCH_SHEET_BYTES 27283
+#define DISPATCH_BENCH_STORE_BYTES 3840
 
 /* A pass over a sheet. 0: *cars idle cars, *stops pending stops, *total the least total; in decisions the stop id of each idle car in record order (0 for
    idle), in matrix the cells row by row, a row of max(*cars, *stops) columns for each idle car, in sweeps 2 * sweep + mode of each car record; what
@@ -202,6 +217,73 @@ uint32_t dispatch_bench_grade(const uint8_t *sheet, size_t length, const uint32_
    written: an input is a NaN or beyond DISPATCH_BENCH_MOST_INPUT either way, or the top speed or a rate lies above 0 and below
    DISPATCH_BENCH_LEAST_RATE. A sheet holds no rates, so the caller supplies all five. */
 uint32_t dispatch_bench_travel_time(double distance, double speed, double top, double acceleration, double deceleration, double *time);
+
+/* The writer of sheets: dispatch_bench_start, then a put for each record, the policy first and kinds that never fall, then dispatch_bench_finish. The
+   host lends the same bytes and the same state to every call of one sheet, and changes neither in between. The state is DISPATCH_BENCH_STATE numbers,
+   which start fills: how long a second coordinate is, and how many records of each kind there are. So a host that keeps a copy of the state may go
+   back to it, and put another record in the place of those that followed.
+
+   A put answers 0, and the record is written behind the last one, and counted in the state; every other bit of the sheet is kept. Otherwise the
+   first of these that holds, and neither the sheet nor the state is written:
+     1         state_count is below DISPATCH_BENCH_STATE, or the state is none: a number of it is beyond its table
+     8         a code that stands for nothing: a strategy above 2, traffic above 3, a phase above 6
+     2         the bytes that are lent end before the record does
+     6         the first record is no policy, or the kind is below the last one's
+     7         the table of this kind is full (1 policy, 64 stops, 8 lines, 32 cars, 512 riders aboard, 512 waiting), or there are 65,535 records
+
+   What is finished is read as exactly the records that were put. Of the refusals only 8 to 14 are left, those of a record's values, and the sheet is
+   accepted exactly where none of them holds: ask dispatch_bench_read. An id of 0 stands for an optional field that is absent. A flag is set by any
+   number but 0. A NaN is written with the bits of the quiet one, every other double with its own. The highest bit of a mask is the first stop. */
+
+/* Starts a sheet of an edition, 1 or 2. 0: the head is written, and the state; what stands in the state past its numbers is left. Otherwise, and
+   nothing is written: 1 where state_count is below DISPATCH_BENCH_STATE, 3 for any other edition, 2 where fewer than 3 bytes are lent, tested in this
+   order. The state may hold anything before. */
+uint32_t dispatch_bench_start(uint8_t *sheet, size_t length, uint32_t *state, size_t state_count, uint32_t edition);
+
+/* The policy: strategy 0 ETD, 1 RSR, 2 SCAN; limit 65,535 for none; rate in ticks a second; traffic 0 idle, 1 up peak, 2 inter-floor, 3 down peak;
+   the six weights by slot, those that the strategy leaves unused 0. */
+uint32_t dispatch_bench_put_policy(uint8_t *sheet, size_t length, uint32_t *state, size_t state_count, uint32_t strategy, uint16_t limit, double rate,
+                                   uint32_t traffic, double w0, double w1, double w2, double w3, double w4, double w5);
+
+/* A stop. across is its second coordinate, which edition 1 does not hold: there it is not written. */
+uint32_t dispatch_bench_put_stop(uint8_t *sheet, size_t length, uint32_t *state, size_t state_count, uint32_t id, double position, double across);
+
+/* A line, with the mask of the stops that it serves. */
+uint32_t dispatch_bench_put_line(uint8_t *sheet, size_t length, uint32_t *state, size_t state_count, uint32_t id, uint64_t serves);
+
+/* A car: phase 0 idle, 1 moving, 2 repositioning, 3 door opening, 4 loading, 5 door closing, 6 stopped; the stop is that of phases 1 and 2, and not
+   written with any other; a target of 0 is none; listed as idle; going up and going down, the lamps; sweep 0 up, 1 down; mode 0 strict, 1 lenient;
+   across as of a stop; bypass_up and bypass_down, the thresholds, are written where the flag before them is set; transition and dwell in ticks, the
+   doors' and those for which they stay open; the masks of the stops that are barred to the car and of its car calls. */
+uint32_t dispatch_bench_put_car(uint8_t *sheet, size_t length, uint32_t *state, size_t state_count, uint32_t id, uint32_t line, uint32_t phase,
+                                uint32_t stop, uint32_t target, uint32_t listed, uint32_t up, uint32_t down, uint32_t sweep, uint32_t mode,
+                                double position, double across, double speed, double capacity, double load, uint32_t has_bypass_up, double bypass_up,
+                                uint32_t has_bypass_down, double bypass_down, uint32_t transition, uint32_t dwell, uint64_t restricted,
+                                uint64_t calls);
+
+/* A rider in a car; a destination of 0 is none. */
+uint32_t dispatch_bench_put_aboard(uint8_t *sheet, size_t length, uint32_t *state, size_t state_count, uint32_t car, uint32_t destination);
+
+/* A rider at a stop, with the ticks waited; a line or a destination of 0 is none. */
+uint32_t dispatch_bench_put_waiting(uint8_t *sheet, size_t length, uint32_t *state, size_t state_count, uint32_t stop, uint32_t line,
+                                    uint32_t destination, double weight, uint64_t wait);
+
+/* A stop's demand: its riding count, and whether a hall call there has no pending rider. */
+uint32_t dispatch_bench_put_demand(uint8_t *sheet, size_t length, uint32_t *state, size_t state_count, uint32_t stop, uint16_t riding, uint32_t call);
+
+/* A closed landing. */
+uint32_t dispatch_bench_put_closed(uint8_t *sheet, size_t length, uint32_t *state, size_t state_count, uint32_t stop);
+
+/* Finishes a sheet. 0: the head counts the records, the last byte is filled with zero bits, and the first *bytes bytes are the sheet. The state is
+   not written, so more records may be put, and the sheet finished again. Otherwise, and nothing is written: 1 where the state is none, 2 where the bytes
+   that are lent end before the last record. A sheet without a policy is finished too; a reader refuses it by 6. */
+uint32_t dispatch_bench_finish(uint8_t *sheet, size_t length, const uint32_t *state, size_t state_count, uint64_t *bytes);
+
+/* Writes a record of a store of weights behind *count others, which are records of 15 bytes from the store's start: a weight slot, the day from which
+   it holds, the issue and the weight, a NaN with the bits of the quiet one. 0, and *count is one more; the store is its first 15 * *count bytes.
+   Otherwise, and nothing is written: 2 where it has no room, 7 where there are 256, tested in this order. What a reader refuses by 8, 11, 17 or 18 is
+   written: ask dispatch_bench_weights. */
+uint32_t dispatch_bench_put_weight(uint8_t *store, size_t length, uint16_t *count, uint8_t setting, uint32_t start, uint16_t issue, double weight);
 
 #ifdef __cplusplus
 }

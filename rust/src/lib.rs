@@ -1,5 +1,6 @@
 //! The dispatch bench for Rust hosts: one group pass of lift dispatch over a binary sheet, why a pair costs what it does, the weights of
-//! a policy from a store, the grade of a choice that a site made, the seconds of a run with ramps, and the choice of a matrix of cells.
+//! a policy from a store, the grade of a choice that a site made, the seconds of a run with ramps, the choice of a matrix of cells, and a writer of
+//! sheets.
 //!
 //! Every function of the linked library is proved to meet its contract; this crate is what a Rust host needs around it and is not proved. Each
 //! function ends on every input, with an answer or a refusal, and none panics. There is no state, so any number of threads may call at once;
@@ -20,6 +21,7 @@
 
 #![deny(unsafe_code)]
 
+mod by_id;
 mod grade;
 #[allow(unsafe_code)]
 mod library;
@@ -27,13 +29,16 @@ mod lines;
 mod pass;
 mod pending;
 mod plain;
+pub mod record;
 mod records;
 mod refusal;
 mod rules;
 mod travel;
 mod weights;
 mod why;
+mod writer;
 
+pub use by_id::{PassById, pass_by_id};
 pub use grade::{Grade, Graded, MOST_PRICE, Sent, grade, grade_into};
 pub use lines::lines;
 pub use pass::{
@@ -44,8 +49,9 @@ pub use plain::{NotSmall, PLAIN_CARS, PLAIN_COLUMNS, choose_plain};
 pub use records::{Car, cars};
 pub use refusal::Refusal;
 pub use travel::{LEAST_RATE, MOST_INPUT, OutsideDomain, Run, travel_time};
-pub use weights::{SLOTS, StoreRefusal, weights};
+pub use weights::{SLOTS, StoreEntry, StoreRefusal, weights, write_store};
 pub use why::{Reason, TERMS, Terms, Why, why};
+pub use writer::{NotWritten, SHEET_BYTES, SheetWriter};
 
 /// The cell of a pair that has no rank and of a spare column, what a car that stays idle counts in the total, and the largest cell that
 /// [`choose`] takes. A cost of 1 is a cell of 1,000,000.

@@ -1,3 +1,4 @@
+use std::fmt;
 use std::num::NonZeroU32;
 use std::slice::ChunksExact;
 
@@ -23,9 +24,18 @@ pub enum SweepMode {
 }
 
 /// A car's sweep after the pass.
-#[derive(Clone, Copy, Debug, Default, PartialEq, Eq)]
+#[derive(Clone, Copy, Default, PartialEq, Eq)]
 #[repr(transparent)]
 pub struct Sweep(u8);
+
+impl fmt::Debug for Sweep {
+    fn fmt(&self, f: &mut fmt::Formatter<'_>) -> fmt::Result {
+        f.debug_struct("Sweep")
+            .field("direction", &self.direction())
+            .field("mode", &self.mode())
+            .finish()
+    }
+}
 
 impl Sweep {
     pub fn direction(self) -> SweepDirection {

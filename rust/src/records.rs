@@ -8,9 +8,9 @@ pub struct Car {
 
 const CAR: u64 = 4;
 /// The edition and the number of records.
-const HEAD: usize = 24;
+pub(crate) const HEAD: usize = 24;
 /// A record's kind and length.
-const FRONT: usize = 22;
+pub(crate) const FRONT: usize = 22;
 /// Where a car record holds whether it is idle-listed, in both editions: edition 2 has more behind the position, which comes later.
 const IDLE_LISTED: usize = 154;
 /// Bytes past these change no answer.
@@ -48,7 +48,7 @@ pub(crate) fn strategy(sheet: &[u8]) -> u64 {
 }
 
 /// Up to 64 bits at a bit, most significant first; past the end they are zero.
-fn field(sheet: &[u8], at: usize, width: usize) -> u64 {
+pub(crate) fn field(sheet: &[u8], at: usize, width: usize) -> u64 {
     (at..at + width).fold(0, |value, bit| {
         let byte = sheet.get(bit / 8).copied().unwrap_or(0);
         value << 1 | u64::from(byte >> (7 - bit % 8) & 1)

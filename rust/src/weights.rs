@@ -1,6 +1,6 @@
 use std::fmt;
 
-use crate::{library, rules};
+use crate::{NotWritten, library, rules};
 
 /// The weights of a policy, by slot.
 pub const SLOTS: usize = 6;
@@ -96,4 +96,41 @@ pub fn weights(store: &[u8], day: u32) -> Result<[f64; SLOTS], StoreRefusal> {
         0 => Ok(weights),
         number => Err(StoreRefusal { number, offset }),
     }
+}
+
+/// A record of a store of weights.
+#[derive(Clone, Copy, Debug, Default, PartialEq)]
+pub struct StoreEntry {
+    /// The slot of the weight, 0 to 5.
+    pub setting: u8,
+    /// The first day on which it holds.
+    pub start: u32,
+    /// Of records with one setting and start the highest issue holds.
+    pub issue: u16,
+    pub value: f64,
+}
+
+/// The bytes of a store with these records, by the proved writer; more than 256 are [`NotWritten::Full`]. A setting above 5 and a value out of range
+/// are written, and refused by [`weights`].
+///
+/// ```
+/// use dispatch_bench::{StoreEntry, weights, write_store};
+///
+/// let entry = |setting, value| StoreEntry { setting, start: 100, issue: 0, value };
+/// let entries: Vec<StoreEntry> = (0..6).map(|slot| entry(slot, 0.5)).collect();
+/// let store = write_store(&entries)?;
+/// assert_eq!(store.len(), 90);
+/// assert_eq!(weights(&store, 100)?, [0.5; 6]);
+/// # Ok::<(), Box<dyn std::error::Error>>(())
+/// ```
+pub fn write_store(entries: &[StoreEntry]) -> Result<Vec<u8>, NotWritten> {
+    let mut store = vec![0; entries.len() * (RECORD_BITS / 8) as usize];
+    let mut count = 0;
+    for entry in entries {
+        match library::put_weight(&mut store, &mut count, entry) {
+            0 => {}
+            number => return Err(NotWritten::of(number)),
+        }
+    }
+    Ok(store)
 }
