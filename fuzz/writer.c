@@ -1,6 +1,6 @@
-/* Any bytes as calls of the writer: dispatch_bench_start, puts of any kinds with any fields, dispatch_bench_finish, and a put or a finish with a
-   state that is not this sheet's; or as puts of a store of weights (stored.c). Numbers are held to the header, fields are read back bit by bit, and what is finished
-   goes to dispatch_bench_read. Every pointer leads to guarded pages. Each input is run twice, with other contents and places of the buffers. */
+/* Any bytes as calls of the writer: dispatch_bench_start, puts of any kinds with any fields, dispatch_bench_finish, and a put or a finish with a state
+   that is not this sheet's; or as puts of a store of weights (stored.c). Numbers are held to the header, fields are read back bit by bit, and what is
+   finished goes to dispatch_bench_read. Every pointer leads to guarded pages. Each input is run twice, with other contents and places of the buffers. */
 #include <stdio.h>
 #include <stdlib.h>
 #include <string.h>

@@ -145,7 +145,8 @@ uint32_t __wrap_dispatch_bench_put_demand(LENT, uint32_t stop, uint16_t riding, 
 }
 
 uint32_t __wrap_dispatch_bench_put_closed(LENT, uint32_t stop) {
-    return spoil(sheet, length, state, count, CLOSED, __real_dispatch_bench_put_closed(sheet, length, state, count, is("closed_next") ? stop + 1 : stop));
+    uint32_t given = is("closed_next") ? stop + 1 : stop;
+    return spoil(sheet, length, state, count, CLOSED, __real_dispatch_bench_put_closed(sheet, length, state, count, given));
 }
 
 uint32_t __wrap_dispatch_bench_finish(uint8_t *sheet, size_t length, const uint32_t *state, size_t count, uint64_t *bytes) {
@@ -168,7 +169,8 @@ uint32_t __wrap_dispatch_bench_finish(uint8_t *sheet, size_t length, const uint3
     return is("finish_number") && number == 2 ? 1 : number;
 }
 
-uint32_t __wrap_dispatch_bench_put_weight(uint8_t *store, size_t length, uint16_t *count, uint8_t setting, uint32_t start, uint16_t issue, double weight) {
+uint32_t __wrap_dispatch_bench_put_weight(uint8_t *store, size_t length, uint16_t *count, uint8_t setting, uint32_t start, uint16_t issue,
+                                          double weight) {
     uint16_t before = *count, given = is("weight_issue_of_8_bits") ? issue & 255 : issue;
     uint8_t slot = is("weight_setting") && setting > 5 ? 5 : setting;
     uint32_t number = __real_dispatch_bench_put_weight(store, length, count, slot, start, given, weight);
