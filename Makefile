@@ -1,11 +1,14 @@
 # The dispatch bench for hosts in C: make install PREFIX=/usr/local [DESTDIR=FOLDER]. Installs the headers, the static and the shared library, a
 # file for pkg-config and one for CMake's find_package. The library is the proved one that tools/library finds, or that of the folder
-# DISPATCH_BENCH_LIB. make uninstall takes the same words and removes what was installed.
+# DISPATCH_BENCH_LIB. make uninstall takes the same words and removes what was installed. No folder that is named has a space in its name: make, and
+# pkg-config after it, would take it for two.
 PREFIX ?= /usr/local
 LIBDIR ?= $(PREFIX)/lib
 INCLUDEDIR ?= $(PREFIX)/include
 DESTDIR ?=
 CC ?= cc
+$(foreach name,PREFIX LIBDIR INCLUDEDIR DESTDIR DISPATCH_BENCH_LIB,$(if $(filter-out 1,$(words [$($(name))])),\
+    $(error $(name) has a space in it, which this Makefile does not take: "$($(name))")))
 
 VERSION := $(shell sed -n 's/^\#define DISPATCH_BENCH_VERSION //p' include/dispatch_bench.h)
 FOLDER := $(if $(DISPATCH_BENCH_LIB),$(DISPATCH_BENCH_LIB),target/staticlib)

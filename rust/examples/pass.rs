@@ -3,7 +3,9 @@
 //! Exit 0: a pass or a refusal was printed. 1: the sheet cannot be read, or the lines cannot be written, or the library is not of the crate's
 //! interface. 2: no sheet was named.
 
-use std::io::Write as _;
+mod files;
+
+use std::path::Path;
 use std::process::ExitCode;
 
 use dispatch_bench::{VERSION, version};
@@ -20,22 +22,11 @@ fn main() -> ExitCode {
         );
         return ExitCode::FAILURE;
     }
-    let sheet = match std::fs::read(&path) {
-        Ok(sheet) => sheet,
-        Err(error) => {
-            eprintln!("{}: {error}", path.display());
-            return ExitCode::FAILURE;
-        }
+    let Some(sheet) = files::read(Path::new(&path)) else {
+        return ExitCode::FAILURE;
     };
     if let Err(refusal) = dispatch_bench::read(&sheet) {
         eprintln!("{refusal}\n{}", refusal.remedy());
     }
-    let lines = dispatch_bench::lines(&sheet);
-    match std::io::stdout().write_all(lines.as_bytes()) {
-        Ok(()) => ExitCode::SUCCESS,
-        Err(error) => {
-            eprintln!("standard output: {error}");
-            ExitCode::FAILURE
-        }
-    }
+    files::print(&dispatch_bench::lines(&sheet))
 }

@@ -2,8 +2,10 @@
 //!
 //! Exit 0: weights or a refusal were printed. 1: the store cannot be read, or the lines cannot be written. 2: no store, or no day, was named.
 
+mod files;
+
 use std::fmt::Write as _;
-use std::io::Write as _;
+use std::path::Path;
 use std::process::ExitCode;
 
 /// The lines of the weights, or of the refusal.
@@ -33,18 +35,8 @@ fn main() -> ExitCode {
         eprintln!("usage: weights STORE DAY");
         return ExitCode::from(2);
     };
-    let store = match std::fs::read(path) {
-        Ok(store) => store,
-        Err(error) => {
-            eprintln!("{}: {error}", path.display());
-            return ExitCode::FAILURE;
-        }
+    let Some(store) = files::read(Path::new(path)) else {
+        return ExitCode::FAILURE;
     };
-    match std::io::stdout().write_all(lines(&store, day).as_bytes()) {
-        Ok(()) => ExitCode::SUCCESS,
-        Err(error) => {
-            eprintln!("standard output: {error}");
-            ExitCode::FAILURE
-        }
-    }
+    files::print(&lines(&store, day))
 }
