@@ -99,17 +99,22 @@ def pending(sheet) -> tuple[int, ...]:
 
 def _cars(sheet: bytes) -> Iterator[tuple[int, bool]]:
     """The id of each car record of an accepted sheet, and whether it is idle-listed. This is decoded here, not by the library."""
-    bits = int.from_bytes(sheet, "big")
-    width = 8 * len(sheet)
 
     def field(at: int, length: int) -> int:
-        return bits >> (width - at - length) & ((1 << length) - 1)
+        end = at + length
+        held = int.from_bytes(sheet[at // 8 : (end + 7) // 8], "big")
+        return held >> (-end % 8) & ((1 << length) - 1)
 
     at = 24
     for _ in range(field(8, 16)):
-        if field(at, 6) == 4:
+        front = field(at, 22)
+        kind, length = front >> 16, front & 0xFFFF
+        # kinds never fall, so no car stands behind a higher one
+        if kind > 4:
+            return
+        if kind == 4:
             yield field(at + 22, 32), field(at + 154, 1) == 1
-        at += 22 + field(at + 6, 16)
+        at += 22 + length
 
 
 def _rows(matrix, cars: int, columns: int) -> tuple[tuple[int, ...], ...]:
