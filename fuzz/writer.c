@@ -1,6 +1,7 @@
 /* Any bytes as calls of the writer: dispatch_bench_start, puts of any kinds with any fields, dispatch_bench_finish, and a put or a finish with a state
-   that is not this sheet's; or as puts of a store of weights (stored.c). Numbers are held to the header, fields are read back bit by bit, and what is
-   finished goes to dispatch_bench_read. Every pointer leads to guarded pages. Each input is run twice, with other contents and places of the buffers. */
+   that is not this sheet's, and puts of single fields; or as puts of a store of weights (stored.c). Numbers are held to the header, fields are read
+   back bit by bit, and what is finished goes to dispatch_bench_read. Every pointer leads to guarded pages. Each input is run twice, with other
+   contents and places of the buffers. */
 #include <stdio.h>
 #include <stdlib.h>
 #include <string.h>
@@ -21,7 +22,7 @@ static struct guarded sheet, state, bytes;
 static uint8_t sheet_before[ROOM];
 static uint32_t state_before[MOST_PLACES], edition;
 
-static unsigned long puts_by_number[9], finished, reads[17];
+static unsigned long puts_by_number[9], fields_by_number[9], finished, reads[17];
 
 __attribute__((section("__libfuzzer_extra_counters"))) static uint8_t features[4096];
 
@@ -32,6 +33,7 @@ static void print_counts(void) {
             fprintf(stderr, ", refused by %d %lu", number, puts_by_number[number]);
         }
     }
+    fprintf(stderr, "; fields %lu, refused by 2 %lu, by 8 %lu", fields_by_number[0], fields_by_number[2], fields_by_number[8]);
     fprintf(stderr, "; finished %lu, accepted %lu", finished, reads[0]);
     for (int number = 1; number <= 16; number++) {
         if (reads[number] > 0) {
@@ -207,6 +209,39 @@ static void run_foreign(const struct put *p, struct input *in) {
     memcpy(state.at, state_kept, state.length);
 }
 
+/* The first number that the header gives of a field. */
+static uint32_t number_of_field(uint32_t at, uint32_t width, uint64_t value) {
+    if (width > 64 || (width < 64 && value >> width != 0)) {
+        return DISPATCH_BENCH_UNUSED_BITS;
+    }
+    return (uint64_t)at + width > 8 * (uint64_t)sheet.length ? DISPATCH_BENCH_PAST_END : DISPATCH_BENCH_ACCEPTED;
+}
+
+/* A field of up to 69 bits or of any width, at a bit of the first 8 KB, near the end or anywhere, of a number that mostly fits. */
+static void run_field(struct input *in) {
+    static uint8_t sheet_kept[ROOM];
+    uint8_t how = (uint8_t)take(in, 1);
+    uint32_t width = how % 8 == 7 ? (uint32_t)take(in, 4) : (uint32_t)take(in, 1) % 70, near = (uint32_t)take(in, 2);
+    uint32_t at = how / 8 % 4 == 3 ? (uint32_t)take(in, 4) : how / 8 % 4 == 2 ? (uint32_t)(8 * sheet.length) - near % 128 : near;
+    uint64_t value = take(in, 8);
+    value = how / 32 == 7 || width >= 64 ? value : width == 0 ? 0 : value >> (64 - width);
+    memcpy(sheet_kept, sheet.at, sheet.length);
+    keep();
+    uint32_t number = dispatch_bench_put_field(sheet.at, sheet.length, at, width, value);
+    require(number == number_of_field(at, width, value), "the number of a field is the first that the header gives");
+    check_around();
+    if (number == 0) {
+        require(get_bits(sheet.at, sheet.length, at, width) == value, "a field holds the number that was put");
+        put_bits(sheet_before, at, width, value);
+        require(memcmp(sheet.at, sheet_before, sheet.length) == 0, "a field keeps every other bit");
+    } else {
+        check_kept();
+    }
+    fields_by_number[number]++;
+    features[3200 + number * 72 + (width > 70 ? 71 : width)] = 1;
+    memcpy(sheet.at, sheet_kept, sheet.length);
+}
+
 /* The kind of a call: one of the eight, or by the last one's. */
 static unsigned kind_of(unsigned op, unsigned last) {
     unsigned kind = op <= CLOSED ? op : op == 11 ? last + 1 : last;
@@ -222,6 +257,11 @@ static size_t run_calls(struct input *in) {
         uint8_t op = (uint8_t)take(in, 1);
         if (op % 16 == 0 || op % 16 == 10) {
             run_finish(1);
+            calls++;
+            continue;
+        }
+        if (op % 16 == 13) {
+            run_field(in);
             calls++;
             continue;
         }

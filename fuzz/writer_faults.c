@@ -33,6 +33,8 @@ uint32_t __real_dispatch_bench_finish(uint8_t *, size_t, const uint32_t *, size_
 uint32_t __wrap_dispatch_bench_finish(uint8_t *, size_t, const uint32_t *, size_t, uint64_t *);
 uint32_t __real_dispatch_bench_put_weight(uint8_t *, size_t, uint16_t *, uint8_t, uint32_t, uint16_t, double);
 uint32_t __wrap_dispatch_bench_put_weight(uint8_t *, size_t, uint16_t *, uint8_t, uint32_t, uint16_t, double);
+uint32_t __real_dispatch_bench_put_field(uint8_t *, size_t, uint32_t, uint32_t, uint64_t);
+uint32_t __wrap_dispatch_bench_put_field(uint8_t *, size_t, uint32_t, uint32_t, uint64_t);
 
 /* A fault of the byte at a place that is lent. */
 static void flip(uint8_t *bytes, size_t length, size_t at, const char *fault) {
@@ -182,4 +184,20 @@ uint32_t __wrap_dispatch_bench_put_weight(uint8_t *store, size_t length, uint16_
         flip(store, length, 0, "weight_refusal_writes");
     }
     return is("weight_full_is_2") && number == 7 ? 2 : is("weight_room_is_7") && number == 2 ? 7 : number;
+}
+
+uint32_t __wrap_dispatch_bench_put_field(uint8_t *sheet, size_t length, uint32_t at, uint32_t width, uint64_t value) {
+    uint64_t given = is("field_cut_off") && width < 64 ? value & ((UINT64_C(1) << width) - 1) : is("field_of_zeros") ? 0 : value;
+    uint32_t bits = is("field_of_65_bits") && width == 65 ? 64 : width, place = is("field_on_the_next_bit") && at % 64 != 63 ? at + 1 : at;
+    uint32_t number = __real_dispatch_bench_put_field(sheet, length, place, bits, given);
+    if (number == 0) {
+        flip(sheet, length, ((size_t)at + width + 7) / 8, "field_writes_past");
+        flip(sheet, length, at / 8 - 1, "field_writes_before");
+    } else {
+        flip(sheet, length, 0, "field_refusal_writes");
+    }
+    if (is("field_writes_around")) {
+        *(volatile uint8_t *)(sheet + length) ^= 1;
+    }
+    return is("field_room_is_8") && number == 2 ? 8 : is("field_code_is_2") && number == 8 ? 2 : number;
 }

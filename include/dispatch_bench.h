@@ -1,5 +1,5 @@
-/* The dispatch bench, for hosts in C. `tools/library` puts the library into target/staticlib, `make install` installs it. What the numbers stand for in
-   sentences is in dispatch_bench_sentences.h.
+/* The dispatch bench, for hosts in C. `tools/library` puts the library into target/staticlib, `make install` installs it. What the numbers stand for
+   in sentences is in dispatch_bench_sentences.h.
 
    There is no state but what a host lends, nothing is allocated, and any number of threads may call at once. Every pointer must be valid for its
    length. One with length 0 may be null, and no other: null with a length above 0, or null for a number that is answered, is read or written as any
@@ -37,7 +37,8 @@ uint32_t dispatch_bench_read(const uint8_t *sheet, size_t length, uint64_t *offs
    among these the lowest column for the first car, then the second, on. Cells stand row by row. 1: the columns stand first in chosen, and *total is
    their total. 0, and nothing is written: more than 32 cars or 64 columns, fewer columns than cars, cell_count not cars * columns, a cell above
    DISPATCH_BENCH_SENTINEL, or fewer places than cars. */
-uint32_t dispatch_bench_choose(size_t cars, size_t columns, const uint64_t *cells, size_t cell_count, uint32_t *chosen, size_t places, uint64_t *total);
+uint32_t dispatch_bench_choose(size_t cars, size_t columns, const uint64_t *cells, size_t cell_count, uint32_t *chosen, size_t places,
+                               uint64_t *total);
 
 /* The same choice of a small matrix, of at most DISPATCH_BENCH_PLAIN_CARS cars and DISPATCH_BENCH_PLAIN_COLUMNS columns, by the plain matcher, which
    gives the first car each free column and passes the remaining cars to itself. 0: the columns stand first in chosen, what stands past them is left,
@@ -49,8 +50,8 @@ uint32_t dispatch_bench_choose_plain(size_t cars, size_t columns, const uint64_t
                                      uint64_t *total);
 
 /* The refusals, by the numbers of documents 01 and 02. Those of a store of weights are 1, 2, 7, 8, 11, 17 and 18; 19 and 20 are given by
-   dispatch_bench_grade alone, 21 by dispatch_bench_travel_time alone, 22 by dispatch_bench_choose_plain alone. The writer answers 1, 2, 3, 6, 7 and 8,
-   of what it was asked to write. */
+   dispatch_bench_grade alone, 21 by dispatch_bench_travel_time alone, 22 by dispatch_bench_choose_plain alone. The writer answers 1, 2, 3, 6, 7 and
+   8, of what it was asked to write. */
 enum dispatch_bench_refusal {
     DISPATCH_BENCH_ACCEPTED = 0,
     DISPATCH_BENCH_SHORT_BUFFER = 1,    /* a lent buffer is too short (dispatch_bench_pass, _pending, _why, _weights, _grade, _choose_plain) */
@@ -124,11 +125,11 @@ enum dispatch_bench_refusal {
 #define DISPATCH_BENCH_SHEET_BYTES 27283
 #define DISPATCH_BENCH_STORE_BYTES 3840
 
-/* A pass over a sheet. 0: *cars idle cars, *stops pending stops, *total the least total; in decisions the stop id of each idle car in record order (0 for
-   idle), in matrix the cells row by row, a row of max(*cars, *stops) columns for each idle car, in sweeps 2 * sweep + mode of each car record; what
-   stands past these is left, and so is *offset. *ranked is the number of pairs ranked: for each idle car the smaller of the
-   sheet's limit and its viable stops, summed. *held is the number of cells that were held down to DISPATCH_BENCH_CEILING. Otherwise the refusal's number, 1 to 14 or 16, with the bit
-   offset where the refused record starts in *offset (0 for 1); nothing else is written.
+/* A pass over a sheet. 0: *cars idle cars, *stops pending stops, *total the least total; in decisions the stop id of each idle car in record order (0
+   for idle), in matrix the cells row by row, a row of max(*cars, *stops) columns for each idle car, in sweeps 2 * sweep + mode of each car record;
+   what stands past these is left, and so is *offset. *ranked is the number of pairs ranked: for each idle car the smaller of the sheet's limit and
+   its viable stops, summed. *held is the number of cells that were held down to DISPATCH_BENCH_CEILING. Otherwise the refusal's number, 1 to 14 or
+   16, with the bit offset where the refused record starts in *offset (0 for 1); nothing else is written.
 
    A cell is the cost times 1,000,000, rounded, or DISPATCH_BENCH_SENTINEL where there is no rank, and in spare columns. Where it rounds to more than
    the ceiling, the cell is the ceiling, and counts in *held; one that rounds to the ceiling itself does not. Two cells at the ceiling look alike, but
@@ -212,9 +213,9 @@ uint32_t dispatch_bench_grade(const uint8_t *sheet, size_t length, const uint32_
 
 /* The seconds of a run with ramps that ends at rest: over a distance, from a starting speed, by a top speed and the rates of acceleration and
    deceleration, in units of length, of these a second, and of these a second each second; travel_time of the published eta.rs, bit for bit. 0: *time
-   is the seconds, a finite double. It is 0 where the distance, the top speed or a rate is not above zero; a starting speed below zero counts as 0, one
-   above the top speed as that. For a distance and a speed that are nearly zero it can come out below zero (docs/DIFFERENCES.md). 21, and nothing is
-   written: an input is a NaN or beyond DISPATCH_BENCH_MOST_INPUT either way, or the top speed or a rate lies above 0 and below
+   is the seconds, a finite double. It is 0 where the distance, the top speed or a rate is not above zero; a starting speed below zero counts as 0,
+   one above the top speed as that. For a distance and a speed that are nearly zero it can come out below zero (docs/DIFFERENCES.md). 21, and nothing
+   is written: an input is a NaN or beyond DISPATCH_BENCH_MOST_INPUT either way, or the top speed or a rate lies above 0 and below
    DISPATCH_BENCH_LEAST_RATE. A sheet holds no rates, so the caller supplies all five. */
 uint32_t dispatch_bench_travel_time(double distance, double speed, double top, double acceleration, double deceleration, double *time);
 
@@ -275,8 +276,8 @@ uint32_t dispatch_bench_put_demand(uint8_t *sheet, size_t length, uint32_t *stat
 uint32_t dispatch_bench_put_closed(uint8_t *sheet, size_t length, uint32_t *state, size_t state_count, uint32_t stop);
 
 /* Finishes a sheet. 0: the head counts the records, the last byte is filled with zero bits, and the first *bytes bytes are the sheet. The state is
-   not written, so more records may be put, and the sheet finished again. Otherwise, and nothing is written: 1 where the state is none, 2 where the bytes
-   that are lent end before the last record. A sheet without a policy is finished too; a reader refuses it by 6. */
+   not written, so more records may be put, and the sheet finished again. Otherwise, and nothing is written: 1 where the state is none, 2 where the
+   bytes that are lent end before the last record. A sheet without a policy is finished too; a reader refuses it by 6. */
 uint32_t dispatch_bench_finish(uint8_t *sheet, size_t length, const uint32_t *state, size_t state_count, uint64_t *bytes);
 
 /* Writes a record of a store of weights behind *count others, which are records of 15 bytes from the store's start: a weight slot, the day from which
@@ -284,6 +285,12 @@ uint32_t dispatch_bench_finish(uint8_t *sheet, size_t length, const uint32_t *st
    Otherwise, and nothing is written: 2 where it has no room, 7 where there are 256, tested in this order. What a reader refuses by 8, 11, 17 or 18 is
    written: ask dispatch_bench_weights. */
 uint32_t dispatch_bench_put_weight(uint8_t *store, size_t length, uint16_t *count, uint8_t setting, uint32_t start, uint16_t issue, double weight);
+
+/* Puts one field of a sheet or of a store, whatever it is to hold: for what no put of a record writes, a single field changed in place or a code that
+   stands for nothing. There is no state. 0: the width bits from bit at, the highest bit of the first byte being bit 0, are those of value, most
+   significant first, and every other bit is kept; a width of 0 puts nothing. Otherwise, and nothing is written: 8 where the width is above 64 or
+   value needs more bits, being 2^width or more, 2 where at + width is above 8 * length, tested in this order. */
+uint32_t dispatch_bench_put_field(uint8_t *sheet, size_t length, uint32_t at, uint32_t width, uint64_t value);
 
 #ifdef __cplusplus
 }

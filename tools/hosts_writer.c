@@ -1,6 +1,7 @@
 /* The writer as a host in C calls it: document 01's example record by record, in both editions, a car with every field, each number, and what is left
-   in the sheet and in the state; a store of weights; and every function with null for what has length 0. The arguments are document 01's example and
-   its twin in edition 2. Ends with 0 where all is as the header says; what is not is said on standard error. */
+   in the sheet and in the state; a store of weights; a field of every width at every bit; and every function with null for what has length 0. The
+   arguments are document 01's example and its twin in edition 2. Ends with 0 where all is as the header says; what is not is said on standard
+   error. */
 #include <math.h>
 #include <stdio.h>
 #include <string.h>
@@ -367,6 +368,54 @@ static void a_store(void) {
     is("the count and the store are as before", count == 256 && memcmp(store, before, sizeof store) == 0, 1);
 }
 
+/* A field that is to be put into bytes that hold KEPT; where it is refused nothing is written, else every other bit is kept. */
+static void put_field(const char *name, size_t length, uint32_t at, uint32_t width, uint64_t value, uint32_t wanted) {
+    memset(sheet, KEPT, sizeof sheet);
+    is(name, dispatch_bench_put_field(sheet, length, at, width, value), wanted);
+    if (wanted == 0 && width > 0) {
+        is(name, field(at, width), value);
+    }
+    for (size_t bit = 0; bit < 8 * length + 64; bit++) {
+        int inside = wanted == 0 && bit >= at && bit < at + width;
+        if (!inside && (sheet[bit / 8] >> (7 - bit % 8) & 1) != (KEPT >> (7 - bit % 8) & 1)) {
+            say(name, "another bit is written");
+            return;
+        }
+    }
+}
+
+static void fields(void) {
+    for (uint32_t width = 0; width <= 64; width++) {
+        uint64_t ones = width == 0 ? 0 : UINT64_MAX >> (64 - width);
+        for (uint32_t at = 0; at + width <= 80; at++) {
+            put_field("a field of ones", 10, at, width, ones, 0);
+            put_field("a field", 10, at, width, ones & UINT64_C(0x123456789abcdef1), 0);
+        }
+        put_field("a field that ends a bit later", 10, 81 - width, width, 0, DISPATCH_BENCH_PAST_END);
+        if (width < 64) {
+            put_field("a number of a bit more", 10, 0, width, ones + 1, DISPATCH_BENCH_UNUSED_BITS);
+            put_field("a number of a bit more, and no room", 10, 80, width, ones + 1, DISPATCH_BENCH_UNUSED_BITS);
+        }
+    }
+    put_field("65 bits", 10, 0, 65, 0, DISPATCH_BENCH_UNUSED_BITS);
+    put_field("the most bits", 10, 0, UINT32_MAX, 0, DISPATCH_BENCH_UNUSED_BITS);
+    put_field("the last bit of all", 10, UINT32_MAX, 1, 1, DISPATCH_BENCH_PAST_END);
+    put_field("far past the end", 10, UINT32_MAX, 64, 1, DISPATCH_BENCH_PAST_END);
+    put_field("no bytes", 0, 0, 1, 0, DISPATCH_BENCH_PAST_END);
+    put_field("no bits of no bytes", 0, 0, 0, 0, 0);
+}
+
+/* The limit of a finished sheet is put in place. */
+static void a_limit(void) {
+    uint64_t bytes = 0, offset = 0;
+    is("a sheet", start(1) | policy() | finish(&bytes), 0);
+    is("its limit", field(48, 16), 65535);
+    is("limit 0", dispatch_bench_put_field(sheet, bytes, 48, 16, 0), 0);
+    is("it is refused", dispatch_bench_read(sheet, bytes, &offset), DISPATCH_BENCH_LIMIT);
+    is("limit 1", dispatch_bench_put_field(sheet, bytes, 48, 16, 1), 0);
+    is("it is accepted", dispatch_bench_read(sheet, bytes, &offset), 0);
+}
+
 /* Null may be lent for what has length 0: every function answers as of any other address. */
 static void null_of_length_0(void) {
     static uint64_t matrix[DISPATCH_BENCH_CELLS];
@@ -398,6 +447,8 @@ static void null_of_length_0(void) {
     start(1);
     is("finish, no bytes", dispatch_bench_finish(NULL, 0, state, places, &count), DISPATCH_BENCH_PAST_END);
     is("finish, no state", dispatch_bench_finish(NULL, 0, NULL, 0, &count), DISPATCH_BENCH_SHORT_BUFFER);
+    is("a field, no bytes", dispatch_bench_put_field(NULL, 0, 0, 1, 0), DISPATCH_BENCH_PAST_END);
+    is("a field of no bits, no bytes", dispatch_bench_put_field(NULL, 0, 0, 0, 0), 0);
     is("a weight, no bytes", dispatch_bench_put_weight(NULL, 0, &records, 0, 0, 0, 1), DISPATCH_BENCH_PAST_END);
 }
 
@@ -441,6 +492,8 @@ int main(int count, char **words) {
     full();
     back();
     a_store();
+    fields();
+    a_limit();
     null_of_length_0();
     start(1);
     null_puts(NULL, 0, state, places, DISPATCH_BENCH_PAST_END);

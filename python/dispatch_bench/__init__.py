@@ -41,10 +41,11 @@ from .records import (
     mask,
 )
 from .refusal import NotWritten, Refusal, StoreRefusal
-from .writer import SheetWriter, StoreEntry, with_limit, write_store
+from .writer import SheetWriter, StoreEntry, put_field, with_limit, write_store
 
 __all__ = [
     "CEILING", "SENTINEL", "VERSION", "Aboard", "Car", "Closed", "Demand", "Direction", "Etd", "Graded", "LibraryNotFound", "Line", "Mode",
     "NotWritten", "Pass", "Phase", "Policy", "Refusal", "Rsr", "Scan", "SheetWriter", "Stop", "StoreEntry", "StoreRefusal", "Sweep", "Traffic",
-    "Waiting", "Why", "choose", "grade", "mask", "pass_", "pending", "read", "travel_time", "version", "weights", "why", "with_limit", "write_store",
+    "Waiting", "Why", "choose", "grade", "mask", "pass_", "pending", "put_field", "read", "travel_time", "version", "weights", "why", "with_limit",
+    "write_store",
 ]

@@ -42,6 +42,7 @@ _ARGUMENTS = {
     "put_closed": _WRITTEN + [_U32],
     "finish": _WRITTEN + [_TO_U64],
     "put_weight": [_BYTES, _SIZE, ctypes.POINTER(ctypes.c_uint16), ctypes.c_uint8, _U32, ctypes.c_uint16, _DOUBLE],
+    "put_field": [_BYTES, _SIZE, _U32, _U32, _U64],
 }
 
 

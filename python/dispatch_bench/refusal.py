@@ -42,13 +42,13 @@ class StoreRefusal(Refusal):
 
 
 class NotWritten(Exception):
-    """A record was not written, and the writer is as it was. number is 2 without room, 6 out of order, 7 where a table is full, 8 where a code
-    stands for nothing."""
+    """A record or a field was not written, and all is as it was. number is 2 without room, 6 out of order, 7 where a table is full, 8 where a code
+    stands for nothing or a field does not hold its number."""
 
     _says = {
-        2: "the bytes end before the record does",
+        2: "the bytes end before the record or the field does",
         6: "records come in the order policy, stop, line, car, aboard, waiting, demand, closed, and the policy is the first",
-        8: "the traffic is not 0 to 3, or the phase not 0 to 6",
+        8: "the traffic is not 0 to 3, or the phase not 0 to 6; or a field has more than 64 bits, or fewer than its number needs",
         7: "a sheet has at most 1 policy, 64 stops, 8 lines, 32 cars, 512 riders aboard, 512 waiting and 65,535 records, a store 256",
     }
 

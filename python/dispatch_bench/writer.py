@@ -114,12 +114,21 @@ class SheetWriter:
         return bytes(self._bytes[: length.value])
 
 
+def put_field(sheet: bytearray, at: int, width: int, value: int) -> None:
+    """Puts one field, whatever it is to hold, into the bytes of a sheet or a store: the width bits from bit at are then those of value, and every
+    other bit is kept. NotWritten, and nothing is, where the width is above 64 or the value needs more bits, or the field passes the last byte."""
+    held, length = (ctypes.c_uint8 * len(sheet)).from_buffer(sheet), len(sheet)
+    number = call("put_field", held, length, whole("at", at, 32), whole("width", width, 32), whole("value", value, 64))
+    if number != 0:
+        raise NotWritten(number)
+
+
 def with_limit(sheet, limit: Optional[int]) -> bytes:
-    """An accepted sheet with another candidate limit, None for none: bytes 6 and 7 of every sheet."""
+    """An accepted sheet with another candidate limit, None for none: 16 bits from bit 48 on of every sheet."""
     read(sheet)
-    held, _ = bytes_of(sheet)
-    number = _NO_LIMIT if limit is None else whole("limit", limit, 16)
-    return held[:6] + number.to_bytes(2, "big") + held[8:]
+    held = bytearray(bytes_of(sheet)[0])
+    put_field(held, 48, 16, _NO_LIMIT if limit is None else whole("limit", limit, 16))
+    return bytes(held)
 
 
 @dataclasses.dataclass(frozen=True)

@@ -205,6 +205,29 @@ class Written(unittest.TestCase):
             bench.read(bench.with_limit(EXAMPLE, 0))
         self.assertEqual(refused.exception.number, 12)
 
+    def test_fields(self):
+        for width in range(65):
+            for at in (0, 1, 7, 8, 13, 80 - width):
+                held = bytearray(b"\xa5" * 10)
+                value = 0x9E3779B97F4A7C15 >> (64 - width)
+                bench.put_field(held, at, width, value)
+                below = 80 - at - width
+                mask = ((1 << width) - 1) << below
+                wanted = int.from_bytes(b"\xa5" * 10, "big") & ~mask | value << below
+                self.assertEqual(held, wanted.to_bytes(10, "big"), f"{width} bits at {at}")
+        for number, at, width, value in ((8, 0, 65, 0), (8, 0, 3, 8), (8, 80, 3, 8), (2, 80, 3, 7), (2, (1 << 32) - 1, 64, 0)):
+            with self.assertRaises(bench.NotWritten) as refused:
+                bench.put_field(held, at, width, value)
+            self.assertEqual(refused.exception.number, number)
+            self.assertEqual(held, wanted.to_bytes(10, "big"))
+        for at, width, value in ((1 << 32, 1, 0), (0, 1 << 32, 0), (0, 64, 1 << 64), (-1, 1, 0)):
+            with self.assertRaises(ValueError):
+                bench.put_field(held, at, width, value)
+        with self.assertRaises(TypeError):
+            bench.put_field(bytes(held), 0, 1, 0)
+        with self.assertRaises(bench.NotWritten):
+            bench.put_field(bytearray(), 0, 1, 0)
+
     def test_stores(self):
         entries = [bench.StoreEntry(slot, 100, 0, slot + 0.5) for slot in range(6)] + [bench.StoreEntry(2, 100, 1, 7)]
         store = bench.write_store(entries)

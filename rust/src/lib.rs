@@ -51,7 +51,7 @@ pub use refusal::Refusal;
 pub use travel::{LEAST_RATE, MOST_INPUT, OutsideDomain, Run, travel_time};
 pub use weights::{SLOTS, StoreEntry, StoreRefusal, weights, write_store};
 pub use why::{Reason, TERMS, Terms, Why, why};
-pub use writer::{NotWritten, SHEET_BYTES, SheetWriter};
+pub use writer::{NotWritten, SHEET_BYTES, SheetWriter, put_field};
 
 /// The cell of a pair that has no rank and of a spare column, what a car that stays idle counts in the total, and the largest cell that
 /// [`choose`] takes. A cost of 1 is a cell of 1,000,000.

@@ -214,6 +214,13 @@ unsafe extern "C" {
         issue: u16,
         weight: f64,
     ) -> u32;
+    fn dispatch_bench_put_field(
+        sheet: *mut u8,
+        length: usize,
+        at: u32,
+        width: u32,
+        value: u64,
+    ) -> u32;
 }
 
 /// The numbers that a pass answers, beside what it leaves in the buffers.
@@ -676,4 +683,10 @@ pub fn put_weight(store: &mut [u8], count: &mut u16, entry: &StoreEntry) -> u32 
             entry.value,
         )
     }
+}
+
+/// 0 where the `width` bits from bit `at` are those of `value`, or 8 or 2.
+pub fn put_field(sheet: &mut [u8], at: u32, width: u32, value: u64) -> u32 {
+    // SAFETY: the sheet is lent as its address and its length; see above.
+    unsafe { dispatch_bench_put_field(sheet.as_mut_ptr(), sheet.len(), at, width, value) }
 }

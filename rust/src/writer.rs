@@ -9,15 +9,17 @@ const STATE: usize = 9;
 /// The bytes of the longest sheet that is accepted.
 pub const SHEET_BYTES: usize = 27_283;
 
-/// Why a record was not written: neither the sheet nor what is counted has changed, and other records may be put.
+/// Why a record or a field was not written: neither the sheet nor what is counted has changed, and other records may be put.
 #[derive(Clone, Copy, Debug, PartialEq, Eq, Hash)]
 pub enum NotWritten {
-    /// The bytes that were lent end before the record does. Not given of a writer with bytes of its own.
+    /// The bytes that were lent end before the record or the field does. Not given of a writer with bytes of its own.
     NoRoom,
     /// The first record is no policy, or the kind is below that of the last record.
     OutOfOrder,
     /// There are as many records of the kind as a sheet may have, or 65,535 in all; or 256 of a store.
     Full,
+    /// A field of more than 64 bits, or a number that needs more bits than the field has.
+    NotHeld,
     /// The library answered another number, which one of this interface does not.
     Unknown(u32),
 }
@@ -28,6 +30,7 @@ impl NotWritten {
             2 => NotWritten::NoRoom,
             6 => NotWritten::OutOfOrder,
             7 => NotWritten::Full,
+            8 => NotWritten::NotHeld,
             number => NotWritten::Unknown(number),
         }
     }
@@ -38,6 +41,7 @@ impl NotWritten {
             NotWritten::NoRoom => 2,
             NotWritten::OutOfOrder => 6,
             NotWritten::Full => 7,
+            NotWritten::NotHeld => 8,
             NotWritten::Unknown(number) => *number,
         }
     }
@@ -46,12 +50,15 @@ impl NotWritten {
 impl fmt::Display for NotWritten {
     fn fmt(&self, f: &mut fmt::Formatter<'_>) -> fmt::Result {
         f.write_str(match self {
-            NotWritten::NoRoom => "not written: the bytes that were lent end before the record does",
+            NotWritten::NoRoom => "not written: the bytes that were lent end before the record or the field does",
             NotWritten::OutOfOrder => {
                 "not written: records come in the order policy, stop, line, car, aboard, waiting, demand, closed, and the policy is the first"
             }
             NotWritten::Full => {
                 "not written: a sheet has at most 1 policy, 64 stops, 8 lines, 32 cars, 512 riders aboard, 512 waiting and 65,535 records, a store 256"
+            }
+            NotWritten::NotHeld => {
+                "not written: a field has at most 64 bits, and holds no number that needs more bits than it has"
             }
             NotWritten::Unknown(number) => {
                 return write!(f, "not written: the library answered {number}");
@@ -179,5 +186,28 @@ impl Room<'_> {
             Room::Own(bytes) => bytes,
             Room::Lent(bytes) => bytes,
         }
+    }
+}
+
+/// Puts one field of a sheet or of a store, whatever it is to hold: the `width` bits from bit `at`, the highest bit of the first byte being bit 0,
+/// are then those of `value`, and every other bit is kept. By the proved library, for what no [`Record`] holds: a single field changed in place, a
+/// code that stands for nothing. Otherwise nothing is written: [`NotWritten::NotHeld`] for more than 64 bits or a value that needs more than `width`,
+/// else [`NotWritten::NoRoom`] where the field passes the last byte.
+///
+/// ```
+/// use dispatch_bench::{NotWritten, put_field, read};
+///
+/// # let mut sheet = include_bytes!(concat!(env!("CARGO_MANIFEST_DIR"), "/../crates/passprint/stdin")).to_vec();
+/// // the candidate limit of a policy, which is the first record
+/// put_field(&mut sheet, 48, 16, 0)?;
+/// assert_eq!(read(&sheet).map_err(|refusal| refusal.number), Err(12));
+/// assert_eq!(put_field(&mut sheet, 48, 16, 65_536), Err(NotWritten::NotHeld));
+/// assert_eq!(put_field(&mut sheet[..7], 48, 16, 1), Err(NotWritten::NoRoom));
+/// # Ok::<(), NotWritten>(())
+/// ```
+pub fn put_field(sheet: &mut [u8], at: u32, width: u32, value: u64) -> Result<(), NotWritten> {
+    match library::put_field(sheet, at, width, value) {
+        0 => Ok(()),
+        number => Err(NotWritten::of(number)),
     }
 }

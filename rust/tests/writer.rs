@@ -8,8 +8,8 @@ use dispatch_bench::record::{
     Strategy, Traffic, Waiting, mask,
 };
 use dispatch_bench::{
-    NotWritten, SHEET_BYTES, SheetWriter, StoreEntry, SweepDirection, SweepMode, pass, read,
-    weights, write_store,
+    NotWritten, SHEET_BYTES, SheetWriter, StoreEntry, SweepDirection, SweepMode, pass, put_field,
+    read, weights, write_store,
 };
 
 const EXAMPLE: &[u8] = include_bytes!("../../crates/passprint/stdin");
@@ -297,14 +297,15 @@ fn the_sentences() {
         NotWritten::NoRoom,
         NotWritten::OutOfOrder,
         NotWritten::Full,
+        NotWritten::NotHeld,
         NotWritten::Unknown(9),
     ];
-    assert_eq!(all.map(|refused| refused.number()), [2, 6, 7, 9]);
+    assert_eq!(all.map(|refused| refused.number()), [2, 6, 7, 8, 9]);
     assert_eq!(
         all[0].to_string(),
-        "not written: the bytes that were lent end before the record does"
+        "not written: the bytes that were lent end before the record or the field does"
     );
-    assert_eq!(all[3].to_string(), "not written: the library answered 9");
+    assert_eq!(all[4].to_string(), "not written: the library answered 9");
 }
 
 #[test]
@@ -328,4 +329,76 @@ fn stores() {
     entries.push(entry(0, 0, 1.5));
     assert_eq!(write_store(&entries), Err(NotWritten::Full));
     assert_eq!(write_store(&[]), Ok(vec![]));
+}
+
+/// The `width` bits from bit `at`.
+fn bits(bytes: &[u8], at: usize, width: usize) -> u64 {
+    let bit = |k: usize| u64::from(bytes[k / 8] >> (7 - k % 8) & 1);
+    (at..at + width).fold(0, |value, k| value << 1 | bit(k))
+}
+
+/// Every width at every bit of a few bytes: the field is read back, and every other bit is kept.
+#[test]
+fn a_field_of_every_width_and_place() {
+    let mut put = 0;
+    for before in [0x00, 0xff, 0xa5] {
+        for width in 0..=64 {
+            for at in 0..=80 - width {
+                let value = 0x9e37_79b9_7f4a_7c15_u64
+                    .checked_shr(64 - width as u32)
+                    .unwrap_or(0);
+                let mut bytes = [before; 10];
+                assert_eq!(
+                    put_field(&mut bytes, at as u32, width as u32, value),
+                    Ok(())
+                );
+                assert_eq!(bits(&bytes, at, width), value, "{width} bits at {at}");
+                for k in (0..at).chain(at + width..80) {
+                    assert_eq!(bits(&bytes, k, 1), bits(&[before; 10], k, 1), "bit {k}");
+                }
+                put += 1;
+            }
+        }
+    }
+    assert_eq!(put, 3 * 65 * (81 + 17) / 2);
+}
+
+#[test]
+fn fields_that_are_not_put() {
+    for (at, width, value, wanted) in [
+        (0, 65, 0, NotWritten::NotHeld),
+        (0, u32::MAX, 0, NotWritten::NotHeld),
+        (0, 0, 1, NotWritten::NotHeld),
+        (0, 3, 8, NotWritten::NotHeld),
+        (0, 63, 1 << 63, NotWritten::NotHeld),
+        (u32::MAX, 3, 8, NotWritten::NotHeld),
+        (1, 64, 0, NotWritten::NoRoom),
+        (64, 1, 1, NotWritten::NoRoom),
+        (65, 0, 0, NotWritten::NoRoom),
+        (u32::MAX, 64, 0, NotWritten::NoRoom),
+    ] {
+        let mut bytes = [0x5a; 8];
+        let answered = put_field(&mut bytes, at, width, value);
+        assert_eq!(answered, Err(wanted), "{width} bits at {at}");
+        assert_eq!(bytes, [0x5a; 8]);
+    }
+    assert_eq!(put_field(&mut [], 0, 0, 0), Ok(()));
+    assert_eq!(put_field(&mut [], 0, 1, 0), Err(NotWritten::NoRoom));
+}
+
+/// Document 01's example field by field is what the writer of records writes.
+#[test]
+fn a_sheet_by_its_fields() {
+    let mut sheet = vec![0; EXAMPLE.len()];
+    for at in (0..8 * EXAMPLE.len()).step_by(13) {
+        let width = 13.min(8 * EXAMPLE.len() - at);
+        put_field(
+            &mut sheet,
+            at as u32,
+            width as u32,
+            bits(EXAMPLE, at, width),
+        )
+        .unwrap();
+    }
+    assert_eq!(sheet, EXAMPLE);
 }

@@ -1,15 +1,19 @@
 -- The writer for a host that is not Rattle: its state is nine numbers in a lent slice, and nothing is required of it. What a function answers, and
 -- what it leaves in the sheet and in the state. Assumes nothing.
-use Prim.Native.Nat.{ℕ, _+_, _*_, _≤_}
+use Prim.Native.Nat.{ℕ, _+_, _*_, _/_, _^_, _<_, _≤_}
 use mathlib.Core.Path.{_≡_, refl, subst}
 use mathlib.Core.Bool.{Bool, true, false, _&&_, _||_, cond}
 use mathlib.Core.List.{List, [], _∷_}
 use mathlib.Core.Logic.{⊎-elim, _≢_}
-use native.Mathlib.Nat.{mul-le-mul}
+use native.Mathlib.Nat.{mul-le-mul, div-lt-iff-lt-mul}
 use native.Mathlib.Omega.{arith}
 use lib.Dec.{eqb, ltb, leb}
+use lib.Pow.{pow-pos}
 use lib.ListN.{length, getD, set, drop}
-use borrow.Author.Tests.{leb-true, eqb-true}
+use borrow.Author.Tests.{leb-true, eqb-true, ltb-false}
+use Rattle.bits.specs.Field.{fieldAt}
+use Rattle.put.specs.Put.{putAt}
+use Rattle.put.specs.PutLaws.{put-back}
 use Rattle.laws.specs.Bools.{both-left, both-right, either, which}
 use Rattle.layout.specs.declared.Counts.{Counts}
 use Rattle.layout.specs.Offsets.{Small}
@@ -82,6 +86,14 @@ editionOf n = cond (eqb n 2) Second First
 -- 2 where the sheet that was lent ends before the last record
 unfoldable pub finishRefusal : List ℕ → ℕ → ℕ
 finishRefusal l n = cond (isState l) (cond (ltb n (sheetBytes (countsIn l))) 2 0) 1
+
+-- a field has up to 64 bits, and holds the numbers that need no more
+unfoldable pub holdsNumber : ℕ → ℕ → Bool
+holdsNumber w v = leb w 64 && eqb (v / 2 ^ w) 0
+
+-- of a field by its bits: 8 where they do not hold the number, 2 where they pass the end of so many bytes
+unfoldable pub fieldRefusal : ℕ → ℕ → ℕ → ℕ → ℕ
+fieldRefusal bytes at w v = cond (holdsNumber w v) (cond (ltb (8 * bytes) (at + w)) 2 0) 8
 
 -- what is left in a place that held this
 abbrev pub hostLeft : ℕ → List ℕ → List ℕ → List ℕ
@@ -167,3 +179,39 @@ pub finish-refused : (l : List ℕ) (n : ℕ) → hostRefusal l true ≢ 0 → f
 unfolding hostRefusal finishRefusal
 finish-refused l n h =
     ⊎-elim (λ (e : isState l ≡ true). absurd (h (rw e))) (λ (e : isState l ≡ false). rw e) (which (isState l))
+
+-- a field that is not refused
+module _ (bytes at w v : ℕ) (h : fieldRefusal bytes at w v ≡ 0) where
+  held : holdsNumber w v ≡ true
+  unfolding fieldRefusal
+  held =
+      ⊎-elim (λ (e : holdsNumber w v ≡ true). e)
+      (λ (e : holdsNumber w v ≡ false).
+      absurd (let q : _≡_ {A = ℕ} 8 0 = subst (λ b. _≡_ {A = ℕ} (cond b (cond (ltb (8 * bytes) (at + w)) 2 0) 8) 0) e h in omega arith))
+      (which (holdsNumber w v))
+
+  -- is no wider than a number
+  pub field-narrow : w ≤ 64
+  unfolding holdsNumber
+  field-narrow = leb-true w 64 (both-left (leb w 64) _ held)
+
+  -- has bits enough for its number
+  pub field-fits : v < 2 ^ w
+  unfolding holdsNumber
+  field-fits =
+      let z : v / 2 ^ w ≡ 0 = eqb-true (v / 2 ^ w) 0 (both-right (leb w 64) _ held) in
+      let q : v < 1 * 2 ^ w = div-lt-iff-lt-mul (pow-pos w) .0 (omega (arith, z)) in omega (arith, q)
+
+  -- lies in the bytes
+  pub field-inside : at + w ≤ 8 * bytes
+  unfolding fieldRefusal
+  field-inside =
+      let room : _≡_ {A = ℕ} (cond (ltb (8 * bytes) (at + w)) 2 0) 0 =
+      subst (λ b. _≡_ {A = ℕ} (cond b (cond (ltb (8 * bytes) (at + w)) 2 0) 8) 0) held h in
+      ⊎-elim (λ (e : ltb (8 * bytes) (at + w) ≡ true).
+      absurd (let q : _≡_ {A = ℕ} 2 0 = subst (λ b. _≡_ {A = ℕ} (cond b 2 0) 0) e room in omega arith))
+      (λ (e : ltb (8 * bytes) (at + w) ≡ false). ltb-false (8 * bytes) (at + w) e) (which (ltb (8 * bytes) (at + w)))
+
+-- what was put is read back
+pub field-back : (s : List ℕ) (at w v : ℕ) → fieldRefusal (length s) at w v ≡ 0 → fieldAt (putAt s at w v) at w ≡ v
+field-back s at w v h = put-back s at w v (field-inside (length s) at w v h) (field-fits (length s) at w v h)

@@ -1,6 +1,7 @@
 // The writer for a host, to be exported for C. The state is nine numbers that the host lends and start fills. Each function answers 0; or 1 where
 // the state is none, 2, 6 or 7 where a record has no room, is out of order or one too many, 8 where a code stands for nothing, and nothing is
-// written then.
+// written then. A field alone is put without a state.
+mod field;
 mod state;
 
 ghost use mathlib.Core.Path.{_≡_};
@@ -12,6 +13,8 @@ ghost use Rattle.writer.specs.Puts.{startOf, headPut, sheetBytes, finished};
 ghost use Rattle.writer.specs.Puts.{putNumber, leftOf, policyAnswer, stopAnswer, lineAnswer, carAnswer, aboardAnswer, waitingAnswer};
 ghost use Rattle.writer.specs.Puts.{demandAnswer, closedAnswer};
 ghost use Rattle.writer_host.specs.Host.{countsIn, hostRefusal, startRefusal, editionOf, finishRefusal, hostNumber, hostLeft, stateLeft};
+ghost use Rattle.writer_host.specs.Host.{fieldRefusal};
+ghost use Rattle.put.specs.Put.{putAt};
 ghost use mathlib.Core.Bool.{cond};
 ghost use lib.Dec.{eqb};
 ghost use Rattle.writer_host.specs.Given.{policyOf, policyKnown, stopOf, lineOf, thresholdOf, carOf, phaseKnown, aboardOf, waitingOf, demandOf};
@@ -453,4 +456,18 @@ pub extern "C" fn dispatch_bench_put_weight(
         Stored::NoRoom => 2,
         Stored::Full => 7,
     }
+}
+
+// A field of a sheet, whatever it holds: the bits of value in the width bits from bit at. 8 for a width above 64 or a value of more bits than it has.
+#[no_mangle]
+pub extern "C" fn dispatch_bench_put_field(sheet: &mut [u8], at: u32, width: u32, value: u64) -> u32
+    ensures { λ r. let s = now (sheet .entry) in let f = fieldRefusal (length s) at width value in
+        ⌜ (r ≡ f) × (now (sheet .exit) ≡ hostLeft f (putAt s at width value) s) ⌝ }
+{
+    let refused = field::refusal(sheet.len(), at, width, value);
+    if refused != 0 {
+        return refused;
+    }
+    put::put(sheet, at, 0, width as usize, value);
+    0
 }

@@ -134,6 +134,9 @@ static void measure_writer(uint32_t edition) {
         MEASURE(put_closed, sheet, lent, state, DISPATCH_BENCH_STATE, i);
     }
     MEASURE(finish, sheet, lent, state, DISPATCH_BENCH_STATE, &numbers[0]);
+    for (uint32_t width = 0; width <= 65; width++) {
+        MEASURE(put_field, sheet, lent, 1000 + width, width, width < 64 ? 0 : UINT64_MAX);
+    }
 }
 
 /* A full store, and one record too many; and its weights. */

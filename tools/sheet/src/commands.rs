@@ -11,7 +11,6 @@ use sheet::ramps::{self, Ramps};
 use sheet::source::{self, Source};
 use sheet::{completions, man, rule, show, store, text, usage};
 
-#[cfg(feature = "pass")]
 use crate::study::{by_lines, compare, form, is_by_lines, matrix, raise};
 use crate::{Stop, complain};
 
@@ -162,7 +161,6 @@ fn draw(args: &Args) -> Result<(), Stop> {
 }
 
 /// How a sheet is drawn.
-#[cfg_attr(not(feature = "pass"), allow(dead_code))]
 struct Drawing<'a> {
     /// The name of its file.
     file: Option<&'a OsStr>,
@@ -183,13 +181,15 @@ fn store_show(args: &Args) -> Result<(), Stop> {
     print(&store::show(&bytes, strategy))
 }
 
+/// The six weights, or the refusal explained.
 fn weights(args: &Args) -> Result<(), Stop> {
     let word = args.word(1).unwrap_or_default();
     let day = sheet::value::whole(&word, 32).map(|day| day as u32);
     let most = u32::MAX;
     let day = day.ok_or_else(|| format!("\"{word}\": expected a day, 0 to {most}"))?;
     let strategy = strategy(args.word(2))?;
-    print(&weights_of(&files::read(args.path(0))?, day, strategy)?)
+    let store = files::read(args.path(0))?;
+    print(&sheet::weights::weights(&store, day, strategy))
 }
 
 /// A strategy's number.
@@ -236,7 +236,6 @@ fn completions(shell: Option<String>) -> Result<(), Stop> {
 }
 
 /// A library of another interface was linked: what it answers is not what this program takes it for.
-#[cfg(feature = "pass")]
 pub fn of_the_interface() -> Result<(), Stop> {
     let (found, wanted) = (dispatch_bench::version(), dispatch_bench::VERSION);
     match found == wanted {
@@ -248,21 +247,18 @@ pub fn of_the_interface() -> Result<(), Stop> {
 }
 
 /// The versions of the program, of the library and of its interface.
-#[cfg(feature = "pass")]
 fn version() -> String {
     let (program, library) = (env!("CARGO_PKG_VERSION"), dispatch_bench::LIBRARY_SHA256);
     let interface = dispatch_bench::version();
     format!("sheet {program}\nlibrary {library}\ninterface {interface}\n")
 }
 
-#[cfg(feature = "pass")]
 fn explain(source: &Source) -> Result<String, Stop> {
     of_the_interface()?;
     Ok(sheet::explain::of(source))
 }
 
 /// No rates, or such as a run can have.
-#[cfg(feature = "pass")]
 fn in_the_domain(ramps: Option<&Ramps>) -> Result<(), Stop> {
     match ramps.and_then(sheet::travel::explain) {
         Some(why) => Err(Stop::Failed(why)),
@@ -271,7 +267,6 @@ fn in_the_domain(ramps: Option<&Ramps>) -> Result<(), Stop> {
 }
 
 /// Where a text is refused, its line is named on standard error; so is a file of another kind.
-#[cfg(feature = "pass")]
 pub fn name_the_place(source: &Source) {
     if let Some(words) = sheet::explain::beside(source) {
         complain(&format!("{words}\n"));
@@ -279,7 +274,6 @@ pub fn name_the_place(source: &Source) {
 }
 
 /// The drawing, or the page with it.
-#[cfg(feature = "pass")]
 fn drawn(source: &Source, drawing: &Drawing, is_page: bool) -> Result<String, Stop> {
     of_the_interface()?;
     let file = drawing.file.map(|name| name.to_string_lossy());
@@ -297,7 +291,6 @@ fn drawn(source: &Source, drawing: &Drawing, is_page: bool) -> Result<String, St
     })
 }
 
-#[cfg(feature = "pass")]
 fn passed(source: &Source, ramps: Option<&Ramps>) -> Result<String, Stop> {
     of_the_interface()?;
     name_the_place(source);
@@ -308,7 +301,6 @@ fn passed(source: &Source, ramps: Option<&Ramps>) -> Result<String, Stop> {
 }
 
 /// The grade of what a site sent, or the refusal explained.
-#[cfg(feature = "pass")]
 fn grade(args: &Args) -> Result<(), Stop> {
     let (sheet, text) = (args.path(0), args.path(1));
     if [sheet, text].iter().all(|path| *path == Path::new("-")) {
@@ -327,86 +319,10 @@ fn grade(args: &Args) -> Result<(), Stop> {
 }
 
 /// Why a car costs what it does for a stop, or the refusal explained.
-#[cfg(feature = "pass")]
 fn why(args: &Args) -> Result<(), Stop> {
     let source = Source::read(args.path(0))?;
     let [car, stop] = [1, 2].map(|k| args.word(k).unwrap_or_default());
     of_the_interface()?;
     let (car, stop) = sheet::why::ids(&source, &car, &stop)?;
     print(&sheet::why::of(&source, car, stop, form(args)?))
-}
-
-/// The six weights, or the refusal explained.
-#[cfg(feature = "pass")]
-fn weights_of(bytes: &[u8], day: u32, strategy: Option<u64>) -> Result<String, Stop> {
-    Ok(sheet::weights::weights(bytes, day, strategy))
-}
-
-#[cfg(not(feature = "pass"))]
-use without::*;
-
-/// What gives verdicts, passes, grades and weights is not there.
-#[cfg(not(feature = "pass"))]
-mod without {
-    use super::*;
-
-    fn unlinked<T>() -> Result<T, Stop> {
-        Err(Stop::Failed(
-            "this program was built without the proved library (feature `pass`), which alone gives verdicts".into(),
-        ))
-    }
-
-    pub fn version() -> String {
-        format!("sheet {}\nlibrary none\n", env!("CARGO_PKG_VERSION"))
-    }
-
-    pub fn explain(_: &Source) -> Result<String, Stop> {
-        unlinked()
-    }
-
-    pub fn in_the_domain(_: Option<&Ramps>) -> Result<(), Stop> {
-        Ok(())
-    }
-
-    pub fn drawn(_: &Source, _: &Drawing, _: bool) -> Result<String, Stop> {
-        unlinked()
-    }
-
-    pub fn name_the_place(_: &Source) {}
-
-    pub fn passed(_: &Source, _: Option<&Ramps>) -> Result<String, Stop> {
-        unlinked()
-    }
-
-    pub fn grade(_: &Args) -> Result<(), Stop> {
-        unlinked()
-    }
-
-    pub fn is_by_lines(args: &Args) -> Result<bool, Stop> {
-        Ok(args.words.len() > args.command.counts().0)
-    }
-
-    pub fn by_lines(_: &Args) -> Result<(), Stop> {
-        unlinked()
-    }
-
-    pub fn matrix(_: &Args) -> Result<(), Stop> {
-        unlinked()
-    }
-
-    pub fn compare(_: &Args) -> Result<(), Stop> {
-        unlinked()
-    }
-
-    pub fn raise(_: &Args) -> Result<(), Stop> {
-        unlinked()
-    }
-
-    pub fn why(_: &Args) -> Result<(), Stop> {
-        unlinked()
-    }
-
-    pub fn weights_of(_: &[u8], _: u32, _: Option<u64>) -> Result<String, Stop> {
-        unlinked()
-    }
 }

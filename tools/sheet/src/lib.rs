@@ -6,63 +6,49 @@
 //! `proved` what is proved of these together, `raise` passes a sheet under every limit, `matrix` prints its cells. `many` works
 //! on many files, `report` says of each what a line, an object of JSON (`json`) or a row (`csv`) has. `why` says why a car costs
 //! what it does for a stop.
-//! Verdicts, passes, costs, weights, grades and seconds come from the crate dispatch-bench, with the feature `pass`.
+//! Verdicts, passes, costs, weights, grades and seconds come from the crate dispatch-bench; every field of a sheet or a
+//! store is written by it (`bits`).
 
 pub mod args;
-#[cfg(feature = "pass")]
+mod bits;
 pub mod compare;
 pub mod completions;
 pub mod csv;
 pub mod cut;
-#[cfg(feature = "pass")]
 pub mod draw;
-#[cfg(feature = "pass")]
 pub mod explain;
-#[cfg(feature = "pass")]
 mod faults;
 pub mod fields;
 pub mod files;
 pub mod foreign;
-#[cfg(feature = "pass")]
 pub mod grade;
 pub mod grades;
 pub mod json;
 pub mod line;
 pub mod man;
 pub mod many;
-#[cfg(feature = "pass")]
 pub mod matrix;
-#[cfg(feature = "pass")]
 mod mend;
 pub mod names;
 pub mod near;
 mod numbers;
-#[cfg(feature = "pass")]
 pub mod proved;
-#[cfg(feature = "pass")]
 pub mod raise;
 pub mod ramps;
-#[cfg(feature = "pass")]
 mod remedies;
-#[cfg(feature = "pass")]
 mod repair;
-#[cfg(feature = "pass")]
 pub mod report;
 pub mod rule;
-// The table of refusals is that of the crate dispatch-bench; `rule` needs it without the library too.
+// The table of refusals is that of the crate dispatch-bench.
 #[path = "../../../rust/src/rules.rs"]
 pub mod rules;
 pub mod show;
 pub mod source;
 pub mod store;
 pub mod text;
-#[cfg(feature = "pass")]
 pub mod travel;
 pub mod usage;
 pub mod value;
-#[cfg(feature = "pass")]
 mod warnings;
-#[cfg(feature = "pass")]
 pub mod weights;
-#[cfg(feature = "pass")]
 pub mod why;

@@ -2,7 +2,6 @@
 //! weights written, shown and asked; choices of a site graded; the seconds of runs.
 
 mod commands;
-#[cfg(feature = "pass")]
 mod study;
 
 use std::ffi::OsString;

@@ -2,9 +2,10 @@
 //! always the library's; what stands here only changes the copy, by a value that the field surely may have.
 
 use dispatch_bench::Refusal;
-use sheetgen::bits::{self, Writer};
+use sheetgen::bits;
 use sheetgen::sheet::{ACROSS_BITS, EDITIONS, HEAD_BITS, RECORD_HEAD_BITS, across_at, body_bits};
 
+use crate::bits::{Writer, set};
 use crate::cut::{Cut, Record};
 use crate::faults::{self, Fault};
 use crate::fields::{Absence, Field, Form, KINDS, Names, Range};
@@ -141,7 +142,8 @@ impl Copy {
     fn bytes(&self) -> Vec<u8> {
         let mut writer = Writer::default();
         writer.put(8, self.edition);
-        writer.put(16, (self.pieces.len() + self.lacking) as u64);
+        // A policy that was added may be one record more than the head can count.
+        writer.put(16, (self.pieces.len() + self.lacking).min(65_535) as u64);
         for piece in &self.pieces {
             writer.put(6, piece.kind as u64);
             writer.put(16, piece.length as u64);
@@ -445,14 +447,14 @@ impl Copy {
     fn set(&mut self, index: usize, field: &Field, value: u64) {
         let at = field.at + usize::from(field.absence == Absence::PresentBit);
         let body = &mut self.pieces[index].body;
-        bits::set(body, at, field.form.width(), value);
+        set(body, at, field.form.width(), value);
     }
 
     /// Zeros, and no present bit.
     fn set_absent(&mut self, index: usize, field: &Field) {
         self.set(index, field, 0);
         if field.absence == Absence::PresentBit {
-            bits::set(&mut self.pieces[index].body, field.at, 1, 0);
+            set(&mut self.pieces[index].body, field.at, 1, 0);
         }
     }
 }
@@ -462,7 +464,7 @@ fn plain_policy() -> Piece {
     let mut writer = Writer::default();
     writer.put(2, 2);
     writer.put(16, 1);
-    writer.double(1.0);
+    writer.put(64, 1.0_f64.to_bits());
     while writer.len() < body_bits(1, 1) {
         writer.put(1, 0);
     }

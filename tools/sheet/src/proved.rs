@@ -4,6 +4,7 @@
 use sheetgen::bits;
 use sheetgen::sheet::NO_LIMIT;
 
+use crate::bits::set;
 use crate::cut::Cut;
 use crate::numbers::grouped;
 use crate::show::number_of;
@@ -22,22 +23,18 @@ const DEMAND_3: &str = "in each pass the sent cars have distinct pending stops t
 const F_14: &str =
     "with no candidate limit, one more bit in one car's restricted mask never lowers the total";
 
-/// The bits of the policy's limit, which stands in bytes 6 and 7 of a sheet.
-const LIMIT: std::ops::Range<usize> = 6..8;
+/// Where the policy's limit stands in a sheet, and its bits.
+const LIMIT: (usize, usize) = (48, 16);
 
 /// The limit of an accepted sheet.
 pub fn limit(bytes: &[u8]) -> u16 {
-    bytes
-        .get(LIMIT)
-        .map_or(0, |two| u16::from_be_bytes([two[0], two[1]]))
+    bits::get(bytes, LIMIT.0, LIMIT.1) as u16
 }
 
-/// The same sheet under another limit.
+/// The same accepted sheet under another limit.
 pub fn with_limit(bytes: &[u8], limit: u16) -> Vec<u8> {
     let mut other = bytes.to_vec();
-    if let Some(two) = other.get_mut(LIMIT) {
-        two.copy_from_slice(&limit.to_be_bytes());
-    }
+    set(&mut other, LIMIT.0, LIMIT.1, limit.into());
     other
 }
 
@@ -70,8 +67,8 @@ fn apart(first: &[u8], second: &[u8]) -> Apart {
                 let (a, b) = (bits::get(first, at, 64), bits::get(second, at, 64));
                 bars.0 += (b & !a).count_ones();
                 bars.1 += (a & !b).count_ones();
-                clear(&mut one, at);
-                clear(&mut other, at);
+                set(&mut one, at, 64, 0);
+                set(&mut other, at, 64, 0);
             }
         }
     }
@@ -79,13 +76,6 @@ fn apart(first: &[u8], second: &[u8]) -> Apart {
         limits: (limit(first), limit(second)),
         bars,
         alone: one == other,
-    }
-}
-
-/// Sets the 64 bits of a mask to zeros.
-fn clear(bytes: &mut [u8], at: usize) {
-    for bit in at..at + 64 {
-        bytes[bit / 8] &= !(0x80 >> (bit % 8));
     }
 }
 

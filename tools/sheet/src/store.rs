@@ -1,8 +1,8 @@
 //! A store of weights as text, and the text into its bytes.
 
-use sheetgen::bits::Writer;
 use sheetgen::store::{RECORD_BITS, RECORD_BYTES};
 
+use crate::bits::Writer;
 use crate::fields::{self, Field, STRATEGIES};
 use crate::line::{self, Fault, Line};
 use crate::near::did_you_mean;

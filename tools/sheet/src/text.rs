@@ -3,16 +3,15 @@
 use std::collections::BTreeMap;
 use std::path::Path;
 
-use sheetgen::bits::Writer;
 use sheetgen::sheet::{across_at, body_bits};
 
+use crate::bits::Writer;
 use crate::fields::{self, ACROSS, Absence, Field, KINDS, WEIGHTS};
 use crate::line::{self, Fault, Line};
 use crate::names::{self, Names};
 use crate::near::did_you_mean;
 use crate::store;
 use crate::value::{self, Stops, Value};
-#[cfg(feature = "pass")]
 use crate::weights::of_file;
 
 /// For who hands a text over where a sheet is expected.
@@ -422,14 +421,8 @@ fn unknown(line: &Line) -> Fault {
     ))
 }
 
-/// What looks weights up is not there.
-#[cfg(not(feature = "pass"))]
-fn of_file(_: &Path, _: u32) -> Result<[f64; 6], String> {
-    Err("this program was built without the proved library (feature `pass`), which alone looks weights up".into())
-}
-
 /// `length` bits from the hexadecimal digits of the field bits.
-pub fn raw_bits(writer: &mut Writer, line: &Line, length: usize) -> Result<(), Fault> {
+pub(crate) fn raw_bits(writer: &mut Writer, line: &Line, length: usize) -> Result<(), Fault> {
     let digits = line.get("bits").unwrap_or("none");
     let digits = if digits == "none" { "" } else { digits };
     let wrong =

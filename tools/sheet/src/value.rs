@@ -1,8 +1,9 @@
 //! A field's value as bits and as text.
 
-use sheetgen::bits::{self, Writer};
+use sheetgen::bits;
 use sheetgen::sheet::NO_LIMIT;
 
+use crate::bits::Writer;
 use crate::fields::{Absence, Field, Form};
 use crate::near::did_you_mean;
 
@@ -76,7 +77,7 @@ pub fn take(bytes: &[u8], body: usize, field: &Field) -> Value {
     }
 }
 
-pub fn put(writer: &mut Writer, field: &Field, value: Value) {
+pub(crate) fn put(writer: &mut Writer, field: &Field, value: Value) {
     if field.absence == Absence::PresentBit {
         writer.put(1, value.present.into());
     }

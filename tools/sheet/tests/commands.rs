@@ -15,7 +15,6 @@ fn help() {
 }
 
 /// The line of the library: the SHA-256 of the archive that the crate in rust/ links.
-#[cfg(feature = "pass")]
 fn library() -> String {
     let folders = match std::env::var_os("DISPATCH_BENCH_LIB") {
         Some(folder) => vec![folder.into()],
@@ -29,11 +28,6 @@ fn library() -> String {
     let sum = text(&sum.unwrap().stdout);
     let interface = dispatch_bench::VERSION;
     format!("library {}\ninterface {interface}\n", &sum[..64])
-}
-
-#[cfg(not(feature = "pass"))]
-fn library() -> String {
-    "library none\n".into()
 }
 
 #[test]
@@ -180,23 +174,6 @@ fn no_such_file() {
         let output = run(&[command, "/no/such/file"], b"");
         assert_eq!(output.status.code(), Some(1));
         assert!(text(&output.stderr).starts_with("/no/such/file: "));
-        assert_eq!(text(&output.stdout), "");
-    }
-}
-
-#[cfg(not(feature = "pass"))]
-#[test]
-fn without_the_library() {
-    for args in [
-        &["explain", "-"][..],
-        &["draw", "-"],
-        &["pass", "-"],
-        &["pass", "-", "b"],
-        &["matrix", "-"],
-    ] {
-        let output = run(args, b"");
-        assert_eq!(output.status.code(), Some(1));
-        assert!(text(&output.stderr).contains("built without the proved library"));
         assert_eq!(text(&output.stdout), "");
     }
 }

@@ -1,5 +1,4 @@
 //! Two sheets side by side: what differs, what is proved of their totals, the drawing and the page; the limits raised.
-#![cfg(feature = "pass")]
 
 mod common;
 

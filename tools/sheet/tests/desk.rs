@@ -2,7 +2,6 @@
 //!
 //! tests/desk has for each case NAME.explain, the lines of `sheet explain`, and NAME.steps, what was typed. Each step is a command that `explain` says,
 //! or an edit (`sed`) of a line that it names, or a fetch (`cp`) of the file where it says to fetch it again.
-#![cfg(feature = "pass")]
 
 mod common;
 

@@ -1,5 +1,4 @@
 //! Drawings of the stored passes and of refused sheets.
-#![cfg(feature = "pass")]
 
 mod common;
 

@@ -1,5 +1,4 @@
 //! The examples, and what `explain` says of them.
-#![cfg(feature = "pass")]
 
 mod common;
 

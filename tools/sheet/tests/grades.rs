@@ -19,15 +19,13 @@ fn bad_texts() {
         let said: String = faults.iter().map(line).collect();
         let stored = std::fs::read(path.with_extension("err")).unwrap();
         assert_eq!(said, text(&stored), "{}", name(&path));
-        if cfg!(feature = "pass") {
-            let shown = path.to_str().unwrap();
-            let output = run(&["grade", "-", shown], &sheet);
-            assert_eq!(output.status.code(), Some(1));
-            assert_eq!(text(&output.stdout), "");
-            let with_path = |line: &str| format!("{shown}:{line}\n");
-            let wanted: String = said.lines().map(with_path).collect();
-            assert_eq!(text(&output.stderr), wanted);
-        }
+        let shown = path.to_str().unwrap();
+        let output = run(&["grade", "-", shown], &sheet);
+        assert_eq!(output.status.code(), Some(1));
+        assert_eq!(text(&output.stdout), "");
+        let with_path = |line: &str| format!("{shown}:{line}\n");
+        let wanted: String = said.lines().map(with_path).collect();
+        assert_eq!(text(&output.stderr), wanted);
     }
 }
 
@@ -58,15 +56,6 @@ fn any_text_has_an_answer() {
     assert!(well > 300 && badly > 300, "{well} {badly}");
 }
 
-#[cfg(not(feature = "pass"))]
-#[test]
-fn without_the_library() {
-    let output = run(&["grade", "a", "b"], b"");
-    assert_eq!(output.status.code(), Some(1));
-    assert!(text(&output.stderr).contains("built without the proved library"));
-}
-
-#[cfg(feature = "pass")]
 mod graded {
     use sheetgen::generate::{PROFILES, Profile, generate};
     use sheetgen::grade::{Answer, Grader, LEAST_CELLS, Matrix, Sent};

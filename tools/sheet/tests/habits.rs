@@ -59,7 +59,6 @@ fn what_is_read_is_not_written_over() {
     let store = std::fs::read(here("examples/stores/corrections.txt")).unwrap();
     let store = room.put("store", &store);
     is_refused(&["store", "write", &store, &store], &store, said);
-    #[cfg(feature = "pass")]
     is_refused(&["draw", &lobby, &lobby], &lobby, said);
     #[cfg(unix)]
     {
@@ -108,7 +107,6 @@ fn an_ending_says_what_a_file_holds() {
     );
     let of_store = said("a store of weights", "sheet", "store");
     is_refused(&["store", "write", store, &sheet], &sheet, &of_store);
-    #[cfg(feature = "pass")]
     for (out, ending) in [(&room.path("a.png"), "png"), (&sheet, "sheet")] {
         is_refused(
             &["draw", &lobby, out],
@@ -146,8 +144,7 @@ fn sentences_about_files() {
             &["store", "show"],
         ] {
             // These two take folders (tests/many.rs).
-            if cfg!(feature = "pass") && path == folder && ["explain", "pass"].contains(&command[0])
-            {
+            if path == folder && ["explain", "pass"].contains(&command[0]) {
                 continue;
             }
             let output = run(&[command, &[path]].concat(), b"");
@@ -217,7 +214,6 @@ fn files_of_other_kinds_are_named() {
     }
 }
 
-#[cfg(feature = "pass")]
 #[test]
 fn files_of_other_kinds_are_explained() {
     let room = Room::new("foreign-explained");

@@ -1,5 +1,4 @@
 //! Many files: a line each in their order, whatever the number of workers, the summary, the exit status, and the forms for programs.
-#![cfg(feature = "pass")]
 
 mod common;
 

@@ -196,20 +196,6 @@ fn policy(strategy: &str, weights: &str) -> String {
     )
 }
 
-#[cfg(not(feature = "pass"))]
-#[test]
-fn without_the_library() {
-    let without = "built without the proved library";
-    let output = run(&["store", "weights", "-", "1"], b"");
-    assert_eq!(output.status.code(), Some(1));
-    assert!(text(&output.stderr).contains(without));
-    let named = policy("ETD", "weights=corrections.store day=20500");
-    let folder = here("examples/stores");
-    let faults = sheet::text::write(named.as_bytes(), &folder).unwrap_err();
-    assert!(faults[0].what.contains(without));
-}
-
-#[cfg(feature = "pass")]
 mod asked {
     use std::path::Path;
 

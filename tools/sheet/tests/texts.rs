@@ -101,7 +101,6 @@ fn texts_with_odd_bytes() {
 }
 
 /// What is said of a text names its file, its lines and its names.
-#[cfg(feature = "pass")]
 #[test]
 fn lines_and_names_are_said() {
     let spoilt = [
@@ -142,7 +141,6 @@ fn lines_and_names_are_said() {
 }
 
 /// A refusal of the head, of what is not there and of the tail names the line that says so, where there is one.
-#[cfg(feature = "pass")]
 #[test]
 fn places_without_a_record() {
     let policy = "policy strategy=SCAN tick_rate=60 traffic=idle\n";

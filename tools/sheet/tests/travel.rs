@@ -2,7 +2,6 @@
 
 mod common;
 
-#[cfg(feature = "pass")]
 use common::here;
 use common::{run, text};
 
@@ -66,17 +65,6 @@ fn values_that_are_no_numbers() {
     }
 }
 
-#[cfg(not(feature = "pass"))]
-#[test]
-fn without_the_library() {
-    for command in ["pass", "draw"] {
-        let output = run(&with(&[command, "-"], &RATES), b"");
-        assert_eq!(output.status.code(), Some(1));
-        assert!(text(&output.stderr).contains("built without the proved library"));
-    }
-}
-
-#[cfg(feature = "pass")]
 mod timed {
     use sheet::ramps::Ramps;
     use sheet::travel::{lines, seconds};

@@ -1,5 +1,4 @@
 //! Why a car costs what it does for a stop: the command on stored pairs, and its library beside the pass.
-#![cfg(feature = "pass")]
 
 mod common;
 
