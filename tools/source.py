@@ -466,7 +466,7 @@ class Promise:
         end = code.closing(at, match.start())
         self.clauses = []
         clause = re.compile(r"\s*(requires|ensures)\s*(\w*)\s*(?=\{)")
-        stop = re.compile(r"\s(requires|ensures)\b|\{|;").search(bare, end).start()
+        stop = re.compile(r"\s(requires|ensures)\b|\{|;(?![^\[\]]*\])").search(bare, end).start()
         self.signature = bare[match.start():stop]
         self.parameters = [name for name in re.findall(r"(?:mut\s+)?(\w+)\s*:(?!:)", bare[at:end])]
         at = stop

@@ -5,7 +5,7 @@ use mathlib.Core.List.{List}
 use native.Mathlib.Omega.{arith}
 use lib.ListN.{getD}
 use native.Mathlib.Nat.{add-mul, mul-assoc}
-use lib.Pow.{shl-lt, pow-mono, mod-pow-add, shr-mod, shl-exact, high, low, pow-add, mod-mod-pow}
+use lib.Pow.{shl-lt, shl-shr, shr-shr, pow-mono, mod-pow-add, shr-mod, shl-exact, high, low, pow-add, mod-mod-pow}
 use Rattle.bits.specs.Field.{fieldAt, field-lt, field-split, field-byte, field-join}
 
 -- a whole byte
@@ -44,6 +44,27 @@ last-bits s p o h =
     ap (λ (x : ℕ). x * 2 ^ o % 2 ^ 64) (ap (fieldAt s p) e ∙ field-split s p o (64 - o))
     ∙ ap (λ (x : ℕ). x % 2 ^ 64) (add-mul (a * 2 ^ (64 - o)) b (2 ^ o) ∙ ap (λ (x : ℕ). x + b * 2 ^ o) (mul-assoc a (2 ^ (64 - o)) (2 ^ o) ∙ ap (λ (x : ℕ). a * x) q))
     ∙ low a 64 fits
+
+-- the w bits from bit p in the eight bytes that start with its own
+pub word-is : (s : List ℕ) (p w : ℕ) → w ≤ 57 → fieldAt s (8 * (p / 8)) 64 * 2 ^ (p % 8) % 2 ^ 64 / 2 ^ (64 - w) ≡ fieldAt s p w
+word-is s p w h =
+    let o : ℕ = p % 8 in
+    let k : ℕ = p / 8 in
+    let m : ℕ = 64 - o - w in
+    let e : 8 * k + o ≡ p = omega arith in
+    let f : 64 - w ≡ o + m = omega arith in
+    let g : 64 - o ≡ w + m = omega arith in
+    ap (λ (x : ℕ). x / 2 ^ (64 - w)) (last-bits s (8 * k) o (omega arith) ∙ ap (λ (x : ℕ). fieldAt s x (64 - o) * 2 ^ o) e)
+    ∙ ap (λ (x : ℕ). fieldAt s p (64 - o) * 2 ^ o / 2 ^ x) f
+    ∙ sym (shr-shr (fieldAt s p (64 - o) * 2 ^ o) o m)
+    ∙ ap (λ (x : ℕ). x / 2 ^ m) (shl-shr (fieldAt s p (64 - o)) o ∙ ap (fieldAt s p) g ∙ field-split s p w m)
+    ∙ high (fieldAt s p w) m (field-lt s (p + w) m)
+
+-- a bit of its byte
+pub bit-is : (s : List ℕ) (p : ℕ) → fieldAt s p 1 ≡ getD s (p / 8) 0 / 2 ^ (7 - p % 8) % 2
+bit-is s p =
+    let e : 8 - p % 8 - 1 ≡ 7 - p % 8 = omega arith in
+    field-byte s p 1 (omega arith) ∙ ap (λ (x : ℕ). getD s (p / 8) 0 / 2 ^ x % 2) e
 
 -- 64 bits across nine bytes
 pub window-is : (s : List ℕ) (p : ℕ) → getD s (p / 8 + 8) 0 < 256

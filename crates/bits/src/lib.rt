@@ -79,6 +79,17 @@ fn window(s: &[u8], at: usize) -> u64
     (word(s, k) << o) + (byte(s, k + 8) >> (8 - o))
 }
 
+// The w bits from bit at, which lie in eight bytes.
+fn in_word(s: &[u8], at: usize, w: usize) -> u64
+    requires { ⌜ (at < 2 ^ 60) × (0 < w) × (w ≤ 57) ⌝ }
+    ensures { λ r. ⌜ IsField (now (s .entry)) at w r ⌝ }
+{
+    let p = place(at);
+    let k = p.byte;
+    let o = p.bit;
+    (word(s, k) << o) >> (64 - w)
+}
+
 // The w bits from bit off of what starts at bit at. The types bound the offset, so a caller shows only the width.
 pub fn field(s: &[u8], at: u32, off: u32, w: usize) -> u64
     requires { ⌜ w ≤ 64 ⌝ }
@@ -87,6 +98,9 @@ pub fn field(s: &[u8], at: u32, off: u32, w: usize) -> u64
     if w == 0 {
         return 0;
     }
+    if w <= 57 {
+        return in_word(s, at as usize + off as usize, w);
+    }
     window(s, at as usize + off as usize) >> (64 - w)
 }
 
@@ -94,14 +108,17 @@ pub fn field(s: &[u8], at: u32, off: u32, w: usize) -> u64
 pub fn flag(s: &[u8], at: u32, off: u32) -> bool
     ensures { λ r. ⌜ r ≡ eqb (fieldAt (now (s .entry)) (at + off) 1) 1 ⌝ }
 {
-    field(s, at, off, 1) == 1
+    let p = place(at as usize + off as usize);
+    let k = p.byte;
+    let o = p.bit;
+    (byte(s, k) >> (7 - o)) & 1 == 1
 }
 
 // A field of 32 bits: an id, a number of ticks.
 pub fn field32(s: &[u8], at: u32, off: u32) -> u32
     ensures { λ r. ⌜ r ≡ fieldAt (now (s .entry)) (at + off) 32 ⌝ }
 {
-    field(s, at, off, 32) as u32
+    in_word(s, at as usize + off as usize, 32) as u32
 }
 
 // How many bytes n bits reach into.

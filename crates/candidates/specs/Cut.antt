@@ -1,6 +1,7 @@
 -- The cut over what the code holds: the viable stops as a mask, the distances as a list. Assumes nothing.
-use Prim.Native.Nat.{ℕ}
-use mathlib.Core.Bool.{Bool, _&&_, not}
+use Prim.Native.Nat.{ℕ, _≤_, _<_}
+use mathlib.Core.Path.{_≡_}
+use mathlib.Core.Bool.{Bool, false, _&&_, not}
 use mathlib.Core.List.{List}
 use lib.ListN.{getD}
 use lib.Ieee.{Float, nan}
@@ -19,3 +20,8 @@ comesBefore viable ds j k = has viable k && precedes (getD ds k nan) k (getD ds 
 -- stop j is viable, and the limit keeps it
 unfoldable pub cut : ℕ → List Float → ℕ → ℕ → Bool
 cut viable ds limit j = has viable j && keeps limit (count (comesBefore viable ds j) 64)
+
+-- none is viable from stop e on
+pub record Reaches (viable e : ℕ) : Type 0 where
+  pub within : e ≤ 64
+  pub none : (k : ℕ) → e ≤ k → k < 64 → has viable k ≡ false

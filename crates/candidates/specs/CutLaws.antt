@@ -1,6 +1,6 @@
 -- Laws of the cut: nothing is cut off where the viable stops are not more than the limit; and it is the sheet's. Assumes nothing.
-use Prim.Native.Nat.{ℕ, _^_, _≤_, _<_}
-use mathlib.Core.Path.{_≡_, sym, _∙_}
+use Prim.Native.Nat.{ℕ, _+_, _-_, _^_, _≤_, _<_}
+use mathlib.Core.Path.{_≡_, sym, ap, _∙_}
 use mathlib.Core.Bool.{true, false, or-true}
 use mathlib.Core.List.{List}
 use mathlib.Core.Logic.{⊎-elim}
@@ -10,13 +10,13 @@ use lib.ListN.{getD}
 use lib.Ieee.{Float, nan}
 use borrow.Author.Tests.{lt-ltb, le-ltb, eq-eqb}
 use Rattle.laws.specs.Bools.{which, both-left}
-use Rattle.laws.specs.Folds.{count}
+use Rattle.laws.specs.Folds.{count, count-below}
 use Rattle.laws.specs.Counts.{count-lt}
 use Rattle.fp.specs.Order.{lt-self}
 use Rattle.mask.specs.Mask.{has, built}
 use Rattle.mask.specs.MaskLaws.{built-of, built-cong}
 use Rattle.assignment.specs.Candidates.{noLimit, keeps, precedes}
-use Rattle.candidates.specs.Cut.{comesBefore, cut}
+use Rattle.candidates.specs.Cut.{comesBefore, cut, Reaches}
 
 -- a stop does not come before itself
 precedes-self : (x : Float) (j : ℕ) → precedes x j x j ≡ false
@@ -59,3 +59,12 @@ few-cut viable ds limit e small =
     let b = before-less viable ds j l v in
     rw (lt-ltb (count (comesBefore viable ds j) 64) limit (omega arith)) (or-true (eqb limit noLimit)))
     small
+
+-- those that come before a stop are counted up to where the viable stops reach
+pub count-reach : (viable : ℕ) (ds : List Float) (j e : ℕ) → Reaches viable e
+    → count (comesBefore viable ds j) e ≡ count (comesBefore viable ds j) 64
+unfolding comesBefore
+count-reach viable ds j e h =
+    let whole : e + (64 - e) ≡ 64 = omega (arith, h .within) in
+    sym (count-below (comesBefore viable ds j) e (64 - e) (λ k l m. rw (h .none k l (omega arith))))
+    ∙ ap (count (comesBefore viable ds j)) whole

@@ -9,7 +9,7 @@ ghost use Rattle.components.specs.Points.{distance};
 ghost use Rattle.manifest.specs.Stops.{pointIn};
 ghost use Rattle.mask.specs.Mask.{built};
 ghost use Rattle.assignment.specs.Candidates.{precedes};
-ghost use Rattle.candidates.specs.Cut.{viableBy, comesBefore, cut};
+ghost use Rattle.candidates.specs.Cut.{viableBy, comesBefore, cut, Reaches};
 use components::Point;
 
 // The stops that are pending and on the car's line, and not barred to it.
@@ -20,7 +20,7 @@ pub fn viable_stops(pending: u64, restricted: u64, serves: u64) -> u64
 }
 
 // How far each of 64 points is from x.
-pub fn fill_distances(xs: &[f64], x: Point, ds: &mut [f64])
+fn fill_distances(xs: &[f64], x: Point, ds: &mut [f64])
     requires { ⌜ (length (now xs) ≡ 128) × (length (now ds) ≡ 64) ⌝ }
     ensures { λ _. ⌜ now (ds .exit) ≡ tab (λ j. distance x (pointIn (now (xs .entry)) j)) 64 ⌝ }
 {
@@ -56,14 +56,24 @@ fn one_before(viable: u64, ds: &[f64], j: usize, k: usize) -> u32
     }
 }
 
-// How many viable stops come before stop j.
-fn count_before(viable: u64, ds: &[f64], j: usize) -> u32
-    requires { ⌜ (length (now ds) ≡ 64) × (j < 64) ⌝ }
+// A number of stops past which none is viable: few stops are counted in a few steps.
+fn reach(viable: u64) -> usize
+    ensures { λ r. ⌜ Reaches viable r ⌝ }
+{
+    if mask::past_stops(viable, 16) {
+        return 64;
+    }
+    if mask::past_stops(viable, 8) { 16 } else { 8 }
+}
+
+// How many viable stops come before stop j; none is viable from e on.
+fn count_before(viable: u64, ds: &[f64], j: usize, e: usize) -> u32
+    requires { ⌜ (length (now ds) ≡ 64) × (j < 64) × Reaches viable e ⌝ }
     ensures { λ r. ⌜ r ≡ count (comesBefore viable (now (ds .entry)) j) 64 ⌝ }
 {
     let mut n: u32 = 0;
     let mut k: usize = 0;
-    while k < 64 {
+    while k < e {
         n += one_before(viable, ds, j, k);
         k += 1;
     }
@@ -71,8 +81,8 @@ fn count_before(viable: u64, ds: &[f64], j: usize) -> u32
 }
 
 // Whether the limit keeps stop j.
-fn is_kept(viable: u64, ds: &[f64], limit: u32, j: usize) -> bool
-    requires { ⌜ (length (now ds) ≡ 64) × (j < 64) ⌝ }
+fn is_kept(viable: u64, ds: &[f64], limit: u32, j: usize, e: usize) -> bool
+    requires { ⌜ (length (now ds) ≡ 64) × (j < 64) × Reaches viable e ⌝ }
     ensures { λ r. ⌜ r ≡ cut viable (now (ds .entry)) limit j ⌝ }
 {
     if !mask::has(viable, j) {
@@ -81,7 +91,7 @@ fn is_kept(viable: u64, ds: &[f64], limit: u32, j: usize) -> bool
     if limit == 65535 {
         return true;
     }
-    count_before(viable, ds, j) < limit
+    count_before(viable, ds, j, e) < limit
 }
 
 // The stops that the limit keeps, one by one.
@@ -89,19 +99,20 @@ fn cut_stops(viable: u64, ds: &[f64], limit: u32) -> u64
     requires { ⌜ length (now ds) ≡ 64 ⌝ }
     ensures { λ r. ⌜ r ≡ built (cut viable (now (ds .entry)) limit) 64 ⌝ }
 {
+    let e = reach(viable);
     let mut m: u64 = 0;
     let mut j: usize = 0;
     while j < 64 {
-        m = mask::pushed(m, is_kept(viable, ds, limit, j));
+        m = mask::pushed(m, is_kept(viable, ds, limit, j, e));
         j += 1;
     }
     m
 }
 
-// The kept stops: all that are viable where they are not more than the limit.
-pub fn kept_stops(viable: u64, ds: &[f64], limit: u32) -> u64
-    requires { ⌜ length (now ds) ≡ 64 ⌝ }
-    ensures { λ r. ⌜ r ≡ built (cut viable (now (ds .entry)) limit) 64 ⌝ }
+// The kept stops of a car at x, where the stops stand at xs: all that are viable where they are not more than the limit.
+pub fn kept_stops(viable: u64, xs: &[f64], x: Point, limit: u32) -> u64
+    requires { ⌜ length (now xs) ≡ 128 ⌝ }
+    ensures { λ r. ⌜ r ≡ built (cut viable (tab (λ j. distance x (pointIn (now (xs .entry)) j)) 64) limit) 64 ⌝ }
 {
     if limit == 65535 {
         return viable;
@@ -109,5 +120,7 @@ pub fn kept_stops(viable: u64, ds: &[f64], limit: u32) -> u64
     if mask::size(viable) <= limit {
         return viable;
     }
-    cut_stops(viable, ds, limit)
+    let mut ds = [0.0f64; 64];
+    fill_distances(xs, x, &mut ds);
+    cut_stops(viable, &ds, limit)
 }

@@ -17,7 +17,7 @@ use Rattle.manifest.specs.Stops.{HoldsStops}
 use Rattle.pending.specs.declared.StopMasks.{StopMasks}
 use Rattle.pending.specs.Masks.{masksOf, HoldsNames, Boarded}
 use Rattle.cells.specs.Survey.{SeenStops, coordinates, holds-stops}
-use Rattle.accepted.specs.Ids.{rising-of}
+use Rattle.cells.specs.Ids.{rising-of}
 
 pub record Begun (bytes : List ℕ) (c : Counts) (ids : List ℕ) (xs : List Float) : Type 0 where
   pub stops-held : HoldsStops (sheetOf bytes c) ids xs (c .stops)
@@ -35,7 +35,7 @@ begun bytes c e ids xs r q ei ex size =
     let held = holds-stops (sheetOf bytes c) ids xs r q ei ex (sound .most-stops) size in
     record {
       stops-held = held;
-      names = record { held = held .id-of; above-zero = rising-of bytes c e .above-zero };
+      names = record { held = held .id-of; above-zero = rising-of bytes c e .above-zero; rising = rising-of bytes c e .rising };
       boarded = record { above-zero = λ a l. let (i, b, q) = sound .aboard a l in omega (arith, q, sound .car i b .id) };
       few-demands = omega (arith, sound .most-demands, sound .most-stops);
       few-closures = omega (arith, sound .most-closures, sound .most-stops);

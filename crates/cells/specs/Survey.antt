@@ -31,7 +31,7 @@ use Rattle.fp.specs.Inside.{mass-finite}
 use Rattle.fp.specs.Apart.{room-finite}
 use Rattle.manifest.specs.declared.Waiters.{Waiters}
 use Rattle.manifest.specs.World.{stopId, stopAt}
-use Rattle.manifest.specs.Holds.{HoldsAboard, HoldsWaiting}
+use Rattle.manifest.specs.Holds.{HoldsAboard}
 use Rattle.manifest.specs.Stops.{HoldsStops}
 use Rattle.dispatch.specs.WaitersLaws.{Weighed}
 use Rattle.assignment.specs.Pending.{idle, idleCars, rowCar}
@@ -42,7 +42,7 @@ use Rattle.mask.specs.Ones.{onesOf}
 use Rattle.rows.specs.HeldLaws.{Held}
 use Rattle.rows.specs.Gathered.{gatheredOf, gathered-held}
 use Rattle.rows.specs.MatrixLaws.{Ready, Rows, listed-number, listed-at, listed-below}
-use Rattle.accepted.specs.Ids.{rising-of}
+use Rattle.cells.specs.Ids.{rising-of}
 
 -- the stops with their ids and points, and their masks
 pub record SeenStops (s : Sheet) (ids : List ℕ) (xs : List Float) (masks : StopMasks) : Type 0 where
@@ -123,19 +123,6 @@ holds-aboard s acar adest r q e f =
       counted = refl;
       car-of = λ j l. held (λ a. s .aboard a .car) (s .aboards) r acar e 0 j l;
       bound-for = λ j l. held (λ a. s .aboard a .destination) (s .aboards) q adest f 0 j l;
-    }
-
-pub holds-waiting : (s : Sheet) (wstop wdest : List ℕ) (wweight : List Float) (wwait : List ℕ) (r q : List ℕ) (u : List Float) (t : List ℕ)
-    → wstop ≡ tab (λ w. s .waiting w .stop) (s .waits) ++ r → wdest ≡ tab (λ w. s .waiting w .destination) (s .waits) ++ q
-    → wweight ≡ tab (λ w. s .waiting w .weight) (s .waits) ++ u → wwait ≡ tab (λ w. s .waiting w .wait) (s .waits) ++ t
-    → HoldsWaiting s wstop wdest wweight wwait (s .waits)
-holds-waiting s wstop wdest wweight wwait r q u t e f g h =
-    record {
-      counted = refl;
-      stop-of = λ j l. held (λ w. s .waiting w .stop) (s .waits) r wstop e 0 j l;
-      bound-for = λ j l. held (λ w. s .waiting w .destination) (s .waits) q wdest f 0 j l;
-      weight-of = λ j l. held (λ w. s .waiting w .weight) (s .waits) u wweight g nan j l;
-      ticks-of = λ j l. held (λ w. s .waiting w .wait) (s .waits) t wwait h 0 j l;
     }
 
 -- ---- the idle cars

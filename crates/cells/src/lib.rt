@@ -1,21 +1,25 @@
 // From an accepted sheet to its cells: what is read of it once, and the rows of its idle cars.
 ghost use mathlib.Core.Path.{_≡_};
 ghost use mathlib.Core.List.{_++_};
-ghost use Prim.Native.Nat.{_≤_, _<_};
-ghost use lib.ListN.{length, drop};
+ghost use Prim.Native.Nat.{_+_, _≤_, _<_};
+ghost use lib.ListN.{length, getD, drop};
+ghost use lib.Ieee.{nan};
 ghost use Rattle.laws.specs.Tables.{tab};
 ghost use Rattle.layout.specs.declared.Reading.the-variants.{Accepted};
 ghost use Rattle.layout.specs.Offsets.{Small};
-ghost use Rattle.layout.specs.Records.{sheetOf};
+ghost use Rattle.layout.specs.Records.{sheetOf, waitingOf, from};
 ghost use Rattle.layout.specs.Verdict.{verdict};
 ghost use Rattle.manifest.specs.World.{stopId, stopAt};
-ghost use Rattle.manifest.specs.Stops.{HoldsStops};
+ghost use Rattle.manifest.specs.Rising.{Rising};
+ghost use Rattle.manifest.specs.Stops.{HoldsStops, Ascending, positionIn};
+ghost use Rattle.manifest.specs.Waiters.{nobody, withRider};
 ghost use Rattle.manifest.specs.Manifest.{riderlessCall};
+ghost use Rattle.mask.specs.Mask.{has};
 ghost use Rattle.mask.specs.Ones.{onesOf};
 ghost use Rattle.pending.specs.Masks.{stopMask, masksOf};
 ghost use Rattle.cars.specs.Cars.{carsIn};
 ghost use Rattle.rows.specs.MatrixLaws.{FilledRows};
-ghost use Rattle.rows.specs.Gathered.{gatheredOf};
+ghost use Rattle.rows.specs.Gathered.{gathered, gatheredOf};
 ghost use Rattle.ranking.specs.RankingLaws.{HoldsRow};
 ghost use Rattle.cells.specs.Survey.{SeenStops, Survey, coordinates, idleMask};
 use components::Car;
@@ -75,37 +79,42 @@ pub fn fill_aboard(s: &[u8], c: Counts, acar: &mut [u32], adest: &mut [u32])
     fields::fill32(s, at, aboard::BITS, aboard::DESTINATION, n, adest);
 }
 
-// The stops, destinations, weights and wait ticks of those who wait.
-fn fill_waits(
-    s: &[u8],
-    c: Counts,
-    wstop: &mut [u32],
-    wdest: &mut [u32],
-    wweight: &mut [f64],
-    wwait: &mut [u64],
-)
-    requires { ⌜ Small c × (length (now wstop) ≡ 512) × (length (now wdest) ≡ 512) × (length (now wweight) ≡ 512)
-        × (length (now wwait) ≡ 512) ⌝ }
-    ensures stops { λ _. ⌜ (length (now (wstop .exit)) ≡ length (now (wstop .entry)))
-        × (now (wstop .exit) ≡ tab (λ w. sheetOf (now (s .entry)) c .waiting w .stop) (c .waits) ++ drop (c .waits) (now (wstop .entry))) ⌝ }
-    ensures destinations { λ _. ⌜ (length (now (wdest .exit)) ≡ length (now (wdest .entry)))
-        × (now (wdest .exit) ≡ tab (λ w. sheetOf (now (s .entry)) c .waiting w .destination) (c .waits) ++ drop (c .waits) (now (wdest .entry)))
-        ⌝ }
-    ensures weights { λ _. ⌜ (length (now (wweight .exit)) ≡ length (now (wweight .entry)))
-        × (now (wweight .exit) ≡ tab (λ w. sheetOf (now (s .entry)) c .waiting w .weight) (c .waits) ++ drop (c .waits) (now (wweight .entry)))
-        ⌝ }
-    ensures waits { λ _. ⌜ (length (now (wwait .exit)) ≡ length (now (wwait .entry)))
-        × (now (wwait .exit) ≡ tab (λ w. sheetOf (now (s .entry)) c .waiting w .wait) (c .waits) ++ drop (c .waits) (now (wwait .entry))) ⌝ }
+// Nobody waits at any stop; at each of the first n a hall call may have no rider.
+fn riderless(calls: u64, n: usize) -> [Waiters; 64]
+    requires { ⌜ n ≤ 64 ⌝ }
+    ensures { λ r. ⌜ r ≡ gathered (λ j. nobody (has calls j)) n ⌝ }
 {
-    let n = c.waits as usize;
-    let at = c.waits_from();
-    fields::fill32(s, at, waiting::BITS, waiting::STOP, n, wstop);
-    fields::fill32(s, at, waiting::BITS, waiting::DESTINATION, n, wdest);
-    fields::fill_doubles(s, at, waiting::BITS, waiting::WEIGHT, 64, n, wweight);
-    fields::fill64(s, at, waiting::BITS, waiting::WAIT, n, wwait);
+    let mut all = [Waiters::none(false); 64];
+    let mut j: usize = 0;
+    while j < n {
+        all[j] = Waiters::none(mask::has(calls, j));
+        j += 1;
+    }
+    all
 }
 
-// What waits at each stop.
+// The rider of the record at a bit of the sheet is met at stop j.
+fn met<'a>(
+    v: Waiters,
+    s: &'a [u8],
+    at: u32,
+    ids: &'a [u32],
+    xs: &'a [f64],
+    n: usize,
+    j: usize,
+) -> Waiters
+    requires { ⌜ (n ≤ length (now ids)) × Ascending (now ids) n × (64 + n ≤ length (now xs)) × (j < n) ⌝ }
+    ensures { λ r. let rider = waitingOf (from (now (s .entry)) at) in
+        ⌜ r ≡ withRider v (getD (now (xs .entry)) j nan) (positionIn (now (ids .entry)) (now (xs .entry)) n (rider .destination)) (rider .weight)
+        (rider .wait) ⌝ }
+{
+    let dest = bits::field32(s, at, waiting::DESTINATION);
+    let weight = fp::double(bits::field(s, at, waiting::WEIGHT, 64));
+    let wait = bits::field(s, at, waiting::WAIT, 64);
+    v.meet(ids, xs, n, j, dest, weight, wait)
+}
+
+// What waits at each stop: each rider is met once, at the stop whose id it names.
 pub fn waiting<'a>(
     s: &'a [u8],
     c: Counts,
@@ -114,25 +123,23 @@ pub fn waiting<'a>(
     calls: u64,
 ) -> [Waiters; 64]
     requires { ⌜ Small c × (length (now ids) ≡ 64) × (length (now xs) ≡ 128) × HoldsStops (sheetOf (now s) c) (now ids) (now xs) (c .stops)
-        × (calls ≡ stopMask (sheetOf (now s) c) (riderlessCall (sheetOf (now s) c))) ⌝ }
+        × Rising (sheetOf (now s) c) × (calls ≡ stopMask (sheetOf (now s) c) (riderlessCall (sheetOf (now s) c))) ⌝ }
     ensures { λ r. ⌜ r ≡ gatheredOf (sheetOf (now (s .entry)) c) ⌝ }
 {
-    let mut wstop = [0u32; 512];
-    let mut wdest = [0u32; 512];
-    let mut wweight = [0.0f64; 512];
-    let mut wwait = [0u64; 512];
-    fill_waits(s, c, &mut wstop, &mut wdest, &mut wweight, &mut wwait);
-    rows::waiters_of(
-        ids,
-        xs,
-        c.stops as usize,
-        calls,
-        &wstop,
-        &wdest,
-        &wweight,
-        &wwait,
-        c.waits as usize,
-    )
+    let n = c.stops as usize;
+    let first = c.waits_from();
+    let mut all = riderless(calls, n);
+    let mut w: u32 = 0;
+    while w < c.waits {
+        let at = first + waiting::BITS * w;
+        let j = manifest::stop_index(ids, n, bits::field32(s, at, waiting::STOP));
+        if j < n {
+            let v = all[j];
+            all[j] = met(v, s, at, ids, xs, n, j);
+        }
+        w += 1;
+    }
+    all
 }
 
 // The row of car i under a limit, where the stops and their masks are at hand; the known destinations of its riders are left in dests and sides.

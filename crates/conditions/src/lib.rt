@@ -1,25 +1,45 @@
 // What the refusals ask: an id among earlier records, absent fields, ranges; and which of several conditions is given. Reads past the end give 0.
 ghost use mathlib.Core.Path.{_≡_};
-ghost use Prim.Native.Nat.{_<_, _≤_, _^_};
+ghost use Prim.Native.Nat.{_+_, _<_, _≤_, _^_};
 ghost use Rattle.fp.specs.Ranges.{isMass};
 ghost use Rattle.layout.specs.Offsets.{Small};
 ghost use Rattle.layout.specs.Table.{field};
 ghost use Rattle.components.specs.Points.{isPlaced};
 ghost use Rattle.layout.specs.Records.{from, double, point};
-ghost use Rattle.layout.specs.Refusals.{absentSet, presentZero, seen, hasStop, hasLine, hasCar, hasDemand, hasClosed, lastStop};
+ghost use Rattle.layout.specs.Refusals.{absentSet, presentZero, seen, hasLine, lastStop};
+ghost use lib.ListN.{length};
 ghost use Rattle.layout.specs.Verdict.{pick};
+ghost use Rattle.conditions.specs.Ids.{among};
 use layout::Counts;
-use layout::closed;
-use layout::demand;
 use layout::line;
 use layout::record;
 use layout::stop;
+
+// What is wrong with an optional id.
+pub struct Optional {
+    pub unused: bool,
+    pub zero: bool,
+}
 
 // The number where the condition holds, else the rest; 0 is no refusal.
 pub fn pick(b: bool, n: u32, rest: u32) -> u32
     ensures { λ r. ⌜ r ≡ pick b n rest ⌝ }
 {
     if b { n } else { rest }
+}
+
+// Whether a table has an id among its first n. Every one is looked at, so that several are compared at a time.
+pub fn among(ids: &[u32], n: u32, id: u32) -> bool
+    requires { ⌜ n ≤ length (now ids) ⌝ }
+    ensures { λ r. ⌜ r ≡ among (now (ids .entry)) n id ⌝ }
+{
+    let mut found = false;
+    let mut i: usize = 0;
+    while i < n as usize {
+        found = found | (ids[i] == id);
+        i += 1;
+    }
+    found
 }
 
 // Whether one of the first n records of a kind, len bits each from base, has this id in its first field.
@@ -37,39 +57,11 @@ fn seen(s: &[u8], base: u32, len: u32, n: u32, id: u32) -> bool
     false
 }
 
-pub fn has_stop(s: &[u8], c: Counts, id: u32) -> bool
-    requires { ⌜ Small c ⌝ }
-    ensures { λ r. ⌜ r ≡ hasStop (now (s .entry)) c id ⌝ }
-{
-    seen(s, c.stops_from(), c.stop_bits(), c.stops, id)
-}
-
 pub fn has_line(s: &[u8], c: Counts, id: u32) -> bool
     requires { ⌜ Small c ⌝ }
     ensures { λ r. ⌜ r ≡ hasLine (now (s .entry)) c id ⌝ }
 {
     seen(s, c.lines_from(), line::BITS, c.lines, id)
-}
-
-pub fn has_car(s: &[u8], c: Counts, id: u32) -> bool
-    requires { ⌜ Small c ⌝ }
-    ensures { λ r. ⌜ r ≡ hasCar (now (s .entry)) c id ⌝ }
-{
-    seen(s, c.cars_from(), c.car_bits(), c.cars, id)
-}
-
-pub fn has_demand(s: &[u8], c: Counts, id: u32) -> bool
-    requires { ⌜ Small c ⌝ }
-    ensures { λ r. ⌜ r ≡ hasDemand (now (s .entry)) c id ⌝ }
-{
-    seen(s, c.demands_from(), demand::BITS, c.demands, id)
-}
-
-pub fn has_closed(s: &[u8], c: Counts, id: u32) -> bool
-    requires { ⌜ Small c ⌝ }
-    ensures { λ r. ⌜ r ≡ hasClosed (now (s .entry)) c id ⌝ }
-{
-    seen(s, c.closures_from(), closed::BITS, c.closures, id)
 }
 
 // The id of the last stop record, 0 before the first.
@@ -94,13 +86,16 @@ pub fn absent_set(s: &[u8], at: u32, present: u32, value: u32, w: usize) -> bool
     !there & (v != 0)
 }
 
-// Whether an id is present and 0.
-pub fn present_zero(s: &[u8], at: u32, present: u32, value: u32) -> bool
-    ensures { λ r. ⌜ r ≡ presentZero (from (now (s .entry)) at) (field present 1) (field value 32) ⌝ }
+// What an optional id is refused for, its present bit and the id after it in one read: absent with a one bit (8), present and 0 (9).
+pub fn optional_at(s: &[u8], at: u32, present: u32) -> Optional
+    ensures { λ r. ⌜ (r .unused ≡ absentSet (from (now (s .entry)) at) (field present 1) (field (present + 1) 32))
+        × (r .zero ≡ presentZero (from (now (s .entry)) at) (field present 1) (field (present + 1) 32)) ⌝ }
 {
-    let there = bits::flag(s, at, present);
-    let v = bits::field32(s, at, value);
-    there & (v == 0)
+    let both = bits::field(s, at, present, 33);
+    Optional {
+        unused: (both != 0) & (both < 4_294_967_296),
+        zero: both == 4_294_967_296,
+    }
 }
 
 // Whether the double at an offset is from 0 to 1,000,000,000.

@@ -155,7 +155,48 @@ fn covered_mask<'a>(
     m
 }
 
-// The stops of the mask that are covered, with the columns of those who wait.
+// The stops of the mask that are covered, with the columns of those who wait, which have room.
+fn covered_columns<'a>(
+    s: &'a [u8],
+    c: Counts,
+    targets: &'a [u32],
+    lines: &'a [u32],
+    rooms: &'a [f64],
+    ids: &'a [u32],
+    asked: u64,
+    names: &'a [u32],
+    stops: &mut [u32],
+    required: &mut [u32],
+    weights: &mut [f64],
+) -> u64
+    requires { ⌜ Small c × (length (now targets) ≡ 32) × (length (now lines) ≡ 32) × (length (now rooms) ≡ 32) × (length (now ids) ≡ 8)
+        × (length (now names) ≡ 64) × (c .waits ≤ length (now stops)) × (c .waits ≤ length (now required)) × (c .waits ≤ length (now weights)) ⌝ }
+    requires { ⌜ HoldsServing (sheetOf (now s) c) (now targets) (now lines) (now rooms) (now ids)
+        × HoldsIds (sheetOf (now s) c) asked (now names) ⌝ }
+    ensures { λ r. ⌜ r ≡ built (λ j. has asked j && coveredByCars (sheetOf (now (s .entry)) c) j) 64 ⌝ }
+{
+    let n = c.waits as usize;
+    let at = c.waits_from();
+    fields::fill32(s, at, waiting::BITS, waiting::STOP, n, stops);
+    fields::fill32(s, at, waiting::BITS, waiting::LINE, n, required);
+    fields::fill_doubles(s, at, waiting::BITS, waiting::WEIGHT, 64, n, weights);
+    covered_mask(
+        targets,
+        lines,
+        rooms,
+        c.cars as usize,
+        ids,
+        c.lines as usize,
+        stops,
+        required,
+        weights,
+        n,
+        asked,
+        names,
+    )
+}
+
+// The stops of the mask that are covered. Few riders have short columns, which are cleared sooner.
 fn covered_waits<'a>(
     s: &'a [u8],
     c: Counts,
@@ -172,27 +213,39 @@ fn covered_waits<'a>(
         × HoldsIds (sheetOf (now s) c) asked (now names) ⌝ }
     ensures { λ r. ⌜ r ≡ built (λ j. has asked j && coveredByCars (sheetOf (now (s .entry)) c) j) 64 ⌝ }
 {
+    if c.waits <= 64 {
+        let mut stops = [0u32; 64];
+        let mut required = [0u32; 64];
+        let mut weights = [0.0f64; 64];
+        return covered_columns(
+            s,
+            c,
+            targets,
+            lines,
+            rooms,
+            ids,
+            asked,
+            names,
+            &mut stops,
+            &mut required,
+            &mut weights,
+        );
+    }
     let mut stops = [0u32; 512];
     let mut required = [0u32; 512];
     let mut weights = [0.0f64; 512];
-    let n = c.waits as usize;
-    let at = c.waits_from();
-    fields::fill32(s, at, waiting::BITS, waiting::STOP, n, &mut stops);
-    fields::fill32(s, at, waiting::BITS, waiting::LINE, n, &mut required);
-    fields::fill_doubles(s, at, waiting::BITS, waiting::WEIGHT, 64, n, &mut weights);
-    covered_mask(
+    covered_columns(
+        s,
+        c,
         targets,
         lines,
         rooms,
-        c.cars as usize,
         ids,
-        c.lines as usize,
-        &stops,
-        &required,
-        &weights,
-        n,
         asked,
         names,
+        &mut stops,
+        &mut required,
+        &mut weights,
     )
 }
 
@@ -231,8 +284,11 @@ pub fn closed_stops<'a>(s: &'a [u8], c: Counts, names: &'a [u32]) -> u64
     requires { ⌜ Small c × (c .closures ≤ 64) × (length (now names) ≡ 64) ⌝ }
     ensures { λ r. ⌜ r ≡ built (closedIn (sheetOf (now (s .entry)) c) (now (names .entry))) 64 ⌝ }
 {
-    let mut ids = [0u32; 64];
     let n = c.closures as usize;
+    if n == 0 {
+        return 0;
+    }
+    let mut ids = [0u32; 64];
     fields::fill32(
         s,
         c.closures_from(),

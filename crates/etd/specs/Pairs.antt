@@ -1,14 +1,15 @@
 -- ETD's cost and rank from what is held: the demand stops as a mask over n stops, the riders' destinations as two lists, of first and of second
 -- coordinates. Assumes nothing.
-use Prim.Native.Nat.{ℕ, _+_}
+use Prim.Native.Nat.{ℕ, _+_, _≤_}
 use mathlib.Core.Path.{_≡_, refl, sym, ap, _∙_}
-use mathlib.Core.Bool.{Bool, true, false, _&&_, cond}
-use mathlib.Core.List.{List}
-use lib.ListN.{getD}
-use lib.Ieee.{Float, nan, lt, neg}
-use Rattle.laws.specs.Bools.{bit}
-use Rattle.laws.specs.Folds.{fold, count, count-step}
-use Rattle.fp.specs.Num.{zero, half, plus, times, over, maxZero, fma}
+use mathlib.Core.Bool.{Bool, true, false, _&&_, cond, and-false}
+use mathlib.Core.List.{List, _++_}
+use lib.ListN.{length, getD, drop, replicate}
+use lib.Ieee.{Float, nan, inf, fin, lt, neg}
+use Rattle.laws.specs.Folds.{fold, count, count-cong}
+use Rattle.laws.specs.Tables.{tab, getD-tab, tab-length}
+use Rattle.fp.specs.Decimals.{infinity-is}
+use Rattle.fp.specs.Num.{zero, half, epsilon, infinity, plus, minus, times, over, maxZero, fma}
 use Rattle.mask.specs.Mask.{has}
 use Rattle.components.specs.declared.Car.{Car}
 use Rattle.components.specs.declared.Policy.{Policy}
@@ -49,11 +50,43 @@ weighted-by wait delay door travel riders doors bonus ea eb ed er = er ∙ ap ma
 unfoldable pub interveningIn : Float → Float → ℕ → List Float → ℕ → ℕ
 interveningIn x p demand xs n = count (λ k. has demand k && intervenes x p (getD xs k nan)) n
 
--- one stop more
-pub intervening-next : (x p : Float) (demand : ℕ) (xs : List Float) (k m r : ℕ) → m ≡ interveningIn x p demand xs k
-    → r ≡ bit (has demand k && intervenes x p (getD xs k nan)) → m + r ≡ interveningIn x p demand xs (k + 1)
-unfolding interveningIn
-intervening-next x p demand xs k m r e d = ap (λ (z : ℕ). m + z) d ∙ count-step (λ i. has demand i && intervenes x p (getD xs i nan)) k e refl
+-- the positions of the first n stops, infinity in the place of one without demand: there are 64, all others infinity
+unfoldable pub demandPlaces : ℕ → List Float → ℕ → List Float
+demandPlaces demand xs n = tab (λ k. cond (has demand k) (getD xs k nan) infinity) n ++ drop n (replicate 64 infinity)
+
+-- how many of the first n places lie strictly between lo and hi
+unfoldable pub betweenIn : Float → Float → List Float → ℕ → ℕ
+betweenIn lo hi places n = count (λ k. lt lo (getD places k nan) && lt (getD places k nan) hi) n
+
+pub places-size : (demand : ℕ) (xs : List Float) (n : ℕ) → n ≤ 64 → (places : List Float) → places ≡ demandPlaces demand xs n → length places ≡ 64
+unfolding demandPlaces
+places-size demand xs n few places e = tab-length (λ k. cond (has demand k) (getD xs k nan) infinity) n (replicate 64 infinity) places few e
+
+-- infinity is below nothing
+not-between : (lo x : Float) → (lt lo (inf false) && lt (inf false) x) ≡ false
+unfolding lt
+not-between lo nan = and-false (lt lo (inf false))
+not-between lo (inf s) = and-false (lt lo (inf false))
+not-between lo (fin s m e) = and-false (lt lo (inf false))
+
+-- the demand stops between are the places between
+pub places-between : (x p : Float) (demand : ℕ) (xs : List Float) (n : ℕ) → n ≤ 64 → (places : List Float) → places ≡ demandPlaces demand xs n
+    → betweenIn (plus (cond (lt x p) x p) epsilon) (minus (cond (lt x p) p x) epsilon) places n ≡ interveningIn x p demand xs n
+unfolding interveningIn betweenIn demandPlaces intervenes
+places-between x p demand xs n few places e =
+    count-cong (λ k. lt lo (getD places k nan) && lt (getD places k nan) hi) (λ k. has demand k && intervenes x p (getD xs k nan)) n
+    (λ k l. ap (λ (q : Float). lt lo q && lt q hi) (ap (λ (q : List Float). getD q k nan) e ∙ getD-tab (λ i. cond (has demand i) (getD xs i nan) infinity) n k (drop n (replicate 64 infinity)) nan l)
+    ∙ by (has demand k) k)
+  where
+    lo : Float
+    lo = plus (cond (lt x p) x p) epsilon
+
+    hi : Float
+    hi = minus (cond (lt x p) p x) epsilon
+
+    by : (b : Bool) (k : ℕ) → (lt lo (cond b (getD xs k nan) infinity) && lt (cond b (getD xs k nan) infinity) hi) ≡ (b && intervenes x p (getD xs k nan))
+    by true k = refl
+    by false k = rw infinity-is (not-between lo hi)
 
 -- existing_rider_delay, over the first n points of dests and sides
 unfoldable pub delayIn : Point → Point → Float → List Float → List Float → ℕ → Float

@@ -4,10 +4,10 @@ ghost use mathlib.Core.Bool.{_&&_, cond};
 ghost use Prim.Native.Nat.{_+_, _≤_, _<_};
 ghost use lib.ListN.{length};
 ghost use lib.Ieee.{lt};
+ghost use Rattle.fp.specs.Num.{epsilon, infinity, plus, minus};
 ghost use Rattle.laws.specs.Bools.{bit};
-ghost use Rattle.mask.specs.Mask.{has};
-ghost use Rattle.etd.specs.Etd.{intervenes, doorCost, extraDelay, isAhead, movingBonus, directionBonus, weighted};
-ghost use Rattle.etd.specs.Pairs.{interveningIn, delayIn, termsBy, rankBy};
+ghost use Rattle.etd.specs.Etd.{doorCost, extraDelay, isAhead, movingBonus, directionBonus, weighted};
+ghost use Rattle.etd.specs.Pairs.{demandPlaces, betweenIn, delayIn, termsBy, rankBy};
 use components::Car;
 use components::Phase;
 use components::Place;
@@ -36,39 +36,57 @@ fn upper(x: f64, p: f64) -> f64
     if x < p { p } else { x }
 }
 
-// Whether q lies strictly between a car at x and a stop at p, by more than 1e-9 from either.
-fn intervenes(x: f64, p: f64, q: f64) -> bool
-    ensures { λ r. ⌜ r ≡ intervenes x p q ⌝ }
+// The position of a stop with demand, infinity for one without.
+fn place_of(demand: bool, q: f64) -> f64
+    ensures { λ r. ⌜ r ≡ cond demand q infinity ⌝ }
 {
-    let lo = fp::lesser(p, x);
-    let hi = upper(x, p);
-    if q > lo + 1e-9 { q < hi - 1e-9 } else { false }
+    if demand { q } else { 1.0 / 0.0 }
 }
 
-// 1 where stop k, at q, has demand and lies between.
-fn intervening(x: f64, p: f64, demand: u64, k: usize, q: f64) -> u64
-    requires { ⌜ k < 64 ⌝ }
-    ensures { λ r. ⌜ r ≡ bit (has demand k && intervenes x p q) ⌝ }
-{
-    if mask::has(demand, k) {
-        if intervenes(x, p, q) { 1 } else { 0 }
-    } else {
-        0
-    }
-}
-
-// How many demand stops of the n at xs lie between.
-fn intervening_stops(x: f64, p: f64, demand: u64, xs: &[f64], n: usize) -> u64
+// The positions of the n stops at xs, infinity in the place of one without demand.
+pub fn demand_places(demand: u64, xs: &[f64], n: usize) -> [f64; 64]
     requires { ⌜ (n ≤ 64) × (n ≤ length (now xs)) ⌝ }
-    ensures { λ r. ⌜ r ≡ interveningIn x p demand (now (xs .entry)) n ⌝ }
+    ensures { λ r. ⌜ r ≡ demandPlaces demand (now (xs .entry)) n ⌝ }
+{
+    let mut places = [1.0 / 0.0; 64];
+    let mut k: usize = 0;
+    while k < n {
+        places[k] = place_of(mask::has(demand, k), xs[k]);
+        k += 1;
+    }
+    places
+}
+
+// 1 where q lies strictly between lo and hi.
+fn is_between(lo: f64, hi: f64, q: f64) -> u64
+    ensures { λ r. ⌜ r ≡ bit (lt lo q && lt q hi) ⌝ }
+{
+    if (lo < q) & (q < hi) { 1 } else { 0 }
+}
+
+// How many of the first n places lie strictly between lo and hi. Nothing branches, so that several are taken at once.
+fn places_between(lo: f64, hi: f64, places: &[f64], n: usize) -> u64
+    requires { ⌜ (n ≤ 64) × (n ≤ length (now places)) ⌝ }
+    ensures { λ r. ⌜ r ≡ betweenIn lo hi (now (places .entry)) n ⌝ }
 {
     let mut stops: u64 = 0;
     let mut k: usize = 0;
     while k < n {
-        stops += intervening(x, p, demand, k, xs[k]);
+        stops += is_between(lo, hi, places[k]);
         k += 1;
     }
     stops
+}
+
+// How many of the places lie strictly between a car at x and a stop at p, by more than 1e-9 from either.
+fn intervening_stops(x: f64, p: f64, places: &[f64], n: usize) -> u64
+    requires { ⌜ (n ≤ 64) × (n ≤ length (now places)) ⌝ }
+    ensures { λ r. let lo = plus (cond (lt x p) x p) epsilon in let hi = minus (cond (lt x p) p x) epsilon in
+        ⌜ r ≡ betweenIn lo hi (now (places .entry)) n ⌝ }
+{
+    let lo = fp::lesser(p, x) + 1e-9;
+    let hi = upper(x, p) - 1e-9;
+    places_between(lo, hi, places, n)
 }
 
 // The door cycles of these stops, in seconds.
@@ -169,7 +187,8 @@ fn weighted(
     fp::max_zero(fp::fma(wait, travel, b))
 }
 
-// compute_cost, of a stop at p, for a car whose riders go to the first count points of dests and sides; then less both fairness bonuses.
+// compute_cost, of a stop at p, for a car whose riders go to the first count points of dests and sides; then less both fairness bonuses. The places are
+// those of the demand stops of the n at xs.
 pub fn cost_terms(
     policy: Policy,
     car: Car,
@@ -180,17 +199,19 @@ pub fn cost_terms(
     waiters: Waiters,
     demand: u64,
     xs: &[f64],
+    places: &[f64],
     n: usize,
     p: Point,
 ) -> Terms
-    requires { ⌜ (count ≤ length (now dests)) × (count ≤ length (now sides)) × (n ≤ 64) × (n ≤ length (now xs)) ⌝ }
+    requires { ⌜ (count ≤ length (now dests)) × (count ≤ length (now sides)) × (n ≤ 64) × (n ≤ length (now xs))
+        × (now places ≡ demandPlaces demand (now xs) n) ⌝ }
     ensures { λ r. ⌜ r ≡ termsBy policy car goal count (now (dests .entry)) (now (sides .entry)) waiters demand (now (xs .entry)) n p ⌝ }
 {
     let x = car.position;
     let speed = car.speed;
     let phase = car.phase;
     let travel = x.distance(p) / speed;
-    let stops = intervening_stops(x.along, p.along, demand, xs, n);
+    let stops = intervening_stops(x.along, p.along, places, n);
     let doors = door_cost(stops, car.transition, car.dwell, policy.rate);
     let delay = existing_rider_delay(x, p, speed, dests, sides, count);
     let bonus = direction_bonus(phase, goal, x.along, p.along, travel);
@@ -208,7 +229,7 @@ pub fn cost_terms(
     }
 }
 
-// rank, of stop j of the n at xs.
+// rank, of stop j of the n at xs, the demand stops of which have the places.
 pub fn rank(
     policy: Policy,
     car: Car,
@@ -219,11 +240,12 @@ pub fn rank(
     waiters: Waiters,
     demand: u64,
     xs: &[f64],
+    places: &[f64],
     n: usize,
     j: usize,
 ) -> Rank
     requires { ⌜ (riders .count ≤ length (now dests)) × (riders .count ≤ length (now sides)) × (n ≤ 64) × (64 + n ≤ length (now xs))
-        × (j < n) ⌝ }
+        × (j < n) × (now places ≡ demandPlaces demand (now xs) n) ⌝ }
     ensures { λ r. ⌜ r ≡ rankBy policy car goal riders (now (dests .entry)) (now (sides .entry)) waiters demand
         (now (xs .entry)) n j ⌝ }
 {
@@ -242,6 +264,7 @@ pub fn rank(
                 waiters,
                 demand,
                 xs,
+                places,
                 n,
                 p,
             );

@@ -22,19 +22,6 @@ pub fn fill32(s: &[u8], base: u32, len: u32, off: u32, n: usize, out: &mut [u32]
     }
 }
 
-// The 64 bits at off of each record.
-pub fn fill64(s: &[u8], base: u32, len: u32, off: u32, n: usize, out: &mut [u64])
-    requires { ⌜ (base < 2 ^ 31) × (len ≤ 1000) × (n ≤ 512) × (n ≤ length (now out)) ⌝ }
-    ensures { λ _. ⌜ (length (now (out .exit)) ≡ length (now (out .entry)))
-        × (now (out .exit) ≡ tab (λ i. fieldAt (now (s .entry)) (base + len * i + off) 64) n ++ drop n (now (out .entry))) ⌝ }
-{
-    let mut i: usize = 0;
-    while i < n {
-        out[i] = bits::field(s, base + len * (i as u32), off, 64);
-        i += 1;
-    }
-}
-
 // The double in the w bits at off of each record; in none it is 0.
 pub fn fill_doubles(s: &[u8], base: u32, len: u32, off: u32, w: usize, n: usize, out: &mut [f64])
     requires { ⌜ (base < 2 ^ 31) × (len ≤ 1000) × (n ≤ 512) × (n ≤ length (now out)) × (w ≤ 64) ⌝ }

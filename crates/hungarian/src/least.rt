@@ -4,11 +4,11 @@ ghost use mathlib.Core.Path.{_≡_};
 ghost use Prim.Native.Nat.{ℕ, _+_, _<_};
 ghost use Rattle.assignment_problem.specs.Choice.{cellAt, total};
 ghost use Rattle.assignment_problem.specs.Recursion.{leastTotal};
-ghost use Rattle.alternating_tree.specs.Lists.{at};
+ghost use Rattle.alternating_tree.specs.Lists.{at, Nearest};
 ghost use Rattle.alternating_tree.specs.State.{Sizes, Scratch, Matrix, State, Growing};
 use super::tree;
 
-// Row i stands alone in the tree; answers a free column.
+// Row i stands alone in the tree; answers the nearest column.
 fn prepare(
     cells: &[u64],
     n: usize,
@@ -24,16 +24,15 @@ fn prepare(
 ) -> usize
     requires { ⌜ Sizes (now u) (now w) (now «row_of») (now «col_of») × Scratch (now dist) (now from) (now seen) ⌝ }
     requires { ⌜ Matrix (now cells) n cols × (i < n) × State (now cells) n cols i (now u) (now w) (now «row_of») (now «col_of») ⌝ }
-    ensures { λ f. ⌜ Growing (now (cells .entry)) n cols i 1 f 0 (now (u .exit)) (now (w .entry)) (now («row_of» .exit)) (now («col_of» .exit))
-        (now (dist .exit)) (now (from .exit)) (now (seen .exit)) ⌝ }
+    ensures growing { λ _. ⌜ ((f : ℕ) × Growing (now (cells .entry)) n cols i 1 f 0 (now (u .exit)) (now (w .entry)) (now («row_of» .exit))
+        (now («col_of» .exit)) (now (dist .exit)) (now (from .exit)) (now (seen .exit))) ⌝ }
+    ensures nearest { λ j. ⌜ Nearest (now (seen .exit)) (now (dist .exit)) cols j ⌝ }
 {
-    let f = tree::free_column(row_of, n, cols);
     u[i] = 0;
     row_of[cols] = i;
     col_of[i] = cols;
     tree::clear(seen, cols);
-    tree::begin(cells, cols, i, w, dist, from);
-    f
+    tree::begin(cells, cols, i, w, dist, from)
 }
 
 // Row i gets a column, and the rows before it keep one each.
@@ -55,10 +54,9 @@ fn insert(
     ensures { λ _. ⌜ State (now (cells .entry)) n cols (i + 1) (now (u .exit)) (now (w .exit)) (now («row_of» .exit)) (now («col_of» .exit))
         ⌝ }
 {
-    let f = prepare(cells, n, cols, i, u, w, row_of, col_of, dist, from, seen);
+    let mut j = prepare(cells, n, cols, i, u, w, row_of, col_of, dist, from, seen);
     let mut t = 1;
     loop {
-        let j = tree::nearest(seen, dist, cols, f);
         let d = dist[j];
         t += 1;
         let r = row_of[j];
@@ -69,7 +67,7 @@ fn insert(
             tree::augment(row_of, col_of, from, seen, n, cols, j);
             return;
         }
-        tree::join(cells, cols, r, u[r], j, t, d, w, seen, dist, from);
+        j = tree::join(cells, cols, r, u[r], j, t, d, w, seen, dist, from);
     }
 }
 

@@ -26,7 +26,8 @@ fn may(cells: &[u64], n: usize, cols: usize, u: &[u64], w: &[u64], r: usize, y: 
     u[r] == tree::cell(cells, cols, r, y) + w[y]
 }
 
-// Column y is seen from column x, which holds r, if that may go there and y has no row before i. Answers how many columns the queue has.
+// Column y is seen from column x, which holds r, if that may go there and y has no row before i. Answers how many columns the queue has. Few pairs
+// are tight, so that is asked first.
 fn visit(
     cells: &[u64],
     n: usize,
@@ -48,20 +49,20 @@ fn visit(
     ensures { λ end. ⌜ VisitedAll (now (cells .entry)) n cols i len x r y (now (u .entry)) (now (w .entry)) (now («row_of» .entry))
         (now (seen .entry)) (now (from .entry)) (now (queue .entry)) (now (seen .exit)) (now (from .exit)) (now (queue .exit)) end ⌝ }
 {
+    if !may(cells, n, cols, u, w, r, y) {
+        return len;
+    }
     if seen[y] != 0 {
         return len;
     }
     if row_of[y] < i {
         return len;
     }
-    if may(cells, n, cols, u, w, r, y) {
-        queue[len] = y;
-        let end = len + 1;
-        seen[y] = end + 1;
-        from[y] = x;
-        return end;
-    }
-    len
+    queue[len] = y;
+    let end = len + 1;
+    seen[y] = end + 1;
+    from[y] = x;
+    end
 }
 
 // Every column that what the h-th column of the queue holds may go to is seen.

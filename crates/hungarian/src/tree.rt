@@ -10,7 +10,7 @@ ghost use mathlib.Core.Path.{_≡_};
 ghost use Prim.Native.Nat.{ℕ, _+_, _*_, _<_, _≤_};
 ghost use lib.ListN.{length};
 ghost use Rattle.assignment_problem.specs.Choice.{cellAt};
-ghost use Rattle.alternating_tree.specs.Lists.{at, big, gain, Rooted, Nearest, RaisedRows, RaisedColumns, FreeColumn, DistancesRelaxed, Stationed};
+ghost use Rattle.alternating_tree.specs.Lists.{at, big, gain, Rooted, Nearest, RaisedRows, RaisedColumns, DistancesRelaxed, Stationed};
 ghost use Rattle.alternating_tree.specs.Lists.{Going, Gone};
 ghost use Rattle.alternating_tree.specs.State.{Cleared, Joined};
 
@@ -22,23 +22,8 @@ pub(crate) fn cell(cells: &[u64], cols: usize, i: usize, j: usize) -> u64
     cells[i * cols + j]
 }
 
-// The first column below cols that no row has, or cols.
-pub(crate) fn free_column(row_of: &[usize], n: usize, cols: usize) -> usize
-    requires { ⌜ (length (now «row_of») ≡ 65) ⌝ }
-    requires { ⌜ cols ≤ 64 ⌝ }
-    ensures { λ r. ⌜ FreeColumn (now («row_of» .entry)) n cols r ⌝ }
-{
-    let mut j = 0;
-    while j < cols {
-        if n <= row_of[j] {
-            return j;
-        }
-        j += 1;
-    }
-    j
-}
-
-// Row i alone in the tree: the distance of each column is its slack, and the stand is where it is seen from.
+// Row i alone in the tree: the distance of each column is its slack, and the stand is where it is seen from. Answers the nearest column; the first
+// is nearer than the distance that is started from.
 pub(crate) fn begin(
     cells: &[u64],
     cols: usize,
@@ -46,38 +31,28 @@ pub(crate) fn begin(
     w: &[u64],
     dist: &mut [u64],
     from: &mut [usize],
-)
+) -> usize
     requires { ⌜ (length (now w) ≡ 65) × (length (now dist) ≡ 65) × (length (now from) ≡ 65) ⌝ }
     requires { ⌜ (cols ≤ 64) × (i * cols + cols ≤ length (now cells)) ⌝ }
     requires { ⌜ ((k : ℕ) → at (now cells) k ≤ big) ⌝ }
     requires { ⌜ ((j : ℕ) → j < cols → at (now w) j ≤ big) ⌝ }
-    ensures { λ _. ⌜ Rooted (now (cells .entry)) cols i (now (w .entry)) (now (dist .exit)) (now (from .exit)) ⌝ }
+    ensures rooted { λ _. ⌜ Rooted (now (cells .entry)) cols i (now (w .entry)) (now (dist .exit)) (now (from .exit)) ⌝ }
+    ensures nearest { λ r. ⌜ (0 < cols → r < cols) × ((j : ℕ) → j < cols → at (now (dist .exit)) r ≤ at (now (dist .exit)) j) ⌝ }
 {
+    let mut best = 0;
+    let mut least = 18446744073709551615;
     let mut j = 0;
     while j < cols {
-        dist[j] = cell(cells, cols, i, j) + w[j];
+        let s = cell(cells, cols, i, j) + w[j];
+        dist[j] = s;
         from[j] = cols;
-        j += 1;
-    }
-    dist[cols] = 0;
-}
-
-// The column outside the tree with the least distance; f is one outside it.
-pub(crate) fn nearest(seen: &[usize], dist: &[u64], cols: usize, f: usize) -> usize
-    requires { ⌜ (length (now seen) ≡ 65) × (length (now dist) ≡ 65) ⌝ }
-    requires { ⌜ (cols ≤ 64) × (f < cols) × (at (now seen) f ≡ 0) ⌝ }
-    ensures { λ r. ⌜ Nearest (now (seen .entry)) (now (dist .entry)) cols r ⌝ }
-{
-    let mut best = f;
-    let mut j = 0;
-    while j < cols {
-        if seen[j] == 0 {
-            if dist[j] < dist[best] {
-                best = j;
-            }
+        if s < least {
+            best = j;
+            least = s;
         }
         j += 1;
     }
+    dist[cols] = 0;
     best
 }
 
@@ -129,7 +104,8 @@ pub(crate) fn raise_columns(seen: &[usize], dist: &[u64], w: &mut [u64], cols: u
     }
 }
 
-// The distances outside the tree are lowered to those by row r, whose column is col, at the distance d.
+// The distances outside the tree are lowered to those by row r, whose column is col, at the distance d. Answers the column outside the tree with the
+// least distance.
 fn relax(
     cells: &[u64],
     cols: usize,
@@ -141,15 +117,19 @@ fn relax(
     seen: &[usize],
     dist: &mut [u64],
     from: &mut [usize],
-)
+) -> usize
     requires { ⌜ (length (now w) ≡ 65) × (length (now seen) ≡ 65) × (length (now dist) ≡ 65) × (length (now from) ≡ 65) ⌝ }
     requires { ⌜ (cols ≤ 64) × (r * cols + cols ≤ length (now cells)) × (d ≤ big) ⌝ }
+    requires { ⌜ ((f : ℕ) × (f < cols) × (at (now seen) f ≡ 0)) ⌝ }
     requires { ⌜ ((k : ℕ) → at (now cells) k ≤ big) ⌝ }
     requires { ⌜ ((j : ℕ) → j < cols → (at (now w) j ≤ big) × (at (now seen) j ≡ 0 → ur ≤ at (now cells) (r * cols + j) + at (now w)
         j)) ⌝ }
-    ensures { λ _. ⌜ DistancesRelaxed (now (cells .entry)) cols r ur col d (now (w .entry)) (now (seen .entry)) (now (dist .entry))
+    ensures relaxed { λ _. ⌜ DistancesRelaxed (now (cells .entry)) cols r ur col d (now (w .entry)) (now (seen .entry)) (now (dist .entry))
         (now (from .entry)) (now (dist .exit)) (now (from .exit)) ⌝ }
+    ensures nearest { λ x. ⌜ Nearest (now (seen .entry)) (now (dist .exit)) cols x ⌝ }
 {
+    let mut best = 0;
+    let mut least = 18446744073709551615;
     let mut j = 0;
     while j < cols {
         if seen[j] == 0 {
@@ -158,9 +138,15 @@ fn relax(
                 dist[j] = s;
                 from[j] = col;
             }
+            let k = dist[j];
+            if k < least {
+                best = j;
+                least = k;
+            }
         }
         j += 1;
     }
+    best
 }
 
 // The row r, or nothing, is put at column x.
@@ -213,7 +199,8 @@ pub(crate) fn clear(seen: &mut [usize], cols: usize)
     seen[cols] = 1;
 }
 
-// Column j joins the tree, as its turn t at the distance d, and its row r lowers the distances outside.
+// Column j joins the tree, as its turn t at the distance d, and its row r lowers the distances outside. Answers the column outside with the least
+// distance.
 pub(crate) fn join(
     cells: &[u64],
     cols: usize,
@@ -226,15 +213,17 @@ pub(crate) fn join(
     seen: &mut [usize],
     dist: &mut [u64],
     from: &mut [usize],
-)
+) -> usize
     requires { ⌜ (length (now w) ≡ 65) × (length (now seen) ≡ 65) × (length (now dist) ≡ 65) × (length (now from) ≡ 65) ⌝ }
     requires { ⌜ (cols ≤ 64) × (r * cols + cols ≤ length (now cells)) × (j < cols) × (0 < t) × (d ≤ big) ⌝ }
+    requires { ⌜ ((f : ℕ) × (f < cols) × (at (now seen) f ≡ 0) × (f ≡ j → ⊥)) ⌝ }
     requires { ⌜ ((k : ℕ) → at (now cells) k ≤ big) ⌝ }
     requires { ⌜ ((x : ℕ) → x < cols → (at (now w) x ≤ big) × (at (now seen) x ≡ 0 → ur ≤ at (now cells) (r * cols + x) + at (now w)
         x)) ⌝ }
-    ensures { λ _. ⌜ Joined (now (cells .entry)) cols r ur j t d (now (w .entry)) (now (seen .entry)) (now (dist .entry)) (now (from .entry))
-        (now (seen .exit)) (now (dist .exit)) (now (from .exit)) ⌝ }
+    ensures joined { λ _. ⌜ Joined (now (cells .entry)) cols r ur j t d (now (w .entry)) (now (seen .entry)) (now (dist .entry))
+        (now (from .entry)) (now (seen .exit)) (now (dist .exit)) (now (from .exit)) ⌝ }
+    ensures nearest { λ x. ⌜ Nearest (now (seen .exit)) (now (dist .exit)) cols x ⌝ }
 {
     seen[j] = t;
-    relax(cells, cols, r, ur, j, d, w, seen, dist, from);
+    relax(cells, cols, r, ur, j, d, w, seen, dist, from)
 }

@@ -1,18 +1,19 @@
 -- Laws of the verdict: what a record without a refusal says, and one record more. Assumes nothing.
 use Prim.Native.Nat.{ℕ, suc, _+_, _-_, _*_, _≤_, _<_}
-use mathlib.Core.Path.{_≡_, refl, ap, _∙_}
+use mathlib.Core.Path.{_≡_, refl, sym, ap, _∙_}
 use mathlib.Core.Bool.{Bool, true, false}
 use mathlib.Core.List.{List}
 use mathlib.Core.Logic.{_≢_}
-use native.Mathlib.Nat.{mul-le-mul, mul-le-mul-left}
+use native.Mathlib.Nat.{mul-le-mul-left}
 use native.Mathlib.Omega.{arith}
-use borrow.Author.Tests.{eq-eqb, ne-eqb, leb-false}
+use borrow.Author.Tests.{eq-eqb, ne-eqb}
+use Rattle.laws.specs.Bools.{never}
 use Rattle.components.specs.declared.Kind.{Kind}
 use Rattle.components.specs.declared.Kind.the-variants.{Policy, Stop, Line, Car, Aboard, Waiting, Demand, Closed, Unknown}
 use Rattle.components.specs.Codes.{kindOf}
 use Rattle.layout.specs.declared.Counts.{Counts}
 use Rattle.layout.specs.declared.Reading.the-variants.{Refused}
-use Rattle.layout.specs.Offsets.{Small, next, endOf}
+use Rattle.layout.specs.Offsets.{next, endOf, recordLength}
 use Rattle.layout.specs.Records.{from}
 use Rattle.layout.specs.Refusals.{kindAt, lengthAt, refusal2, refusal4, refusal5, refusal6, refusal7}
 use Rattle.layout.specs.Verdict.{pick, firstOf, bodyRefusal, recordRefusal, tailVerdict, recordsVerdict}
@@ -45,152 +46,21 @@ clean s c e =
 
 -- ---- one record more
 
--- records of at most l bits, at most m of them
-lengths : (a n : ℕ) (l m : ℕ) → a ≤ l → n ≤ m → a * n ≤ l * m
-lengths a n l m h k = mul-le-mul h k
-
 -- what stands before record i of n is no longer than all of them
 pub before-all : (a i n : ℕ) → i < n → a * i ≤ a * n
 before-all a i n l = mul-le-mul-left a (omega arith)
 
-pub next-small : (c : Counts) (k : Kind) → Small c → refusal7 c k ≡ false → c .demands < 65535 → c .closures < 65535
-    → Small (next c k)
-next-small c Policy h e d x = let l = leb-false 1 (c .policies) e in
-    record {
-      across = h .across;
-      policies = omega arith;
-      stops = h .stops;
-      lines = h .lines;
-      cars = h .cars;
-      aboards = h .aboards;
-      waits = h .waits;
-      demands = h .demands;
-      closures = h .closures;
-      stop-bits = h .stop-bits;
-      car-bits = h .car-bits;
-    }
-next-small c Stop h e d x = let l = leb-false 64 (c .stops) e in
-    record {
-      across = h .across;
-      policies = h .policies;
-      stops = omega arith;
-      lines = h .lines;
-      cars = h .cars;
-      aboards = h .aboards;
-      waits = h .waits;
-      demands = h .demands;
-      closures = h .closures;
-      stop-bits = lengths (118 + c .across) (c .stops + 1) 182 64 (let w = h .across in omega arith) (omega arith);
-      car-bits = h .car-bits;
-    }
-next-small c Line h e d x = let l = leb-false 8 (c .lines) e in
-    record {
-      across = h .across;
-      policies = h .policies;
-      stops = h .stops;
-      lines = omega arith;
-      cars = h .cars;
-      aboards = h .aboards;
-      waits = h .waits;
-      demands = h .demands;
-      closures = h .closures;
-      stop-bits = h .stop-bits;
-      car-bits = h .car-bits;
-    }
-next-small c Car h e d x = let l = leb-false 32 (c .cars) e in
-    record {
-      across = h .across;
-      policies = h .policies;
-      stops = h .stops;
-      lines = h .lines;
-      cars = omega arith;
-      aboards = h .aboards;
-      waits = h .waits;
-      demands = h .demands;
-      closures = h .closures;
-      stop-bits = h .stop-bits;
-      car-bits = lengths (737 + c .across) (c .cars + 1) 801 32 (let w = h .across in omega arith) (omega arith);
-    }
-next-small c Aboard h e d x = let l = leb-false 512 (c .aboards) e in
-    record {
-      across = h .across;
-      policies = h .policies;
-      stops = h .stops;
-      lines = h .lines;
-      cars = h .cars;
-      aboards = omega arith;
-      waits = h .waits;
-      demands = h .demands;
-      closures = h .closures;
-      stop-bits = h .stop-bits;
-      car-bits = h .car-bits;
-    }
-next-small c Waiting h e d x = let l = leb-false 512 (c .waits) e in
-    record {
-      across = h .across;
-      policies = h .policies;
-      stops = h .stops;
-      lines = h .lines;
-      cars = h .cars;
-      aboards = h .aboards;
-      waits = omega arith;
-      demands = h .demands;
-      closures = h .closures;
-      stop-bits = h .stop-bits;
-      car-bits = h .car-bits;
-    }
-next-small c Demand h e d x =
-    record {
-      across = h .across;
-      policies = h .policies;
-      stops = h .stops;
-      lines = h .lines;
-      cars = h .cars;
-      aboards = h .aboards;
-      waits = h .waits;
-      demands = omega arith;
-      closures = h .closures;
-      stop-bits = h .stop-bits;
-      car-bits = h .car-bits;
-    }
-next-small c Closed h e d x =
-    record {
-      across = h .across;
-      policies = h .policies;
-      stops = h .stops;
-      lines = h .lines;
-      cars = h .cars;
-      aboards = h .aboards;
-      waits = h .waits;
-      demands = h .demands;
-      closures = omega arith;
-      stop-bits = h .stop-bits;
-      car-bits = h .car-bits;
-    }
-next-small c Unknown h e d x = h
-
--- the next record adds at most one demand, and at most one closure
-pub next-demands : (c : Counts) (k : Kind) → next c k .demands ≤ c .demands + 1
-next-demands c Policy = omega arith
-next-demands c Stop = omega arith
-next-demands c Line = omega arith
-next-demands c Car = omega arith
-next-demands c Aboard = omega arith
-next-demands c Waiting = omega arith
-next-demands c Demand = omega arith
-next-demands c Closed = omega arith
-next-demands c Unknown = omega arith
-
-pub next-closures : (c : Counts) (k : Kind) → next c k .closures ≤ c .closures + 1
-next-closures c Policy = omega arith
-next-closures c Stop = omega arith
-next-closures c Line = omega arith
-next-closures c Car = omega arith
-next-closures c Aboard = omega arith
-next-closures c Waiting = omega arith
-next-closures c Demand = omega arith
-next-closures c Closed = omega arith
-next-closures c Unknown = omega arith
+-- the next record starts past this one
+pub end-next : (c : Counts) (k : Kind) → refusal4 k ≡ false → endOf (next c k) ≡ endOf c + recordLength (c .across) k
+end-next c Policy h = omega arith
+end-next c Stop h = omega arith
+end-next c Line h = omega arith
+end-next c Car h = omega arith
+end-next c Aboard h = omega arith
+end-next c Waiting h = omega arith
+end-next c Demand h = omega arith
+end-next c Closed h = omega arith
+end-next c Unknown h = never (sym h)
 
 -- ---- the records that are left
 

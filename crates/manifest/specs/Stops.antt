@@ -1,18 +1,19 @@
 -- Stops by two lists, n ids and 128 coordinates: of stop j the first is element j, the second element 64 + j. What the code looks up. Assumes
 -- nothing.
-use Prim.Native.Nat.{ℕ, zero, suc, _+_, _-_, _≤_, _<_}
+use Prim.Native.Nat.{ℕ, zero, suc, _+_, _-_, _*_, _/_, _≤_, _<_}
+use native.Mathlib.Nat.{mul-zero, mul-one}
 use native.Mathlib.Omega.{arith}
 use mathlib.Core.Path.{_≡_, refl, sym, ap, ap₂, _∙_}
 use mathlib.Core.Bool.{Bool, true, false, cond, _&&_}
 use mathlib.Core.List.{List}
-use mathlib.Core.Logic.{_≢_}
+use mathlib.Core.Logic.{_≢_, ⊎-elim}
 use lib.Dec.{eqb, ltb}
 use lib.ListN.{getD, drop}
 use lib.Ieee.{Float, nan}
 use lib.Seq.{getD-drop}
 use borrow.Author.Tests.{lt-ltb, le-ltb, eq-eqb, ne-eqb, eqb-true, ltb-true}
-use Rattle.laws.specs.Bools.{same-test, both, both-left, both-right}
-use Rattle.laws.specs.Folds.{lookup, lookup-next, lookup-cong, lookup-at}
+use Rattle.laws.specs.Bools.{same-test, less?, both, both-left, both-right}
+use Rattle.laws.specs.Folds.{none-any, lookup, lookup-cong, lookup-at, lookup-none}
 use Rattle.mask.specs.Mask.{has}
 use Rattle.components.specs.declared.Point.{Point}
 use Rattle.components.specs.declared.Place.{Place}
@@ -23,43 +24,118 @@ use Rattle.components.specs.Points.{pointOf}
 use Rattle.components.specs.Sheet.{Sheet}
 use Rattle.manifest.specs.World.{stopId, stopAt, stopPosition, goal, goalOf}
 use Rattle.manifest.specs.Manifest.{demandStop}
+use Rattle.manifest.specs.Rising.{Rising, one-place}
 
 -- the index of the stop with this id, n where there is none
 unfoldable pub stopIndex : List ℕ → ℕ → ℕ → ℕ
 stopIndex ids n id = lookup (λ j. eqb (getD ids j 0) id) (λ j. j) n n
 
--- a search from the last stop down: all above k have another id, and k - 1 has it, or has another too
-pub record Searched (ids : List ℕ) (n id k : ℕ) : Type 0 where
-  pub within : k ≤ n
-  pub so-far : stopIndex ids n id ≡ lookup (λ j. eqb (getD ids j 0) id) (λ j. j) n k
+-- the ids of the first n stops rise
+pub record Ascending (ids : List ℕ) (n : ℕ) : Type 0 where
+  pub rising : (a b : ℕ) → a < b → b < n → getD ids a 0 < getD ids b 0
+
+-- the index that a look-up gives is one that passes, or none does
+passes : (p : ℕ → Bool) (n k : ℕ) → k ≤ n → lookup p (λ j. j) n k < n → p (lookup p (λ j. j) n k) ≡ true
+unfolding lookup
+passes p n zero l h = absurd (omega arith)
+passes p n (suc k) l h = by (p k) refl h (passes p n k (omega arith))
+  where
+    by : (b : Bool) → p k ≡ b → cond b k (lookup p (λ j. j) n k) < n → (lookup p (λ j. j) n k < n → p (lookup p (λ j. j) n k) ≡ true)
+        → p (cond b k (lookup p (λ j. j) n k)) ≡ true
+    by true e q f = e
+    by false e q f = f q
+
+-- an index below n has the id
+pub index-has : (ids : List ℕ) (n id : ℕ) → stopIndex ids n id < n → getD ids (stopIndex ids n id) 0 ≡ id
+unfolding stopIndex
+index-has ids n id l = eqb-true (getD ids (stopIndex ids n id) 0) id (passes (λ j. eqb (getD ids j 0) id) n n (omega arith) l)
+
+module _ (ids : List ℕ) (n : ℕ) (h : Ascending ids n) where
+  -- the stop that has the id is the one of its index
+  pub index-at : (j id : ℕ) → j < n → getD ids j 0 ≡ id → stopIndex ids n id ≡ j
+  unfolding stopIndex
+  index-at j id l e =
+      lookup-at (λ k. eqb (getD ids k 0) id) (λ k. k) n n j l (eq-eqb (getD ids j 0) id e)
+      (λ k lk t. one-place (λ i. getD ids i 0) n (h .rising) k j lk l (eqb-true (getD ids k 0) id t ∙ sym e))
+
+-- of numbers below 2^32, the bit that b - a borrows is 0 exactly where b is below a
+pub borrowed : (half a b : ℕ) → a < 4294967296 → b < 4294967296 → half * ((b + 4294967296 - a) / 4294967296) ≡ cond (ltb b a) 0 half
+borrowed half a b la lb =
+    ⊎-elim
+    (λ (x : b < a).
+    let e : (b + 4294967296 - a) / 4294967296 ≡ 0 = omega arith in rw (e, lt-ltb b a x, mul-zero half) refl)
+    (λ (x : a ≤ b).
+    let e : (b + 4294967296 - a) / 4294967296 ≡ 1 = omega arith in rw (e, le-ltb b a x, mul-one half) refl)
+    (less? b a)
+
+pub borrowed-le : (half a b : ℕ) → a < 4294967296 → b < 4294967296 → half * ((b + 4294967296 - a) / 4294967296) ≤ half
+borrowed-le half a b la lb = rw (borrowed half a b la lb) (by (ltb b a))
+  where
+    by : (c : Bool) → cond c 0 half ≤ half
+    by true = omega arith
+    by false = omega arith
+
+-- a search by halves: a stop with the id is among the size stops from base on
+pub record Narrowed (ids : List ℕ) (n id base size : ℕ) : Type 0 where
+  pub within : base + size ≤ n
+  pub from : (j : ℕ) → j < n → getD ids j 0 ≡ id → base ≤ j
+  pub below : (j : ℕ) → j < n → getD ids j 0 ≡ id → j < base + size
 
 module _ (ids : List ℕ) (n id : ℕ) where
-  pub search-start : Searched ids n id n
-  unfolding stopIndex
-  search-start = record { within = omega arith; so-far = refl }
+  pub search-start : Narrowed ids n id 0 n
+  search-start = record { within = omega arith; from = λ j l e. omega arith; below = λ j l e. omega arith }
 
-  one-down : (k : ℕ) → 0 < k → lookup (λ j. eqb (getD ids j 0) id) (λ j. j) n k
-      ≡ cond (eqb (getD ids (k - 1) 0) id) (k - 1) (lookup (λ j. eqb (getD ids j 0) id) (λ j. j) n (k - 1))
-  one-down k l =
-      let e : k ≡ k - 1 + 1 = omega arith in
-      ap (lookup (λ j. eqb (getD ids j 0) id) (λ j. j) n) e ∙ lookup-next (λ j. eqb (getD ids j 0) id) (λ j. j) n (k - 1)
-
-  pub search-found : (k : ℕ) → Searched ids n id k → 0 < k → getD ids (k - 1) 0 ≡ id → k - 1 ≡ stopIndex ids n id
-  search-found k h l e =
-      sym (h .so-far ∙ one-down k l ∙ ap (λ (b : Bool). cond b (k - 1) (lookup (λ j. eqb (getD ids j 0) id) (λ j. j) n (k - 1)))
-      (eq-eqb (getD ids (k - 1) 0) id e))
-
-  pub search-on : (k : ℕ) → Searched ids n id k → 0 < k → getD ids (k - 1) 0 ≢ id → Searched ids n id (k - 1)
-  search-on k h l e =
+  -- the stop in the middle, or one after it
+  search-later : Ascending ids n → (base size : ℕ) → Narrowed ids n id base size → 1 < size → getD ids (base + size / 2) 0 ≤ id
+      → Narrowed ids n id (base + size / 2) (size - size / 2)
+  search-later h base size m l le =
       record {
-        within = let m = h .within in omega arith;
-        so-far = h .so-far ∙ one-down k l ∙ ap (λ (b : Bool). cond b (k - 1) (lookup (λ j. eqb (getD ids j 0) id) (λ j. j) n (k - 1)))
-            (ne-eqb (getD ids (k - 1) 0) id e);
+        within = omega (arith, m .within);
+        from = λ j lj e.
+            ⊎-elim
+            (λ (x : j < base + size / 2). absurd (omega (arith, h .rising j (base + size / 2) x (omega (arith, m .within)))))
+            (λ (x : base + size / 2 ≤ j). x)
+            (less? j (base + size / 2));
+        below = λ j lj e. omega (arith, m .below j lj e);
       }
 
-  pub search-none : (k : ℕ) → Searched ids n id k → k ≤ 0 → n ≡ stopIndex ids n id
-  unfolding lookup
-  search-none k h l = let e : k ≡ 0 = omega arith in sym (h .so-far ∙ ap (lookup (λ j. eqb (getD ids j 0) id) (λ j. j) n) e)
+  -- a stop before it
+  search-earlier : Ascending ids n → (base size : ℕ) → Narrowed ids n id base size → 1 < size → id < getD ids (base + size / 2) 0
+      → Narrowed ids n id base (size - size / 2)
+  search-earlier h base size m l gt =
+      record {
+        within = omega (arith, m .within);
+        from = m .from;
+        below = λ j lj e.
+            ⊎-elim
+            (λ (x : j < base + size / 2). omega arith)
+            (λ (x : base + size / 2 ≤ j). ⊎-elim
+            (λ (y : base + size / 2 < j). absurd (omega (arith, h .rising (base + size / 2) j y lj)))
+            (λ (y : j ≤ base + size / 2). let q : base + size / 2 ≡ j = omega arith in absurd (omega (arith, ap (λ (z : ℕ). getD ids z 0) q)))
+            (less? (base + size / 2) j))
+            (less? j (base + size / 2));
+      }
+
+  -- a turn: so far on from base
+  pub search-on : Ascending ids n → (base size : ℕ) {r : ℕ} → Narrowed ids n id base size → 1 < size
+      → r ≡ cond (ltb id (getD ids (base + size / 2) 0)) 0 (size / 2) → Narrowed ids n id (base + r) (size - size / 2)
+  search-on h base size {r} m l e =
+      ⊎-elim
+      (λ (x : id < getD ids (base + size / 2) 0).
+      let z : r ≡ 0 = rw (lt-ltb id (getD ids (base + size / 2) 0) x) at e in
+      let q : base + r ≡ base = omega arith in rw q (search-earlier h base size m l x))
+      (λ (x : getD ids (base + size / 2) 0 ≤ id).
+      let z : r ≡ size / 2 = rw (le-ltb id (getD ids (base + size / 2) 0) x) at e in
+      rw z (search-later h base size m l x))
+      (less? id (getD ids (base + size / 2) 0))
+
+  -- one stop is left, which has another id
+  pub search-none : (base size : ℕ) → Narrowed ids n id base size → size ≤ 1 → (base < n → getD ids base 0 ≢ id) → n ≡ stopIndex ids n id
+  unfolding stopIndex
+  search-none base size m l ne =
+      sym (lookup-none (λ j. eqb (getD ids j 0) id) (λ j. j) n n (none-any (λ j. eqb (getD ids j 0) id) n
+      (λ j lj. ne-eqb (getD ids j 0) id (λ e.
+      let q : base ≡ j = omega (arith, m .from j lj e, m .below j lj e) in absurd (ne (omega arith) (ap (λ (z : ℕ). getD ids z 0) q ∙ e))))))
 
 -- the point of stop j
 unfoldable pub pointIn : List Float → ℕ → Point
@@ -96,7 +172,7 @@ pub record HoldsDemand (s : Sheet) (mask n : ℕ) : Type 0 where
 pub record DistinctStops (s : Sheet) : Type 0 where
   pub same : (a b : ℕ) → a < s .stops → b < s .stops → stopId s a ≡ stopId s b → a ≡ b
 
--- the index that a look-up gives is one that passes, or none does
+-- the place of the index that a look-up gives is the place that it gives
 found : (p : ℕ → Bool) (xs : List Float) (n k : ℕ) → k ≤ n
     → placeAt xs n (lookup p (λ j. j) n k) ≡ lookup p (λ j. At (pointIn xs j)) Nowhere k
 unfolding lookup placeAt
@@ -107,16 +183,6 @@ found p xs n (suc k) l = by (p k) (found p xs n k (omega arith))
         → placeAt xs n (cond b k (lookup p (λ j. j) n k)) ≡ cond b (At (pointIn xs k)) (lookup p (λ j. At (pointIn xs j)) Nowhere k)
     by true h = rw (lt-ltb k n (omega arith))
     by false h = h
-
-passes : (p : ℕ → Bool) (n k : ℕ) → k ≤ n → lookup p (λ j. j) n k < n → p (lookup p (λ j. j) n k) ≡ true
-unfolding lookup
-passes p n zero l h = absurd (omega arith)
-passes p n (suc k) l h = by (p k) refl h (passes p n k (omega arith))
-  where
-    by : (b : Bool) → p k ≡ b → cond b k (lookup p (λ j. j) n k) < n → (lookup p (λ j. j) n k < n → p (lookup p (λ j. j) n k) ≡ true)
-        → p (cond b k (lookup p (λ j. j) n k)) ≡ true
-    by true e q f = e
-    by false e q f = f q
 
 goalOf-cong : (f g : ℕ → Place) → ((id : ℕ) → f id ≡ g id) → (p : Phase) → goalOf f p ≡ goalOf g p
 goalOf-cong f g h Idle = refl
@@ -142,6 +208,16 @@ module _ (s : Sheet) (ids : List ℕ) (xs : List Float) (n : ℕ) (h : HoldsStop
       (λ k l. ap (λ (z : ℕ). eqb z id) (h .id-of k l)) (λ k l. ap At (point-is k l))
       ∙ ap (λ (z : ℕ). lookup (λ j. eqb (stopId s j) id) (λ j. At (stopAt s j)) Nowhere z) (h .counted)
 
+  -- the ids rise where the sheet's do
+  pub ascending : Rising s → Ascending ids n
+  ascending r =
+      record {
+        rising = λ a b l lb.
+            let e = h .counted in
+            let up = r .rising a b l (omega arith) in
+            omega (arith, up, h .id-of a (omega arith), h .id-of b lb);
+      }
+
   pub goal-is : (i : ℕ) → goalOf (positionIn ids xs n) (s .car i .phase) ≡ goal s i
   unfolding goal
   goal-is i = goalOf-cong (positionIn ids xs n) (stopPosition s) position-is (s .car i .phase)
@@ -155,7 +231,7 @@ module _ (s : Sheet) (ids : List ℕ) (xs : List Float) (n : ℕ) (h : HoldsStop
       there e =
           let q = eqb-true j (stopIndex ids n id) (both-right (ltb (stopIndex ids n id) n) (eqb j (stopIndex ids n id)) e) in
           let m = ltb-true (stopIndex ids n id) n (both-left (ltb (stopIndex ids n id) n) (eqb j (stopIndex ids n id)) e) in
-          let z = eqb-true (getD ids (stopIndex ids n id) 0) id (passes (λ k. eqb (getD ids k 0) id) n n (omega arith) m) in
+          let z = index-has ids n id m in
           eq-eqb id (stopId s j) (sym z ∙ ap (λ (k : ℕ). getD ids k 0) (sym q) ∙ h .id-of j l)
 
       back : eqb id (stopId s j) ≡ true → (ltb (stopIndex ids n id) n && eqb j (stopIndex ids n id)) ≡ true

@@ -1,25 +1,41 @@
 // What waits where: manifest.rs, and the look-ups of world.rs and the group that the costs share. Stops are two lists, of ids and
 // of coordinates: 64 first ones, then 64 second ones.
 ghost use mathlib.Core.Path.{_≡_};
+ghost use mathlib.Core.Bool.{cond};
+ghost use lib.Dec.{ltb};
 ghost use Prim.Native.Nat.{_+_, _≤_, _<_};
-ghost use lib.ListN.{length};
+ghost use lib.ListN.{length, getD};
+ghost use lib.Ieee.{nan};
 ghost use Rattle.manifest.specs.World.{goalOf};
-ghost use Rattle.manifest.specs.Stops.{stopIndex, pointIn, placeAt, positionIn};
-ghost use Rattle.manifest.specs.Waiters.{goesUp, goesDown, lesserIf, nobody, withRider, meet, waitersIn};
+ghost use Rattle.manifest.specs.Stops.{Ascending, stopIndex, pointIn, placeAt, positionIn};
+ghost use Rattle.manifest.specs.Waiters.{goesUp, goesDown, lesserIf, nobody, withRider};
 use components::Phase;
 use components::Place;
 use components::Point;
 
-// The index of the stop with this id, n where there is none.
+// half where a is at most b, else 0, by the bit that b - a borrows: a branch would be mispredicted every other time.
+fn half_if(half: usize, a: u32, b: u32) -> usize
+    ensures { λ r. ⌜ r ≡ cond (ltb b a) 0 half ⌝ }
+{
+    let kept = (b as u64 + 0x1_0000_0000 - a as u64) >> 32;
+    half * (kept as usize)
+}
+
+// The index of the stop with this id, n where there is none: by halves, since ids rise.
 pub fn stop_index(ids: &[u32], n: usize, id: u32) -> usize
-    requires { ⌜ n ≤ length (now ids) ⌝ }
+    requires { ⌜ (n ≤ length (now ids)) × Ascending (now ids) n ⌝ }
     ensures { λ r. ⌜ r ≡ stopIndex (now (ids .entry)) n id ⌝ }
 {
-    let mut left = n;
-    while left > 0 {
-        left -= 1;
-        if ids[left] == id {
-            return left;
+    let mut base: usize = 0;
+    let mut size = n;
+    while size > 1 {
+        let half = size / 2;
+        base += half_if(half, ids[base + half], id);
+        size -= half;
+    }
+    if base < n {
+        if ids[base] == id {
+            return base;
         }
     }
     n
@@ -50,7 +66,7 @@ fn place(xs: &[f64], n: usize, index: usize) -> Place
 
 // stop_position: where the stop with this id stands.
 fn stop_position(ids: &[u32], xs: &[f64], n: usize, id: u32) -> Place
-    requires { ⌜ (n ≤ length (now ids)) × (64 + n ≤ length (now xs)) ⌝ }
+    requires { ⌜ (n ≤ length (now ids)) × Ascending (now ids) n × (64 + n ≤ length (now xs)) ⌝ }
     ensures { λ r. ⌜ r ≡ positionIn (now (ids .entry)) (now (xs .entry)) n id ⌝ }
 {
     let index = stop_index(ids, n, id);
@@ -59,7 +75,7 @@ fn stop_position(ids: &[u32], xs: &[f64], n: usize, id: u32) -> Place
 
 // Where a car in this phase moves to: the position of its moving_target.
 pub fn goal(ids: &[u32], xs: &[f64], n: usize, phase: Phase) -> Place
-    requires { ⌜ (n ≤ length (now ids)) × (64 + n ≤ length (now xs)) ⌝ }
+    requires { ⌜ (n ≤ length (now ids)) × Ascending (now ids) n × (64 + n ≤ length (now xs)) ⌝ }
     ensures { λ r. ⌜ r ≡ goalOf (positionIn (now (ids .entry)) (now (xs .entry)) n) phase ⌝ }
 {
     match phase {
@@ -148,56 +164,21 @@ impl Waiters {
         }
     }
 
-    // The rider of a record, where it waits at the stop with this id, which stands at p.
-    fn meet(
+    // The rider of a record, who waits at stop j.
+    pub fn meet(
         self,
         ids: &[u32],
         xs: &[f64],
         n: usize,
-        id: u32,
-        p: f64,
-        stop: u32,
+        j: usize,
         dest: u32,
         weight: f64,
         wait: u64,
     ) -> Self
-        requires { ⌜ (n ≤ length (now ids)) × (64 + n ≤ length (now xs)) ⌝ }
-        ensures { λ r. ⌜ r ≡ meet (now (ids .entry)) (now (xs .entry)) n id p self stop dest weight wait ⌝ }
+        requires { ⌜ (n ≤ length (now ids)) × Ascending (now ids) n × (64 + n ≤ length (now xs)) × (j < n) ⌝ }
+        ensures { λ r. ⌜ r ≡ withRider self (getD (now (xs .entry)) j nan) (positionIn (now (ids .entry)) (now (xs .entry)) n dest) weight wait ⌝ }
     {
-        if stop == id {
-            let place = stop_position(ids, xs, n, dest);
-            self.with_rider(p, place, weight, wait)
-        } else {
-            self
-        }
+        let place = stop_position(ids, xs, n, dest);
+        self.with_rider(xs[j], place, weight, wait)
     }
-}
-
-// waiting_riders_at, summed up: the riders of nw records who wait at stop j.
-pub fn waiters_at(
-    ids: &[u32],
-    xs: &[f64],
-    n: usize,
-    j: usize,
-    call: bool,
-    wstop: &[u32],
-    wdest: &[u32],
-    wweight: &[f64],
-    wwait: &[u64],
-    nw: usize,
-) -> Waiters
-    requires { ⌜ (n ≤ length (now ids)) × (64 + n ≤ length (now xs)) × (j < n) × (nw ≤ length (now wstop)) × (nw ≤ length (now wdest))
-        × (nw ≤ length (now wweight)) × (nw ≤ length (now wwait)) ⌝ }
-    ensures { λ r. ⌜ r ≡ waitersIn (now (ids .entry)) (now (xs .entry)) n j call (now (wstop .entry)) (now (wdest .entry)) (now (wweight .entry))
-        (now (wwait .entry)) nw ⌝ }
-{
-    let id = ids[j];
-    let p = xs[j];
-    let mut waiters = Waiters::none(call);
-    let mut w = 0;
-    while w < nw {
-        waiters = waiters.meet(ids, xs, n, id, p, wstop[w], wdest[w], wweight[w], wwait[w]);
-        w += 1;
-    }
-    waiters
 }

@@ -5,6 +5,7 @@ use Prim.Native.Nat.{ℕ, _<_}
 use mathlib.Core.Path.{_≡_, ap}
 use mathlib.Core.Bool.{Bool, _&&_, _||_, cond}
 use mathlib.Core.List.{List}
+use native.Mathlib.Omega.{arith}
 use lib.Dec.{eqb, ltb}
 use lib.ListN.{getD}
 use Rattle.laws.specs.Folds.{any}
@@ -12,6 +13,7 @@ use Rattle.fields.specs.Named.{contains}
 use Rattle.mask.specs.Mask.{has, built}
 use Rattle.components.specs.Sheet.{Sheet}
 use Rattle.manifest.specs.World.{stopId}
+use Rattle.manifest.specs.Stops.{Ascending}
 use Rattle.manifest.specs.Manifest.{riderlessCall, demandStop}
 use Rattle.assignment.specs.Pending.{pending}
 use Rattle.pending.specs.declared.StopMasks.{StopMasks}
@@ -38,10 +40,14 @@ module _ (s : Sheet) {masks : StopMasks} (e : masks ≡ masksOf s) where
 unfoldable pub lineStop : Sheet → Bool → ℕ → ℕ → ℕ → Bool
 lineStop s every id n j = any (λ l. (every || eqb (s .line l .id) id) && has (s .line l .serves) j) n
 
--- a list holds the ids of the stops, none of them 0
+-- a list holds the ids of the stops, none of them 0, which rise
 pub record HoldsNames (s : Sheet) (names : List ℕ) : Type 0 where
   pub held : (j : ℕ) → j < s .stops → getD names j 0 ≡ stopId s j
   pub above-zero : (j : ℕ) → j < s .stops → 0 < stopId s j
+  pub rising : (a b : ℕ) → a < b → b < s .stops → stopId s a < stopId s b
+
+pub names-rise : {s : Sheet} {names : List ℕ} → HoldsNames s names → Ascending names (s .stops)
+names-rise h = record { rising = λ a b l lb. omega (arith, h .rising a b l lb, h .held a (omega arith), h .held b lb) }
 
 -- the destination of the aboard record at a bit, where its car is among the first n ids, else 0
 unfoldable pub boundId : List ℕ → List ℕ → ℕ → ℕ → ℕ

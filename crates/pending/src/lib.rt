@@ -8,6 +8,9 @@ ghost use Rattle.layout.specs.Offsets.{Small, recordLength};
 ghost use Rattle.layout.specs.Records.{sheetOf};
 ghost use Rattle.mask.specs.Mask.{built};
 ghost use Rattle.pending.specs.Masks.{lineStop};
+ghost use Rattle.pending.specs.Walk.{withNamed};
+ghost use Rattle.fields.specs.Named.{named};
+ghost use Rattle.manifest.specs.Stops.{Ascending};
 ghost use lib.ListN.{length};
 ghost use Rattle.manifest.specs.Manifest.{someoneWaits, riderlessCall, riddenTo, demandStop};
 ghost use Rattle.assignment.specs.Pending.{idleBound, pending};
@@ -49,6 +52,29 @@ pub fn line_stops(s: &[u8], c: Counts, every: bool, id: u32) -> u64
     m
 }
 
+// The mask with the stop that has the id.
+fn with_named(m: u64, names: &[u32], n: usize, id: u32) -> u64
+    requires { ⌜ (n ≤ 64) × (n ≤ length (now names)) × Ascending (now names) n ⌝ }
+    ensures { λ r. ⌜ r ≡ withNamed (now (names .entry)) n m id ⌝ }
+{
+    let j = manifest::stop_index(names, n, id);
+    if j < n { mask::with(m, j) } else { m }
+}
+
+// The stops, n of them with their names, that are among the first k ids.
+fn named_stops<'a>(ids: &'a [u32], k: usize, names: &'a [u32], n: usize) -> u64
+    requires { ⌜ (k ≤ length (now ids)) × (n ≤ 64) × (n ≤ length (now names)) × Ascending (now names) n ⌝ }
+    ensures { λ r. ⌜ r ≡ built (named (now (ids .entry)) k (now (names .entry)) n) 64 ⌝ }
+{
+    let mut m: u64 = 0;
+    let mut i: usize = 0;
+    while i < k {
+        m = with_named(m, names, n, ids[i]);
+        i += 1;
+    }
+    m
+}
+
 // The stops where a hall call has no rider.
 fn call_stops<'a>(s: &'a [u8], c: Counts, names: &'a [u32]) -> u64
     requires { ⌜ Small c × (c .demands ≤ 64) × (length (now names) ≡ 64) × HoldsNames (sheetOf (now s) c) (now names) ⌝ }
@@ -66,7 +92,7 @@ fn call_stops<'a>(s: &'a [u8], c: Counts, names: &'a [u32]) -> u64
         n,
         &mut ids,
     );
-    fields::named_stops(&ids, n, names, c.stops as usize)
+    named_stops(&ids, n, names, c.stops as usize)
 }
 
 // The stops that someone rides to.
@@ -86,7 +112,7 @@ fn ridden_stops<'a>(s: &'a [u8], c: Counts, names: &'a [u32]) -> u64
         n,
         &mut ids,
     );
-    fields::named_stops(&ids, n, names, c.stops as usize)
+    named_stops(&ids, n, names, c.stops as usize)
 }
 
 // The stops where someone waits.
@@ -97,7 +123,7 @@ fn waited_stops<'a>(s: &'a [u8], c: Counts, names: &'a [u32]) -> u64
     let mut ids = [0u32; 512];
     let n = c.waits as usize;
     fields::fill32(s, c.waits_from(), waiting::BITS, waiting::STOP, n, &mut ids);
-    fields::named_stops(&ids, n, names, c.stops as usize)
+    named_stops(&ids, n, names, c.stops as usize)
 }
 
 // The demand stops of the group.
@@ -157,7 +183,7 @@ fn bound_stops<'a>(s: &'a [u8], c: Counts, names: &'a [u32]) -> u64
         &mut idle,
     );
     fill_bound(s, c.aboards_from(), k, &idle, n, &mut ids);
-    fields::named_stops(&ids, k, names, c.stops as usize)
+    named_stops(&ids, k, names, c.stops as usize)
 }
 
 // The pending stops.

@@ -51,7 +51,8 @@ by-rsr t e r s u h = sym (ap (λ (x : Strategy). byStrategy x e r s u) h)
 pub by-scan : {A : Type 0} (t : Strategy) (e r s u : A) → t ≡ Scan → s ≡ byStrategy t e r s u
 by-scan t e r s u h = sym (ap (λ (x : Strategy). byStrategy x e r s u) h)
 
-by-parts : {A : Type 0} (t : Strategy) (d : A) {a b c : A} (x y z : A) → a ≡ x → b ≡ y → c ≡ z
+-- case by case
+pub by-parts : {A : Type 0} (t : Strategy) (d : A) {a b c : A} (x y z : A) → a ≡ x → b ≡ y → c ≡ z
     → byStrategy t a b c d ≡ byStrategy t x y z d
 by-parts Etd d x y z p q r = p
 by-parts Rsr d x y z p q r = q

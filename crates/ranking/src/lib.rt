@@ -3,6 +3,7 @@ ghost use mathlib.Core.Path.{_≡_};
 ghost use Prim.Native.Nat.{_+_, _<_, _≤_};
 ghost use lib.ListN.{length};
 ghost use Rattle.assignment.specs.Cells.{rankCell, rankHeld};
+ghost use Rattle.etd.specs.Pairs.{demandPlaces};
 ghost use Rattle.ranking.specs.Ranking.{scanBy, rankBy, cellBy, heldBy, sweepBy};
 use components::Car;
 use components::Place;
@@ -40,18 +41,19 @@ fn scan_rank<'a>(row: Row, dests: &'a [f64], waiters: Waiters, xs: &'a [f64], j:
     scan::rank(sweep, useful, car.position, p)
 }
 
-// The rank of stop j, by the strategy.
+// The rank of stop j, by the strategy; the demand stops have the places.
 pub fn rank<'a>(
     row: Row,
     dests: &'a [f64],
     sides: &'a [f64],
     waiters: Waiters,
     xs: &'a [f64],
+    places: &'a [f64],
     n: usize,
     j: usize,
 ) -> Rank
     requires { ⌜ (row .riders .count ≤ length (now dests)) × (row .riders .count ≤ length (now sides)) × (n ≤ 64)
-        × (64 + n ≤ length (now xs)) × (j < n) ⌝ }
+        × (64 + n ≤ length (now xs)) × (j < n) × (now places ≡ demandPlaces (row .demand) (now xs) n) ⌝ }
     ensures { λ r. ⌜ r ≡ rankBy row (now (dests .entry)) (now (sides .entry)) waiters (now (xs .entry)) n j ⌝ }
 {
     let policy = row.policy;
@@ -70,6 +72,7 @@ pub fn rank<'a>(
             waiters,
             row.demand,
             xs,
+            places,
             n,
             j,
         ),
@@ -89,23 +92,24 @@ fn rank_cell(rank: Rank) -> Scaled
     }
 }
 
-// The cell of stop j, and whether it is held.
+// The cell of stop j, and whether it is held; the demand stops have the places.
 pub fn cell<'a>(
     row: Row,
     dests: &'a [f64],
     sides: &'a [f64],
     waiters: Waiters,
     xs: &'a [f64],
+    places: &'a [f64],
     n: usize,
     j: usize,
 ) -> Scaled
     requires { ⌜ (row .riders .count ≤ length (now dests)) × (row .riders .count ≤ length (now sides)) × (n ≤ 64)
-        × (64 + n ≤ length (now xs)) × (j < n) ⌝ }
+        × (64 + n ≤ length (now xs)) × (j < n) × (now places ≡ demandPlaces (row .demand) (now xs) n) ⌝ }
     ensures { λ r. ⌜ (r .cell ≡ cellBy row (now (dests .entry)) (now (sides .entry)) waiters (now (xs .entry)) n j)
         × (r .held ≡ heldBy row (now (dests .entry)) (now (sides .entry)) waiters (now (xs .entry)) n j) ⌝ }
 {
     if mask::has(row.kept, j) {
-        rank_cell(rank(row, dests, sides, waiters, xs, n, j))
+        rank_cell(rank(row, dests, sides, waiters, xs, places, n, j))
     } else {
         scale::no_rank()
     }

@@ -1,10 +1,12 @@
-// The refusals of a car record: 8, 9, 10, 11, 13.
+// The refusals of a car record at bit at with its id, after those counted: 8, 9, 10, 11, 13.
 ghost use mathlib.Core.Path.{_≡_};
 ghost use lib.Dec.{eqb};
 ghost use Rattle.components.specs.Codes.{phaseCode};
 ghost use Rattle.components.specs.declared.Kind.the-variants.{Car};
+ghost use Rattle.conditions.specs.Ids.{CarIds};
 ghost use Rattle.layout.specs.Offsets.{endOf, Small};
-ghost use Rattle.layout.specs.Records.{from};
+ghost use Rattle.layout.specs.Table.{first};
+ghost use Rattle.layout.specs.Records.{from, read};
 ghost use Rattle.layout.specs.Refusals.{unusedStop, phaseAt, refusal8Car, refusal9Car, refusal10Car, refusal11Car, refusal13};
 ghost use Rattle.layout.specs.Verdict.{bodyRefusal};
 use components::Phase;
@@ -54,44 +56,40 @@ fn unused_stop(phase: Phase, set: bool) -> bool
 }
 
 // 8: phase 7, or a one bit in an absent or unused field.
-fn unused_bits(s: &[u8], c: Counts) -> bool
+fn unused_bits(s: &[u8], c: Counts, at: u32) -> bool
     requires { ⌜ Small c ⌝ }
-    ensures { λ r. ⌜ r ≡ refusal8Car c (from (now (s .entry)) (endOf c)) ⌝ }
+    ensures { λ r. ⌜ r ≡ refusal8Car c (from (now (s .entry)) at) ⌝ }
 {
-    let at = c.end_of();
     let across = c.across;
     let stop = bits::field32(s, at, car::STOP);
     let phase = phase_at(s, at);
     let unused = unused_stop(phase, stop != 0);
-    let target = conditions::absent_set(s, at, car::HAS_TARGET, car::TARGET, 32);
+    let target = conditions::optional_at(s, at, car::HAS_TARGET);
     let has_up = car::HAS_BYPASS_UP + across;
     let up = conditions::absent_set(s, at, has_up, car::BYPASS_UP + across, 64);
     let has_down = car::HAS_BYPASS_DOWN + across;
     let down = conditions::absent_set(s, at, has_down, car::BYPASS_DOWN + across, 64);
-    unknown_phase(phase) | (unused | (target | (up | down)))
+    unknown_phase(phase) | (unused | (target.unused | (up | down)))
 }
 
 // 9: id 0 in an id field that is present and used, or the id of an earlier car.
-fn bad_ids(s: &[u8], c: Counts) -> bool
-    requires { ⌜ Small c ⌝ }
-    ensures { λ r. ⌜ r ≡ refusal9Car (now (s .entry)) c (from (now (s .entry)) (endOf c)) ⌝ }
+fn bad_ids<'a>(s: &'a [u8], c: Counts, at: u32, id: u32, cars: &'a [u32]) -> bool
+    requires { ⌜ (id ≡ read (from (now s) at) (first 32)) × CarIds (now s) c (now cars) ⌝ }
+    ensures { λ r. ⌜ r ≡ refusal9Car (now (s .entry)) c (from (now (s .entry)) at) ⌝ }
 {
-    let at = c.end_of();
-    let id = bits::field32(s, at, car::ID);
     let line = bits::field32(s, at, car::LINE);
     let stop = bits::field32(s, at, car::STOP);
     let moving = phase_at(s, at).is_moving();
-    let target = conditions::present_zero(s, at, car::HAS_TARGET, car::TARGET);
-    let again = conditions::has_car(s, c, id);
-    (id == 0) | ((line == 0) | ((moving & (stop == 0)) | (target | again)))
+    let target = conditions::optional_at(s, at, car::HAS_TARGET);
+    let again = conditions::among(cars, c.cars, id);
+    (id == 0) | ((line == 0) | ((moving & (stop == 0)) | (target.zero | again)))
 }
 
 // 10: no record for the line, or a mask bit past the stops.
-fn unknown_records(s: &[u8], c: Counts) -> bool
+fn unknown_records(s: &[u8], c: Counts, at: u32) -> bool
     requires { ⌜ Small c ⌝ }
-    ensures { λ r. ⌜ r ≡ refusal10Car (now (s .entry)) c (from (now (s .entry)) (endOf c)) ⌝ }
+    ensures { λ r. ⌜ r ≡ refusal10Car (now (s .entry)) c (from (now (s .entry)) at) ⌝ }
 {
-    let at = c.end_of();
     let known = conditions::has_line(s, c, bits::field32(s, at, car::LINE));
     let n = c.stops;
     let stops = n as usize;
@@ -101,11 +99,10 @@ fn unknown_records(s: &[u8], c: Counts) -> bool
 }
 
 // 11: a double out of its range.
-fn out_of_range(s: &[u8], c: Counts) -> bool
+fn out_of_range(s: &[u8], c: Counts, at: u32) -> bool
     requires { ⌜ Small c ⌝ }
-    ensures { λ r. ⌜ r ≡ refusal11Car c (from (now (s .entry)) (endOf c)) ⌝ }
+    ensures { λ r. ⌜ r ≡ refusal11Car c (from (now (s .entry)) at) ⌝ }
 {
-    let at = c.end_of();
     let across = c.across;
     let placed = conditions::placed_at(s, at, car::POSITION, car::ACROSS, across);
     let speed = fp::is_speed(records::double_at(s, at, car::SPEED + across));
@@ -117,25 +114,32 @@ fn out_of_range(s: &[u8], c: Counts) -> bool
 }
 
 // 13: twice the transition ticks plus the open ticks above 4,294,967,295.
-fn long_doors(s: &[u8], c: Counts) -> bool
+fn long_doors(s: &[u8], c: Counts, at: u32) -> bool
     requires { ⌜ Small c ⌝ }
-    ensures { λ r. ⌜ r ≡ refusal13 c (from (now (s .entry)) (endOf c)) ⌝ }
+    ensures { λ r. ⌜ r ≡ refusal13 c (from (now (s .entry)) at) ⌝ }
 {
-    let at = c.end_of();
     let transition = bits::field(s, at, car::TRANSITION + c.across, 32);
     let dwell = bits::field(s, at, car::DWELL + c.across, 32);
     4_294_967_295 < 2 * transition + dwell
 }
 
 // Kind 4: 8, 9, 10, 11, 13.
-pub fn car_refusal(s: &[u8], c: Counts) -> u32
-    requires { ⌜ Small c ⌝ }
+pub fn car_refusal<'a>(s: &'a [u8], c: Counts, at: u32, id: u32, cars: &'a [u32]) -> u32
+    requires { ⌜ Small c × (at ≡ endOf c) × (id ≡ read (from (now s) at) (first 32)) × CarIds (now s) c (now cars) ⌝ }
     ensures { λ r. ⌜ r ≡ bodyRefusal (now (s .entry)) c Car (from (now (s .entry)) (endOf c)) ⌝ }
 {
-    let late = pick(out_of_range(s, c), 11, pick(long_doors(s, c), 13, 0));
+    let late = pick(
+        out_of_range(s, c, at),
+        11,
+        pick(long_doors(s, c, at), 13, 0),
+    );
     pick(
-        unused_bits(s, c),
+        unused_bits(s, c, at),
         8,
-        pick(bad_ids(s, c), 9, pick(unknown_records(s, c), 10, late)),
+        pick(
+            bad_ids(s, c, at, id, cars),
+            9,
+            pick(unknown_records(s, c, at), 10, late),
+        ),
     )
 }

@@ -1,7 +1,7 @@
-// The refusals of a policy record: 8, 11, 12.
+// The refusals of a policy record at bit at, after those counted: 8, 11, 12.
 ghost use mathlib.Core.Path.{_≡_};
 ghost use Rattle.components.specs.declared.Kind.the-variants.{Policy};
-ghost use Rattle.layout.specs.Offsets.{endOf, Small};
+ghost use Rattle.layout.specs.Offsets.{endOf};
 ghost use Rattle.layout.specs.Records.{from};
 ghost use Rattle.layout.specs.Refusals.{unusedWeights, refusal8Policy, refusal11Policy};
 ghost use Rattle.layout.specs.Verdict.{bodyRefusal};
@@ -51,11 +51,10 @@ fn out_of_range(s: &[u8], at: u32) -> bool
 }
 
 // Kind 1: 8, 11, 12.
-pub fn policy_refusal(s: &[u8], c: Counts) -> u32
-    requires { ⌜ Small c ⌝ }
+pub fn policy_refusal(s: &[u8], c: Counts, at: u32) -> u32
+    requires { ⌜ at ≡ endOf c ⌝ }
     ensures { λ r. ⌜ r ≡ bodyRefusal (now (s .entry)) c Policy (from (now (s .entry)) (endOf c)) ⌝ }
 {
-    let at = c.end_of();
     let none = bits::field(s, at, policy::LIMIT, 16) == 0;
     let late = pick(none, 12, 0);
     pick(

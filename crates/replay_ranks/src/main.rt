@@ -116,7 +116,9 @@ fn rank_by<'a>(
     let row = cells::row_of(s, c, i, 65535, ids, xs, masks, &mut dests, &mut sides);
     let waiters = cells::waiting(s, c, ids, xs, masks.calls);
     let v = waiters[j];
-    ranking::rank(row, &dests, &sides, v, xs, c.stops as usize, j)
+    let n = c.stops as usize;
+    let places = etd::demand_places(row.demand, xs, n);
+    ranking::rank(row, &dests, &sides, v, xs, &places, n, j)
 }
 
 // The rank of car i for stop j of an accepted sheet.

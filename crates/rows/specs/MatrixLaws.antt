@@ -238,20 +238,22 @@ pub record CarNeeds (b : List ℕ) (c : Counts) (ids : List ℕ) (xs : List Floa
   pub fits : stops .count ≤ cells
   pub ready : Ready (sheetOf b c) ids xs acar adest masks waiters stops
 
--- a coordinate of the known destinations of a car's riders, in a buffer of 512 that held zeros
-unfoldable pub destsFor : Sheet → List ℕ → List Float → List ℕ → List ℕ → Car → List Float
-destsFor s ids xs acar adest car =
-    destsIn ids (s .stops) acar adest (car .id) xs (s .aboards) ++ drop (ridersIn ids (s .stops) acar adest (car .id) (s .aboards) .count)
-    (replicate 512 zero)
+-- a coordinate of the known destinations of a car's riders, in a buffer
+unfoldable pub destsFor : Sheet → List ℕ → List Float → List ℕ → List ℕ → Car → List Float → List Float
+destsFor s ids xs acar adest car buffer =
+    destsIn ids (s .stops) acar adest (car .id) xs (s .aboards) ++ drop (ridersIn ids (s .stops) acar adest (car .id) (s .aboards) .count) buffer
 
--- n cells hold the row of a car by value, so many of its pairs are ranked, and so many of its cells are held
+-- n cells hold the row of a car by value, so many of its pairs are ranked, and so many of its cells are held; the known destinations of its riders
+-- stood in two buffers
 pub record FilledCar (s : Sheet) (ids : List ℕ) (xs : List Float) (acar adest : List ℕ) (masks : StopMasks) (waiters : List Waiters) (stops : Ones)
     (limit : ℕ) (car : Car) (n : ℕ) (counted : Counted) (exit : List ℕ) : Type 0 where
-  pub row : exit ≡ tab (padded (rowCell (rowFor s ids xs acar adest masks limit car) (destsFor s ids xs acar adest car)
-      (destsFor s ids (sidesOf xs) acar adest car) waiters xs (s .stops) stops) (stops .count)) n
+  pub buffer : List Float
+  pub aside : List Float
+  pub row : exit ≡ tab (padded (rowCell (rowFor s ids xs acar adest masks limit car) (destsFor s ids xs acar adest car buffer)
+      (destsFor s ids (sidesOf xs) acar adest car aside) waiters xs (s .stops) stops) (stops .count)) n
   pub number : counted .ranked ≡ count (keptOf s car limit) (s .stops)
-  pub held-cells : counted .held ≡ count (rowHeld (rowFor s ids xs acar adest masks limit car) (destsFor s ids xs acar adest car)
-      (destsFor s ids (sidesOf xs) acar adest car) waiters xs (s .stops) stops) (stops .count)
+  pub held-cells : counted .held ≡ count (rowHeld (rowFor s ids xs acar adest masks limit car) (destsFor s ids xs acar adest car buffer)
+      (destsFor s ids (sidesOf xs) acar adest car aside) waiters xs (s .stops) stops) (stops .count)
 
 -- the row of car i of a list that holds the sheet's cars
 pub filled-at : (s : Sheet) (ids : List ℕ) (xs : List Float) (acar adest : List ℕ) (masks : StopMasks) (waiters : List Waiters) (stops : Ones)
@@ -262,8 +264,8 @@ unfolding destsFor keptNumber rowFor
 filled-at s ids xs acar adest masks waiters stops h limit i n counted cars exit hc l f =
     let e = hc .each i l in
     let car = getD cars i noCar in
-    let row = row-of s ids xs acar adest masks (h .held) limit car (rowFor s ids xs acar adest masks limit car) (replicate 512 zero)
-    (replicate 512 zero) refl refl refl in (
+    let row = row-of s ids xs acar adest masks (h .held) limit car (rowFor s ids xs acar adest masks limit car) (f .buffer)
+    (f .aside) refl refl refl in (
       record {
         row = λ r q. f .row ∙ ready-row s ids xs acar adest masks waiters stops h i limit (rowFor s ids xs acar adest masks limit car) l
             (row .held i e) r n q;

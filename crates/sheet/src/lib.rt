@@ -1,11 +1,17 @@
 // The reader: every byte string is a sheet or one numbered refusal. An accepted sheet is its bytes and its counts; a record is decoded in place.
 ghost use mathlib.Core.Path.{_≡_};
-ghost use Prim.Native.Nat.{_≤_, _<_};
+ghost use mathlib.Core.Bool.{true};
+ghost use Prim.Native.Nat.{_+_, _<_};
+ghost use lib.ListN.{length};
+ghost use Rattle.bits.specs.Field.{fieldAt, IsField};
+ghost use Rattle.conditions.specs.Ids.{Tables};
 ghost use Rattle.layout.specs.declared.Reading.the-variants.{Accepted};
-ghost use Rattle.layout.specs.Offsets.{headLength, Small, none, endOf};
-ghost use Rattle.layout.specs.Records.{from, policyOf, sheetOf, limitOf};
-ghost use Rattle.layout.specs.Refusals.{pastEnd, refusal4, tailFits};
+ghost use Rattle.layout.specs.Offsets.{headLength, acrossBits, Small, none, endOf};
+ghost use Rattle.layout.specs.Table.{first};
+ghost use Rattle.layout.specs.Records.{from, read, policyOf, sheetOf, limitOf};
+ghost use Rattle.layout.specs.Refusals.{edition, kindAt, lengthAt, pastEnd, refusal4, tailFits};
 ghost use Rattle.layout.specs.Verdict.{headRules, firstOf, given, bodyRefusal, recordRefusal, tailVerdict, recordsVerdict, verdict};
+ghost use Rattle.sheet.specs.Kept.{kept};
 use components::Car;
 use components::Kind;
 use components::Line;
@@ -18,6 +24,13 @@ use layout::line;
 use layout::policy;
 use layout::record;
 
+// How a record starts: the code of its kind, the stated length, and of every kind but the policy the first field, an id.
+struct Front {
+    code: u64,
+    length: u64,
+    id: u32,
+}
+
 // Whether bit e lies past the end.
 fn past_end(s: &[u8], e: u32) -> bool
     ensures { λ r. ⌜ r ≡ pastEnd (now (s .entry)) e ⌝ }
@@ -25,20 +38,44 @@ fn past_end(s: &[u8], e: u32) -> bool
     s.len() < bits::bytes_for(e)
 }
 
+// The front of the record at bit at, read at once.
+fn front_at(s: &[u8], at: u32) -> Front
+    ensures { λ r. ⌜ IsField (now (s .entry)) (at + 0) 6 (r .code) × IsField (now (s .entry)) (at + 6) 16 (r .length)
+        × (r .id ≡ fieldAt (now (s .entry)) (at + 22) 32) ⌝ }
+{
+    let front = bits::field(s, at, record::KIND, 54);
+    Front {
+        code: front >> 48,
+        length: (front >> 32) & 0xffff,
+        id: (front & 0xffff_ffff) as u32,
+    }
+}
+
 // The numbers from 8 on, by kind.
-fn body_refusal(s: &[u8], c: Counts, kind: Kind) -> u32
-    requires { ⌜ Small c ⌝ }
+fn body_refusal<'a>(
+    s: &'a [u8],
+    c: Counts,
+    at: u32,
+    id: u32,
+    kind: Kind,
+    stops: &'a [u32],
+    cars: &'a [u32],
+    demands: &'a [u32],
+    closures: &'a [u32],
+) -> u32
+    requires { ⌜ Small c × (at ≡ endOf c) × (id ≡ read (from (now s) at) (first 32))
+        × Tables (now s) c (now stops) (now cars) (now demands) (now closures) ⌝ }
     ensures { λ r. ⌜ r ≡ bodyRefusal (now (s .entry)) c kind (from (now (s .entry)) (endOf c)) ⌝ }
 {
     match kind {
-        Kind::Policy => refusals_policy::policy_refusal(s, c),
-        Kind::Stop => refusals::stop_refusal(s, c),
-        Kind::Line => refusals::line_refusal(s, c),
-        Kind::Car => refusals_car::car_refusal(s, c),
-        Kind::Aboard => refusals::aboard_refusal(s, c),
-        Kind::Waiting => refusals::waiting_refusal(s, c),
-        Kind::Demand => refusals::demand_refusal(s, c),
-        Kind::Closed => refusals::closed_refusal(s, c),
+        Kind::Policy => refusals_policy::policy_refusal(s, c, at),
+        Kind::Stop => refusals::stop_refusal(s, c, at, id),
+        Kind::Line => refusals::line_refusal(s, c, at, id),
+        Kind::Car => refusals_car::car_refusal(s, c, at, id, cars),
+        Kind::Aboard => refusals::aboard_refusal(s, c, at, id, cars),
+        Kind::Waiting => refusals::waiting_refusal(s, c, at, id, stops),
+        Kind::Demand => refusals::one_a_stop(id, stops, c.stops, demands, c.demands),
+        Kind::Closed => refusals::one_a_stop(id, stops, c.stops, closures, c.closures),
         Kind::Unknown => 0,
     }
 }
@@ -60,23 +97,44 @@ fn is_unknown(kind: Kind) -> bool
     }
 }
 
-// The refusal of the next record: the first number whose condition holds, 0 where none does.
-fn record_refusal(s: &[u8], c: Counts) -> u32
-    requires { ⌜ Small c ⌝ }
+// The refusal of the record at bit at, after those counted: the first number whose condition holds, 0 where none does.
+fn record_refusal<'a>(
+    s: &'a [u8],
+    c: Counts,
+    at: u32,
+    front: Front,
+    stops: &'a [u32],
+    cars: &'a [u32],
+    demands: &'a [u32],
+    closures: &'a [u32],
+) -> u32
+    requires { ⌜ Small c × (at ≡ endOf c) × (front .code ≡ kindAt (now s) c) × (front .length ≡ lengthAt (now s) c) × (front .length < 65536)
+        × (front .id ≡ read (from (now s) at) (first 32)) × Tables (now s) c (now stops) (now cars) (now demands) (now closures) ⌝ }
     ensures { λ r. ⌜ r ≡ recordRefusal (now (s .entry)) c ⌝ }
 {
-    let at = c.end_of();
-    let code = bits::field(s, at, record::KIND, 6);
-    let len = bits::field(s, at, record::STATED, 16);
-    let kind = Kind::of_code(code);
-    let short = past_end(s, at + record::BODY + len as u32);
-    let wrong = len != layout::body_length(kind, c.across);
+    let kind = Kind::of_code(front.code);
+    let short = past_end(s, at + record::BODY + front.length as u32);
+    let wrong = front.length != layout::body_length(kind, c.across);
     let late = pick(
-        c.out_of_order(code),
+        c.out_of_order(front.code),
         6,
-        pick(c.is_full(kind), 7, body_refusal(s, c, kind)),
+        pick(
+            c.is_full(kind),
+            7,
+            body_refusal(s, c, at, front.id, kind, stops, cars, demands, closures),
+        ),
     );
     pick(short, 2, pick(is_unknown(kind), 4, pick(wrong, 5, late)))
+}
+
+// A table of ids after a record: where it is of the table's kind, its id at place n.
+fn keep(ours: bool, n: u32, id: u32, ids: &mut [u32])
+    requires { ⌜ ((ours ≡ true) → (n < length (now ids))) ⌝ }
+    ensures { λ _. ⌜ now (ids .exit) ≡ kept ours n id (now (ids .entry)) ⌝ }
+{
+    if ours {
+        ids[n as usize] = id;
+    }
 }
 
 // Whether fewer than 8 bits are left after the last record, and they are zero.
@@ -115,12 +173,11 @@ fn tail(s: &[u8], c: Counts) -> Reading
     given(number, c.end_of(), c)
 }
 
-// The records in turn: the first refusal, or the tail.
-fn records(s: &[u8], across: u32, count: u32) -> Reading
-    requires { ⌜ (across ≤ 64) × (count ≤ 65535) ⌝ }
-    ensures { λ r. ⌜ r ≡ recordsVerdict (now (s .entry)) count (none across) ⌝ }
+// Before the first record.
+fn none(across: u32) -> Counts
+    ensures { λ r. ⌜ r ≡ none across ⌝ }
 {
-    let mut c = Counts {
+    Counts {
         across,
         policies: 0,
         stops: 0,
@@ -130,18 +187,36 @@ fn records(s: &[u8], across: u32, count: u32) -> Reading
         waits: 0,
         demands: 0,
         closures: 0,
-    };
+    }
+}
+
+// The records in turn: the first refusal, or the tail. The ids that later records are held to are kept as they are read.
+fn records(s: &[u8], across: u32, count: u32) -> Reading
+    requires { ⌜ across ≡ acrossBits (edition (now s)) ⌝ }
+    ensures { λ r. ⌜ r ≡ recordsVerdict (now (s .entry)) count (none across) ⌝ }
+{
+    let mut c = none(across);
+    let mut at = head::BITS;
+    let mut stops = [0u32; 64];
+    let mut cars = [0u32; 32];
+    let mut demands = [0u32; 64];
+    let mut closures = [0u32; 64];
     let mut left = count;
     while 0 < left {
-        let n = record_refusal(s, c);
-        let at = c.end_of();
+        let front = front_at(s, at);
+        let n = record_refusal(s, c, at, front, &stops, &cars, &demands, &closures);
         if n != 0 {
             return Reading::Refused {
                 number: n,
                 offset: at as u64,
             };
         }
-        c = c.next(Kind::of_code(bits::field(s, at, record::KIND, 6)));
+        keep(front.code == 2, c.stops, front.id, &mut stops);
+        keep(front.code == 4, c.cars, front.id, &mut cars);
+        keep(front.code == 7, c.demands, front.id, &mut demands);
+        keep(front.code == 8, c.closures, front.id, &mut closures);
+        c = c.next(Kind::of_code(front.code));
+        at = at + record::BODY + front.length as u32;
         left -= 1;
     }
     tail(s, c)

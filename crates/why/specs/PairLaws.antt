@@ -47,7 +47,7 @@ use Rattle.rows.specs.RowLaws.{noWaiters}
 use Rattle.rows.specs.Gathered.{gatheredOf, gathered-held}
 use Rattle.cells.specs.Survey.{SeenStops, weighed-of}
 use Rattle.ranking.specs.declared.Row.{Row}
-use Rattle.ranking.specs.RankingLaws.{HoldsRow, rank-is}
+use Rattle.ranking.specs.RankingLaws.{by-parts, HoldsRow, rank-is}
 use Rattle.why.specs.declared.Terms.{Terms}
 use Rattle.why.specs.Why.{asksPath, etdSlots, rsrSlots, scanSlots, termsOf, stopRecord, reasonOf, whyBy, whyAt}
 use Rattle.why.specs.Pairs.{termsBy, against, reasonBy}
@@ -81,12 +81,6 @@ record-is s ids xs h id =
     lookup-cong (λ j. eqb (getD ids j 0) id) (λ j. eqb (stopId s j) id) (λ j. j) (λ j. j) (s .stops) (s .stops)
     (λ k l. ap (λ (z : ℕ). eqb z id) (h .id-of k l)) (λ k l. refl)
 
-parts : {A : Type 0} (t : Strategy) (d : A) {a b c : A} (x y z : A) → a ≡ x → b ≡ y → c ≡ z → byStrategy t a b c d ≡ byStrategy t x y z d
-parts Etd d x y z p q r = p
-parts Rsr d x y z p q r = q
-parts Scan d x y z p q r = r
-parts Unknown d x y z p q r = refl
-
 module _ (s : Sheet) (ids : List ℕ) (xs : List Float) (hs : HoldsStops s ids xs (s .stops)) (i limit : ℕ) (weighed : Weighed s i)
     (row : Row) (dests sides : List Float) (h : HoldsRow s i limit row dests sides) (j : ℕ)
     (v : Waiters) (hv : HoldsWaiters s j v) (l : j < s .stops) where
@@ -99,7 +93,7 @@ module _ (s : Sheet) (ids : List ℕ) (xs : List Float) (hs : HoldsStops s ids x
       (rsrSlots (rsrTermsOf (row .policy) (row .car) (row .goal) (v .waitsum) (has (row .car .calls) j) (pointIn xs j)))
       (scanSlots (distance (row .car .position) (pointIn xs j))) (scanSlots zero))
       (ap (λ (p : Policy). p .strategy) (h .policy))
-      ∙ parts (s .policy .strategy) (scanSlots zero) (etdSlots (etdTerms s i j)) (rsrSlots (rsrTerms s i j))
+      ∙ by-parts (s .policy .strategy) (scanSlots zero) (etdSlots (etdTerms s i j)) (rsrSlots (rsrTerms s i j))
       (scanSlots (distance (s .car i .position) (stopAt s j)))
       (rw (h .policy, h .car, h .goal-is, point-is s ids xs (s .stops) hs j l)
       (ap etdSlots (etd-are s ids xs (s .stops) (row .demand) hs (h .demand) i j (row .riders) dests sides (h .riders) v hv)))

@@ -111,6 +111,7 @@ fn terms_of<'a>(
     let p = manifest::point(xs, j);
     let call = mask::has(car.calls, j);
     let strategy = policy.strategy;
+    let places = etd::demand_places(row.demand, xs, n);
     match strategy {
         Strategy::Etd => etd_slots(etd::cost_terms(
             policy,
@@ -122,6 +123,7 @@ fn terms_of<'a>(
             v,
             row.demand,
             xs,
+            &places,
             n,
             p,
         )),
@@ -197,7 +199,8 @@ fn reason_of<'a>(
     let strategy = policy.strategy;
     let path = asks_path(strategy);
     let obstacle = dispatch::obstacle(car, goal, riders, dests, v, here, p.along, path);
-    let rank = ranking::rank(row, dests, sides, v, xs, n, j);
+    let places = etd::demand_places(row.demand, xs, n);
+    let rank = ranking::rank(row, dests, sides, v, xs, &places, n, j);
     let shut = mask::has(car.restricted, j);
     let near = mask::has(row.kept, j);
     first_reason(

@@ -22,6 +22,7 @@ use Rattle.layout.specs.declared.Counts.{Counts}
 use Rattle.layout.specs.Offsets.{next, endOf, recordLength}
 use Rattle.layout.specs.Table.{covers, bits-covered, head-covered}
 use Rattle.layout.specs.Refusals.{refusal4, refusal6, refusal7}
+use Rattle.layout.specs.VerdictLaws.{end-next}
 use Rattle.layout.specs.PlaceLaws.{all}
 use Rattle.encoder.specs.Encoded.{recordFields, recordValues, recordAt}
 use Rattle.encoder.specs.EncodedLaws.{Reads, fields-length, fields-elsewhere, fields-read, reads-same}
@@ -56,17 +57,6 @@ taken n c k h =
     record { room = ltb-false _ _ (a .0); in-order = b .0; not-full = d .0; countable = leb-false _ _ (f .0) }
 
 -- ---- one record more
-
-pub end-next : (c : Counts) (k : Kind) → refusal4 k ≡ false → endOf (next c k) ≡ endOf c + recordLength (c .across) k
-end-next c Policy h = omega arith
-end-next c Stop h = omega arith
-end-next c Line h = omega arith
-end-next c Car h = omega arith
-end-next c Aboard h = omega arith
-end-next c Waiting h = omega arith
-end-next c Demand h = omega arith
-end-next c Closed h = omega arith
-end-next c Unknown h = never (sym h)
 
 all-next : (c : Counts) (k : Kind) → refusal4 k ≡ false → all (next c k) ≡ all c + 1
 all-next c Policy h = omega arith

@@ -8,6 +8,7 @@ mod bench;
 mod choice;
 mod compare;
 mod grades;
+mod growth;
 mod lists;
 mod paper;
 mod rust_pass;
@@ -113,6 +114,12 @@ fn run(args: &[&str]) -> Result<(), String> {
             }
             timing::table(&mut bench, rounds.max(1) as usize);
             return Ok(());
+        }
+        ["growth", library, picture, rest @ ..] if rest.len() < 2 => {
+            let rounds = rest.first().map_or(Ok(9), |word| number(word))?;
+            let mut bench = bench::Linked::load(library)?;
+            let svg = growth::growth(&mut bench, rounds.max(1) as usize);
+            return std::fs::write(picture, svg).map_err(|e| format!("{picture}: {e}"));
         }
         ["beside", older, newer, rest @ ..] if rest.len() < 2 => {
             let rounds = rest.first().map_or(Ok(9), |word| number(word))?;

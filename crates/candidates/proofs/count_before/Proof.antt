@@ -3,6 +3,7 @@ use Prim.Native.Nat.{ℕ, _≤_, _-_, _+_}
 use Rattle.candidates.specs.Cut.{comesBefore}
 use Rattle.laws.specs.Bools.{bit, bit-lt}
 use Rattle.laws.specs.Folds.{count, count-step, count-le, ended}
+use Rattle.candidates.specs.CutLaws.{count-reach}
 use borrow.Author.Needs.{needs}
 use mathlib.Core.Path.{_≡_, refl, ap, _∙_}
 use native.Mathlib.Omega.{arith}
@@ -10,10 +11,10 @@ use Rattle.candidates.proofs.count_before.Statement.{statement}
 use Rattle.candidates.proofs.count_before.Tie as tie
 
 abbrev Inv-loop : tie.InvT-loop
-Inv-loop viable ds j n₀ k₀ n k = (k ≤ 64) × (n ≡ count (comesBefore viable ds j) k)
+Inv-loop viable ds j e n₀ k₀ n k = (k ≤ e) × (n ≡ count (comesBefore viable ds j) k)
 
 abbrev μ-loop : tie.MeasureT-loop
-μ-loop viable ds j n₀ k₀ n k = 64 - k
+μ-loop viable ds j e n₀ k₀ n k = e - k
 
 loop-holds : tie.Need-loop-holds Inv-loop μ-loop
 unfolding count
@@ -39,7 +40,11 @@ loop-again c =
     )
 
 returns : tie.Need-returns Inv-loop μ-loop
-returns c = ended (count _) (c .before .loop .inv .0) (c .loop-test .left) (c .before .loop .inv .1)
+returns c =
+    let s = c .before .before .before in
+    let a = s .args in
+    ended (count (comesBefore (a .viable) (a .ds .now) (a .j))) (c .before .loop .inv .0) (c .loop-test .left) (c .before .loop .inv .1)
+    ∙ count-reach (a .viable) (a .ds .now) (a .j) (a .e) (s .pre .2)
 
 pub count-before-spec : {M : Type 1} → statement M
 count-before-spec =

@@ -11,10 +11,10 @@ use Rattle.candidates.proofs.cut_stops.Statement.{statement}
 use Rattle.candidates.proofs.cut_stops.Tie as tie
 
 abbrev Inv-loop : tie.InvT-loop
-Inv-loop viable ds limit m₀ j₀ m j = (j ≤ 64) × (m ≡ built (cut viable ds limit) j)
+Inv-loop viable ds limit e m₀ j₀ m j = (j ≤ 64) × (m ≡ built (cut viable ds limit) j)
 
 abbrev μ-loop : tie.MeasureT-loop
-μ-loop viable ds limit m₀ j₀ m j = 64 - j
+μ-loop viable ds limit e m₀ j₀ m j = 64 - j
 
 loop-holds : tie.Need-loop-holds Inv-loop μ-loop
 unfolding built
@@ -32,4 +32,4 @@ returns c = ended (built _) (c .before .loop .inv .0) (c .loop-test .left) (c .b
 pub cut-stops-spec : {M : Type 1} → statement M
 cut-stops-spec =
     tie.close
-    (tie.spec Inv-loop μ-loop loop-holds (λ c κs. search needs) pushed-requires (λ c. search needs) (λ c. search needs) loop-again returns)
+    (tie.spec Inv-loop μ-loop (λ c κs. search needs) loop-holds (λ c κs. search needs) pushed-requires (λ c. search needs) (λ c. search needs) loop-again returns)

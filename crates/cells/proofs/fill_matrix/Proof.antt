@@ -1,5 +1,6 @@
 -- cells::fill_matrix meets its contract.
 use Rattle.accepted.specs.Accepted.{accepted}
+use Rattle.cells.specs.Ids.{rising-of}
 use Rattle.cells.specs.Survey.{Survey, holds-aboard, ready}
 use Rattle.layout.specs.Records.{sheetOf}
 use Rattle.pending.specs.Masks.{calls-are}
@@ -22,7 +23,7 @@ unfolding sheetOf
 waiting-requires c κs =
     let a = c .before .before .before .before .before .before .before .before .before .args in
     let p = c .before .before .before .before .before .before .before .before .before .pre in
-    (accepted (a .s .now) (a .c) (p .0 .0) .small, p .0 .1, p .0 .2, p .1 .seen .stops-held, calls-are (sheetOf (a .s .now) (a .c)) (p .1 .seen .masks-are))
+    (accepted (a .s .now) (a .c) (p .0 .0) .small, p .0 .1, p .0 .2, p .1 .seen .stops-held, rising-of (a .s .now) (a .c) (p .0 .0), calls-are (sheetOf (a .s .now) (a .c)) (p .1 .seen .masks-are))
 
 fill-rows-requires : tie.Need-fill-rows-requires
 unfolding sheetOf

@@ -4,6 +4,7 @@ use Rattle.cells.specs.Survey.{holds-aboard, held-of}
 use Rattle.layout.specs.Records.{sheetOf}
 use Rattle.rows.specs.MatrixLaws.{row-of}
 use borrow.Author.Needs.{needs}
+use native.Mathlib.Omega.{arith}
 use mathlib.Core.Path.{refl}
 use Rattle.cells.proofs.row_of.Statement.{statement}
 use Rattle.cells.proofs.row_of.Tie as tie
@@ -27,8 +28,9 @@ row-for-requires c κs =
     let p = c .before .before .before .before .before .before .before .before .before .before .before .before .before .before .before .pre in
     let b = a .s .now in
     let aboard = c .before .before .before .before .before .before .before .fill-aboard .ensures in
-    let seated = holds-aboard (sheetOf b (a .c)) _ _ _ _ (aboard .0 .1) (aboard .1 .1) in (
-      (accepted b (a .c) (p .0 .0) .small, p .0 .2, p .0 .3, aboard .0 .0, aboard .1 .0, p .0 .4, p .0 .5),
+    let seated = holds-aboard (sheetOf b (a .c)) _ _ _ _ (aboard .0 .1) (aboard .1 .1) in
+    let small = accepted b (a .c) (p .0 .0) .small in (
+      (small, p .0 .2, p .0 .3, aboard .0 .0, aboard .1 .0, omega (arith, small .aboards, p .0 .4), omega (arith, small .aboards, p .0 .5)),
       held-of b (a .c) (p .0 .0) (a .ids .now) (a .xs .now) (a .masks) (p .1) _ _ seated,
     )
 

@@ -1,41 +1,23 @@
 -- covered::covered_waits meets its contract.
-use Rattle.layout.specs.Table.{waiting·line, waiting·stop, waiting·weight}
-use Rattle.layout.specs.Offsets.{recordLength}
-use Rattle.components.specs.declared.Kind.the-variants.{Waiting}
-use Prim.Native.Nat.{ℕ, _+_, _*_}
-use Rattle.bits.specs.Field.{fieldAt}
-use Rattle.fields.specs.Held.{held}
-use Rattle.covered.specs.Same.{HoldsWaits, mask-same}
-use Rattle.layout.specs.Records.{waitingOf, sheetOf, from, read, double}
-use borrow.Author.Needs.{needs}
-use lib.Ieee.{nan, ofBits, binary64}
-use mathlib.Core.Path.{_≡_, ap, _∙_}
 use native.Mathlib.Omega.{arith}
+use borrow.Author.Needs.{needs}
 use Rattle.covered.proofs.covered_waits.Statement.{statement}
 use Rattle.covered.proofs.covered_waits.Tie as tie
 
-covered-mask-requires : tie.Need-covered-mask-requires
-covered-mask-requires c κs =
-    let p = c .before .before .before .before .before .before .before .before .before .before .before .before .before .before .before .before .before .before .before .before .before .before .pre in (
-      (omega arith, omega arith, omega arith, omega arith),
-      (omega (arith, c .before .before .before .before .before .before .before .before .before .before .before .before .fill32 .ensures .0), omega (arith, c .before .before .before .before .before .before .before .before .before .fill322 .ensures .0), omega (arith, c .before .before .before .before .before .before .fill-doubles .ensures .0), omega arith),
-    )
+covered-columns-requires : tie.Need-covered-columns-requires
+covered-columns-requires c κs =
+    let p = c .before .before .before .before .before .before .before .before .before .before .before .pre in
+    let few = c .before .before .before .if1 .taken in
+    ((p .0 .0, p .0 .1, p .0 .2, p .0 .3, p .0 .4, p .0 .5, omega arith, omega arith, omega arith), p .1)
 
-returns : tie.Need-returns
-unfolding sheetOf waitingOf
-returns c =
-    let a = c .before .before .before .before .before .before .before .before .before .before .before .before .before .before .before .before .before .before .before .before .before .before .before .args in
-    let b = a .s .now in
-    let at = c .before .before .before .before .before .before .before .before .before .before .before .before .before .before .before .waits-from .ensures in
-    c .covered-mask .ensures
-    ∙ mask-same (sheetOf b (a .c)) _ _ _ _ _ _ _ (a .asked) _
-    (c .before .before .before .before .before .before .before .before .before .before .before .before .before .before .before .before .before .before .before .before .before .before .before .pre .1 .0)
-    (record {
-      stop = λ w l. held (λ k. read (from b (c .before .before .before .before .before .before .before .before .before .before .before .before .before .before .before .waits-from .result + recordLength 0 Waiting * k)) waiting·stop) (a .c .waits) _ _ (c .before .before .before .before .before .before .before .before .before .before .before .before .before .fill32 .ensures .1) 0 w l ∙ ap (λ (x : ℕ). read (from b (x + recordLength 0 Waiting * w)) waiting·stop) at;
-      required-line = λ w l. held (λ k. read (from b (c .before .before .before .before .before .before .before .before .before .before .before .before .before .before .before .waits-from .result + recordLength 0 Waiting * k)) waiting·line) (a .c .waits) _ _ (c .before .before .before .before .before .before .before .before .before .before .fill322 .ensures .1) 0 w l ∙ ap (λ (x : ℕ). read (from b (x + recordLength 0 Waiting * w)) waiting·line) at;
-      weight = λ w l. held (λ k. double (from b (c .before .before .before .before .before .before .before .before .before .before .before .before .before .before .before .waits-from .result + recordLength 0 Waiting * k)) waiting·weight) (a .c .waits) _ _ (c .before .before .before .before .before .before .before .fill-doubles .ensures .1) nan w l ∙ ap (λ (x : ℕ). double (from b (x + recordLength 0 Waiting * w)) waiting·weight) at;
-    })
-    (c .before .before .before .before .before .before .before .before .before .before .before .before .before .before .before .before .before .before .before .before .before .before .before .pre .1 .1)
+covered-columns-requires-2 : tie.Need-covered-columns-requires-2
+covered-columns-requires-2 c κs =
+    let p = c .before .before .before .before .before .before .before .before .before .before .before .pre in
+    let most = p .0 .0 .waits in
+    ((p .0 .0, p .0 .1, p .0 .2, p .0 .3, p .0 .4, p .0 .5, omega arith, omega arith, omega arith), p .1)
 
 pub covered-waits-spec : {M : Type 1} → statement M
-covered-waits-spec = tie.close (tie.spec (λ c. search needs) (λ c κs. search needs) (λ c. search needs) (λ c κs. search needs) (λ c. search needs) (λ c κs. search needs) (λ c. search needs) (λ c κs. search needs) (λ c. search needs) (λ c. search needs) (λ c. search needs) (λ c. search needs) (λ c. search needs) covered-mask-requires returns)
+covered-waits-spec =
+    tie.close
+    (tie.spec (λ c. search needs) (λ c. search needs) (λ c. search needs) covered-columns-requires (λ c. search needs) (λ c. search needs)
+    (λ c. search needs) (λ c. search needs) covered-columns-requires-2 (λ c. search needs))

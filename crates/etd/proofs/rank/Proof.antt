@@ -58,7 +58,7 @@ module _ (y : Policy) (car : Car) (goal : Place) (r : Riders) (dests sides : Lis
 returns : tie.Need-returns
 returns c =
     let asked = c .before .before .before .before .before in
-    let a = asked .before .before .before .before .before .before .args in
+    let a = asked .before .before .before .before .before .before .before .args in
     moves (a .policy) (a .car) (a .goal) (a .riders) (a .dests .now) (a .sides .now) (a .waiters) (a .demand) (a .xs .now) (a .n) (a .j)
     (asked .before .before .point .ensures) (asked .before .has .ensures) (asked .pair-is-useful .ensures)
     (c .before .before .before .before .if1 .taken) (c .before .before .if2 .taken) (cost-by (a .policy) (a .car) (a .goal) (a .riders .count) (a .dests .now) (a .sides .now) (a .waiters) (a .demand) (a .xs .now) (a .n) _ (c .before .cost-terms .ensures)) (c .finite-rank .ensures)
@@ -66,7 +66,7 @@ returns c =
 returns-2 : tie.Need-returns-2
 returns-2 c =
     let asked = c .before .before .before in
-    let a = asked .before .before .before .before .before .before .args in
+    let a = asked .before .before .before .before .before .before .before .args in
     stands (a .policy) (a .car) (a .goal) (a .riders) (a .dests .now) (a .sides .now) (a .waiters) (a .demand) (a .xs .now) (a .n) (a .j)
     (asked .before .before .point .ensures) (asked .before .has .ensures) (asked .pair-is-useful .ensures) (c .before .before .if1 .taken)
     (c .if2 .left)
@@ -74,7 +74,7 @@ returns-2 c =
 returns-3 : tie.Need-returns-3
 returns-3 c =
     let asked = c .before in
-    let a = asked .before .before .before .before .before .before .args in
+    let a = asked .before .before .before .before .before .before .before .args in
     useless (a .policy) (a .car) (a .goal) (a .riders) (a .dests .now) (a .sides .now) (a .waiters) (a .demand) (a .xs .now) (a .n) (a .j)
     (asked .before .before .point .ensures) (asked .before .has .ensures) (asked .pair-is-useful .ensures) (c .if1 .left)
 

@@ -12,9 +12,10 @@ use Rattle.laws.specs.Folds.{any, any-cong}
 use Rattle.laws.specs.Tables.{tab}
 use Rattle.layout.specs.Records.{carOf, aboardOf, sheetOf, from, read}
 use Rattle.manifest.specs.World.{stopId}
-use Rattle.pending.specs.Masks.{boundId}
+use Rattle.pending.specs.Masks.{names-rise, boundId}
 use Rattle.pending.specs.Same.{guarded-column, flag-is, named-mask}
 use borrow.Author.Needs.{needs}
+use native.Mathlib.Omega.{arith}
 use lib.Dec.{eqb}
 use lib.ListN.{getD}
 use mathlib.Core.Bool.{Bool, _&&_, and-comm}
@@ -47,6 +48,12 @@ in-idle c x pos =
     ∙ ap₂ (λ (y z : ℕ). eqb (read (from b (y + z * i)) car·id) x && eqb (read (from b (y + z * i)) car·listed) 1) (at .ensures) (len .ensures)
     ∙ and-comm (eqb (s .car i .id) x) (s .car i .listed))
 
+named-stops-requires : tie.Need-named-stops-requires
+unfolding sheetOf
+named-stops-requires c κs =
+    let p = c .before .before .before .before .before .before .before .before .before .before .before .before .before .before .before .before .pre in
+    (omega (arith, p .0 .aboards, c .before .before .before .fill-bound .ensures .0), p .0 .stops, omega (arith, p .0 .stops, p .1), names-rise (p .2))
+
 returns : tie.Need-returns
 unfolding idleBound boundId sheetOf aboardOf
 returns c =
@@ -65,4 +72,4 @@ returns c =
     ∙ ap (λ (t : Bool). eqb (s .aboard i .destination) (stopId s j) && t) (in-idle c (s .aboard i .car) (boarded .above-zero i li)))
 
 pub bound-stops-spec : {M : Type 1} → statement M
-bound-stops-spec = tie.close (tie.spec (λ c. search needs) (λ c. search needs) (λ c κs. search needs) (λ c κs. search needs) (λ c. search needs) (λ c κs. search needs) (λ c κs. search needs) (λ c. search needs) (λ c. search needs) (λ c κs. search needs) (λ c. search needs) (λ c. search needs) (λ c κs. search needs) returns)
+bound-stops-spec = tie.close (tie.spec (λ c. search needs) (λ c. search needs) (λ c κs. search needs) (λ c κs. search needs) (λ c. search needs) (λ c κs. search needs) (λ c κs. search needs) (λ c. search needs) (λ c. search needs) (λ c κs. search needs) (λ c. search needs) (λ c. search needs) named-stops-requires returns)

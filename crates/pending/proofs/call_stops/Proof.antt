@@ -11,12 +11,17 @@ use Rattle.manifest.specs.Manifest.{riderlessCall}
 use Rattle.manifest.specs.World.{stopId}
 use Rattle.pending.specs.Same.{guarded-column, named-mask, flag-is}
 use borrow.Author.Needs.{needs}
+use Rattle.pending.specs.Masks.{names-rise}
 use lib.Dec.{eqb}
 use lib.ListN.{getD}
 use mathlib.Core.Bool.{Bool, _&&_}
 use mathlib.Core.Path.{_≡_, sym, ap, ap₂, _∙_}
 use Rattle.pending.proofs.call_stops.Statement.{statement}
 use Rattle.pending.proofs.call_stops.Tie as tie
+
+named-stops-requires : tie.Need-named-stops-requires
+unfolding sheetOf
+named-stops-requires c κs = let up = names-rise (c .before .before .before .before .before .before .before .before .before .pre .3) in search needs
 
 returns : tie.Need-returns
 unfolding riderlessCall sheetOf demandOf
@@ -38,4 +43,4 @@ pub call-stops-spec : {M : Type 1} → statement M
 call-stops-spec =
     tie.close
     (tie.spec (λ c. search needs) (λ c κs. search needs) (λ c. search needs) (λ c κs. search needs) (λ c. search needs) (λ c. search needs)
-    (λ c κs. search needs) returns)
+    named-stops-requires returns)

@@ -11,6 +11,7 @@ use Rattle.manifest.specs.Manifest.{riddenTo}
 use Rattle.manifest.specs.World.{stopId}
 use Rattle.pending.specs.Same.{guarded-column, named-mask, positive-is}
 use borrow.Author.Needs.{needs}
+use Rattle.pending.specs.Masks.{names-rise}
 use lib.Dec.{eqb}
 use lib.Dec.{ltb}
 use lib.ListN.{getD}
@@ -18,6 +19,10 @@ use mathlib.Core.Bool.{Bool, _&&_}
 use mathlib.Core.Path.{_≡_, sym, ap, ap₂, _∙_}
 use Rattle.pending.proofs.ridden_stops.Statement.{statement}
 use Rattle.pending.proofs.ridden_stops.Tie as tie
+
+named-stops-requires : tie.Need-named-stops-requires
+unfolding sheetOf
+named-stops-requires c κs = let up = names-rise (c .before .before .before .before .before .before .before .before .before .pre .3) in search needs
 
 returns : tie.Need-returns
 unfolding riddenTo sheetOf demandOf
@@ -39,4 +44,4 @@ pub ridden-stops-spec : {M : Type 1} → statement M
 ridden-stops-spec =
     tie.close
     (tie.spec (λ c. search needs) (λ c κs. search needs) (λ c. search needs) (λ c κs. search needs) (λ c. search needs) (λ c. search needs)
-    (λ c κs. search needs) returns)
+    named-stops-requires returns)

@@ -10,12 +10,17 @@ use Rattle.manifest.specs.Manifest.{someoneWaits}
 use Rattle.manifest.specs.World.{stopId}
 use Rattle.pending.specs.Same.{named-mask}
 use borrow.Author.Needs.{needs}
+use Rattle.pending.specs.Masks.{names-rise}
 use lib.Dec.{eqb}
 use lib.ListN.{getD}
 use mathlib.Core.Bool.{Bool, _&&_}
 use mathlib.Core.Path.{_≡_, sym, ap, ap₂, _∙_}
 use Rattle.pending.proofs.waited_stops.Statement.{statement}
 use Rattle.pending.proofs.waited_stops.Tie as tie
+
+named-stops-requires : tie.Need-named-stops-requires
+unfolding sheetOf
+named-stops-requires c κs = let up = names-rise (c .before .before .before .before .before .before .before .before .before .pre .2) in search needs
 
 returns : tie.Need-returns
 unfolding someoneWaits sheetOf waitingOf
@@ -35,4 +40,4 @@ pub waited-stops-spec : {M : Type 1} → statement M
 waited-stops-spec =
     tie.close
     (tie.spec (λ c. search needs) (λ c κs. search needs) (λ c. search needs) (λ c κs. search needs) (λ c. search needs) (λ c. search needs)
-    (λ c κs. search needs) returns)
+    named-stops-requires returns)

@@ -7,4 +7,4 @@ returns : tie.Need-returns
 returns c = cc
 
 pub one-a-stop-spec : {M : Type 1} → statement M
-one-a-stop-spec = tie.close (tie.spec (λ c κs. search needs) (λ c κs. search needs) returns)
+one-a-stop-spec = tie.close (tie.spec (λ c κs. search needs) (λ c κs. search needs) (λ c κs. search needs) (λ c κs. search needs) returns)

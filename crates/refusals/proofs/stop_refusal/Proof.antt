@@ -31,12 +31,12 @@ by-number s c at-is id-is last-is placed-is is11 is9 = rw (is9, is11, placed-is,
 returns : tie.Need-returns
 returns c =
     let r = c .before .before in
-    let a = r .before .before .before .before .before .args in
-    by-number (a .s .now) (a .c) (r .before .before .before .end-of .ensures) (r .before .before .field32 .ensures)
-    (r .before .last-stop .ensures) (r .placed-at .ensures) (c .before .pick .ensures) (c .pick2 .ensures)
+    let start = r .before .before .before in
+    let a = start .args in
+    by-number (a .s .now) (a .c) (start .pre .1) (start .pre .2) (r .before .last-stop .ensures) (r .placed-at .ensures)
+    (c .before .pick .ensures) (c .pick2 .ensures)
 
 pub stop-refusal-spec : {M : Type 1} → statement M
 stop-refusal-spec =
     tie.close
-    (tie.spec (λ c κs. search needs) (λ c κs. search needs) (λ c κs. search needs) (λ c κs. search needs) (λ c κs. search needs)
-    (λ c κs. search needs) returns)
+    (tie.spec (λ c κs. search needs) (λ c κs. search needs) (λ c κs. search needs) (λ c κs. search needs) returns)

@@ -32,13 +32,13 @@ by-number s c at-is limit-is unused-is outside-is is12 is11 is8 = rw (is8, is11,
 returns : tie.Need-returns
 returns c =
     let late = c .before .before .before .before in
-    let a = late .before .before .before .before .args in
-    by-number (a .s .now) (a .c) (late .before .before .end-of .ensures) (late .before .field .ensures .is)
-    (c .before .before .before .unused-weights .ensures) (c .before .before .out-of-range .ensures) (late .pick .ensures) (c .before .pick2 .ensures)
-    (c .pick3 .ensures)
+    let start = late .before .before .before in
+    let a = start .args in
+    by-number (a .s .now) (a .c) (start .pre) (late .before .field .ensures .is) (c .before .before .before .unused-weights .ensures)
+    (c .before .before .out-of-range .ensures) (late .pick .ensures) (c .before .pick2 .ensures) (c .pick3 .ensures)
 
 pub policy-refusal-spec : {M : Type 1} → statement M
 policy-refusal-spec =
     tie.close
     (tie.spec (λ c κs. search needs) (λ c κs. search needs) (λ c κs. search needs) (λ c κs. search needs) (λ c κs. search needs)
-    (λ c κs. search needs) (λ c κs. search needs) returns)
+    (λ c κs. search needs) returns)

@@ -1,5 +1,6 @@
 -- replay_ranks::rank_by meets its contract.
 use Rattle.accepted.specs.Accepted.{accepted}
+use Rattle.cells.specs.Ids.{rising-of}
 use Rattle.layout.specs.Records.{sheetOf}
 use Rattle.pending.specs.Masks.{calls-are}
 use Rattle.replay_ranks.specs.RankLaws.{ranked}
@@ -14,7 +15,7 @@ unfolding sheetOf
 waiting-requires c κs =
     let a = c .before .before .before .before .before .before .before .before .args in
     let p = c .before .before .before .before .before .before .before .before .pre in
-    (accepted (a .s .now) (a .c) (p .0 .0) .small, p .0 .3, p .0 .4, p .1 .stops-held, calls-are (sheetOf (a .s .now) (a .c)) (p .1 .masks-are))
+    (accepted (a .s .now) (a .c) (p .0 .0) .small, p .0 .3, p .0 .4, p .1 .stops-held, rising-of (a .s .now) (a .c) (p .0 .0), calls-are (sheetOf (a .s .now) (a .c)) (p .1 .masks-are))
 
 mul-v : tie.Need-mul-v
 mul-v c =
@@ -28,21 +29,28 @@ array-copy-out-v c =
     let p = c .before .before .before .before .before .before .before .before .before .pre in
     omega (arith, accepted (a .s .now) (a .c) (p .0 .0) .small .stops, p .0 .2)
 
+demand-places-requires : tie.Need-demand-places-requires
+demand-places-requires c κs =
+    let s = c .before .before .before .before .before .before .before .before .before .before .before in
+    let p = s .pre in
+    let small = accepted (s .args .s .now) (s .args .c) (p .0 .0) .small .stops in
+    (small, omega (arith, small, p .0 .4))
+
 rank-requires : tie.Need-rank-requires
 rank-requires c κs =
-    let a = c .before .before .before .before .before .before .before .before .before .before .before .before .before .args in
-    let p = c .before .before .before .before .before .before .before .before .before .before .before .before .before .pre in
+    let a = c .before .before .before .before .before .before .before .before .before .before .before .before .before .before .before .args in
+    let p = c .before .before .before .before .before .before .before .before .before .before .before .before .before .before .before .pre in
     let small = accepted (a .s .now) (a .c) (p .0 .0) .small .stops in
-    let row = c .before .before .before .before .before .before .before .row-of .ensures in
-    (row .1, row .2, small, omega (arith, small, p .0 .4), p .0 .2)
+    let row = c .before .before .before .before .before .before .before .before .before .row-of .ensures in
+    (row .1, row .2, small, omega (arith, small, p .0 .4), p .0 .2, c .before .before .before .demand-places .ensures)
 
 returns : tie.Need-returns
 unfolding sheetOf
 returns c =
-    let a = c .before .before .before .before .before .before .before .before .before .before .before .before .before .before .args in
-    let p = c .before .before .before .before .before .before .before .before .before .before .before .before .before .before .pre in
-    let row = c .before .before .before .before .before .before .before .before .row-of in
-    let waiters = c .before .before .before .before .before .waiting in
+    let a = c .before .before .before .before .before .before .before .before .before .before .before .before .before .before .before .before .args in
+    let p = c .before .before .before .before .before .before .before .before .before .before .before .before .before .before .before .before .pre in
+    let row = c .before .before .before .before .before .before .before .before .before .before .row-of in
+    let waiters = c .before .before .before .before .before .before .before .waiting in
     c .rank .ensures
     ∙ ranked (a .s .now) (a .c) (p .0 .0) (a .ids .now) (a .xs .now) (p .1 .stops-held) (a .i) (a .j) 65535 (p .0 .1) (p .0 .2) (row .result)
     (row .ensures .0) (waiters .result) (waiters .ensures)
@@ -51,4 +59,4 @@ pub rank-by-spec : {M : Type 1} → statement M
 rank-by-spec =
     tie.close
     (tie.spec (λ c. search needs) (λ c. search needs) (λ c κs. search needs) waiting-requires mul-v array-copy-out-v (λ c. search needs)
-    (λ c. search needs) (λ c. search needs) rank-requires returns)
+    demand-places-requires (λ c. search needs) (λ c. search needs) (λ c. search needs) rank-requires returns)

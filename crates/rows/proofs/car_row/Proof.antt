@@ -7,17 +7,17 @@ use Rattle.rows.proofs.car_row.Statement.{statement}
 use Rattle.rows.proofs.car_row.Tie as tie
 
 fill-row-requires : tie.Need-fill-row-requires
-fill-row-requires c κs = c .before .before .before .before .before .pre
+fill-row-requires c κs = c .before .before .before .before .before .before .pre
 
 fill-spare-requires : tie.Need-fill-spare-requires
-fill-spare-requires c κs = let p = c .before .before .before .before .before .before .before .before .before .pre in omega (arith, p .4, c .before .before .before .fill-row .ensures .0 .0)
+fill-spare-requires c κs = let p = c .before .before .before .before .before .before .before .before .before .before .pre in omega (arith, p .4, c .before .before .before .fill-row .ensures .0 .0)
 
 same-length : tie.Need-same-length
 same-length c = c .before .before .fill-spare .ensures .size ∙ c .before .before .before .before .before .before .fill-row .ensures .0 .0
 
 returns : tie.Need-returns
 returns c =
-    let a = c .before .before .before .before .before .before .before .before .before .before .before .before .args in
+    let a = c .before .before .before .before .before .before .before .before .before .before .before .before .before .args in
     let filled = c .before .before .before .before .before .before .fill-row .ensures in (
       (
         c .before .before .fill-spare .ensures .size ∙ filled .0 .0,

@@ -1,9 +1,9 @@
 -- rows::row_for meets its contract.
 use Rattle.layout.specs.Records.{sheetOf}
-use Rattle.rows.specs.HeldLaws.{Held, seats-length}
+use Rattle.rows.specs.HeldLaws.{held-ascending}
 use Rattle.rows.specs.MatrixLaws.{row-for-is}
 use Rattle.pending.specs.Masks.{pending-are}
-use Rattle.riders.specs.Riders.{ridersIn}
+use Rattle.riders.specs.Riders.{ridersIn, seats-length}
 use Rattle.manifest.specs.Stops.{point-is}
 use mathlib.Core.Path.{_≡_}
 use borrow.Author.Needs.{needs}
@@ -12,9 +12,11 @@ use Rattle.rows.proofs.row_for.Statement.{statement}
 use Rattle.rows.proofs.row_for.Tie as tie
 
 riders-of-requires : tie.Need-riders-of-requires
+unfolding sheetOf
 riders-of-requires c κs =
     let p = c .before .before .before .before .before .before .before .before .before .before .before .before .pre in (
       omega (arith, p .0 .0 .stops, p .0 .1),
+      held-ascending (p .1),
       omega (arith, p .0 .0 .stops, p .0 .2),
       p .0 .0 .stops,
       omega (arith, p .0 .0 .aboards, p .0 .3),
@@ -24,9 +26,10 @@ riders-of-requires c κs =
     )
 
 goal-requires : tie.Need-goal-requires
+unfolding sheetOf
 goal-requires c κs =
     let p = c .before .before .before .before .before .before .before .before .before .before .before .before .before .before .before .before .before .pre in
-    (omega (arith, p .0 .0 .stops, p .0 .1), omega (arith, p .0 .0 .stops, p .0 .2))
+    (omega (arith, p .0 .0 .stops, p .0 .1), held-ascending (p .1), omega (arith, p .0 .0 .stops, p .0 .2))
 
 sweep-after-requires : tie.Need-sweep-after-requires
 sweep-after-requires c κs =
@@ -50,7 +53,7 @@ returns c =
     let goal = c .before .before .goal in
     let sweep = c .before .sweep-after in
     let seated : riders .result ≡ ridersIn (a .ids .now) (a .c .stops) (a .acar .now) (a .adest .now) (a .car .id) (a .c .aboards) = riders .ensures .answered in
-    let len = seats-length (a .ids .now) (a .xs .now) (a .c .stops) (a .acar .now) (a .adest .now) (a .c .aboards) (a .car .id) (riders .result) (riders .ensures) (omega (arith, p .0 .0 .aboards, p .0 .5)) (omega (arith, p .0 .0 .aboards, p .0 .6)) in (
+    let len = seats-length (a .ids .now) (a .xs .now) (a .c .stops) (a .acar .now) (a .adest .now) (a .car .id) (a .c .aboards) (riders .ensures) (omega (arith, p .0 .0 .aboards, p .0 .5)) (omega (arith, p .0 .0 .aboards, p .0 .6)) in (
       row-for-is (sheetOf (a .s .now) (a .c)) (a .ids .now) (a .xs .now) (a .acar .now) (a .adest .now) (a .masks) (a .limit)
           (policy .result) (a .car) (sweep .result) (goal .result) (riders .result) (c .kept-by .result)
           (policy .ensures) seated (goal .ensures) (sweep .ensures) (c .kept-by .ensures),

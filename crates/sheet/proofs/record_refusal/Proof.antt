@@ -1,11 +1,10 @@
 -- sheet::record_refusal meets its contract.
 use Prim.Native.Nat.{ℕ, _+_}
-use Rattle.bits.specs.Field.{fieldAt}
 use Rattle.components.specs.Codes.{kindOf}
 use Rattle.components.specs.declared.Kind.{Kind}
 use Rattle.layout.specs.Offsets.{endOf, bodyLength, acrossIn}
 use Rattle.layout.specs.Records.{from}
-use Rattle.layout.specs.Refusals.{pastEnd, refusal2, refusal4, refusal5, refusal6, refusal7}
+use Rattle.layout.specs.Refusals.{kindAt, lengthAt, pastEnd, refusal2, refusal4, refusal5, refusal6, refusal7}
 use Rattle.layout.specs.Verdict.{pick, firstOf, bodyRefusal, recordRefusal}
 use Rattle.layout.specs.declared.Counts.{Counts}
 use borrow.Author.Needs.{needs}
@@ -19,8 +18,8 @@ use Rattle.sheet.proofs.record_refusal.Tie as tie
 -- the conditions as they are read, then the picks from the last to the first
 by-number : (s : List ℕ) (c : Counts) {at code len asked body r7 r6 r5 r4 r2 : ℕ} {kind : Kind} {short unordered full unknown : Bool} →
     at ≡ endOf c →
-    code ≡ fieldAt s (at + 0) 6 →
-    len ≡ fieldAt s (at + 6) 16 →
+    code ≡ kindAt s c →
+    len ≡ lengthAt s c →
     kind ≡ kindOf code →
     short ≡ pastEnd s (at + 22 + len) →
     asked ≡ bodyLength kind + acrossIn (c .across) kind →
@@ -42,18 +41,18 @@ returns : tie.Need-returns
 returns c =
     let late = c .before .before .before .before in
     let tests = late .before .before .before .before in
-    let read = tests .before .before .before in
-    let a = read .before .before .before .before .before .args in
-    by-number (a .s .now) (a .c) (read .before .before .before .end-of .ensures) (read .before .before .field .ensures .is)
-    (read .before .field2 .ensures .is) (read .of-code .ensures .is) (tests .before .before .past-end .ensures)
-    (tests .before .body-length .ensures) (tests .out-of-order .ensures) (late .before .before .before .is-full .ensures)
+    let kind = tests .before .before .before .before .before in
+    let start = kind .before .before .before .before .before .before in
+    let a = start .args in
+    by-number (a .s .now) (a .c) (start .pre .1) (start .pre .2) (start .pre .3) (kind .of-code .ensures .is)
+    (tests .before .before .before .past-end .ensures)
+    (tests .before .before .body-length .ensures) (tests .out-of-order .ensures) (late .before .before .before .is-full .ensures)
     (late .before .before .body-refusal .ensures) (c .before .before .before .is-unknown .ensures) (late .before .pick .ensures)
     (late .pick2 .ensures) (c .before .before .pick3 .ensures) (c .before .pick4 .ensures) (c .pick5 .ensures)
 
 pub record-refusal-spec : {M : Type 1} → statement M
 record-refusal-spec =
     tie.close
-    (tie.spec (λ c κs. search needs) (λ c κs. search needs) (λ c κs. search needs) (λ c κs. search needs) (λ c. search needs)
-    (λ c. search needs) (λ c. search needs) (λ c κs. search needs) (λ c κs. search needs) (λ c κs. search needs) (λ c κs. search needs)
-    (λ c κs. search needs) (λ c κs. search needs) (λ c κs. search needs) (λ c κs. search needs) (λ c κs. search needs)
-    (λ c κs. search needs) (λ c κs. search needs) returns)
+    (tie.spec (λ c κs. search needs) (λ c. search needs) (λ c. search needs) (λ c. search needs) (λ c κs. search needs) (λ c κs. search needs)
+    (λ c κs. search needs) (λ c κs. search needs) (λ c κs. search needs) (λ c κs. search needs) (λ c κs. search needs) (λ c κs. search needs)
+    (λ c κs. search needs) (λ c κs. search needs) (λ c κs. search needs) returns)

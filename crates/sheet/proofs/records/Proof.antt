@@ -1,81 +1,290 @@
 -- sheet::records meets its contract.
-use Prim.Native.Nat.{ℕ, _≤_, _+_}
+use Prim.Native.Nat.{ℕ, _+_, _-_, _<_}
+use Rattle.accepted.specs.Accepted.{Read, Records, no-records, one-more, small, few-demands, few-closures}
 use Rattle.bits.specs.Field.{fieldAt}
 use Rattle.components.specs.Codes.{kindOf}
-use Rattle.layout.specs.Offsets.{Small, none, next}
-use Rattle.layout.specs.Refusals.{kindAt}
+use Rattle.conditions.specs.Ids.{Tables}
+use Rattle.layout.specs.Offsets.{Small, acrossBits, none, next, endOf, bodyLength, acrossIn}
+use Rattle.layout.specs.Table.{first}
+use Rattle.layout.specs.Records.{from, read}
+use Rattle.layout.specs.Refusals.{edition, kindAt, lengthAt, refusal5}
 use Rattle.layout.specs.Verdict.{recordRefusal, recordsVerdict}
-use Rattle.layout.specs.VerdictLaws.{clean, next-small, next-demands, next-closures, verdict-on, verdict-stop, verdict-end}
+use Rattle.layout.specs.VerdictLaws.{Clean, clean, end-next, verdict-on, verdict-stop, verdict-end}
+use Rattle.layout.specs.declared.Counts.{Counts}
 use Rattle.layout.specs.declared.Reading.the-variants.{Refused}
+use Rattle.sheet.specs.Kept.{kept, kept-length, stop-room, car-room, demand-room, closed-room}
+use Rattle.sheet.specs.Kept.{stops-kept, cars-kept, demands-kept, closures-kept}
 use borrow.Author.Needs.{needs}
+use borrow.Author.Tests.{eqb-true, not-false}
+use lib.Dec.{eqb}
+use lib.ListN.{length}
+use mathlib.Core.Bool.{true}
+use mathlib.Core.List.{List}
 use mathlib.Core.Logic.{_≢_}
-use mathlib.Core.Path.{_≡_, refl, sym, ap, ap₂, _∙_}
+use mathlib.Core.Path.{_≡_, refl, sym, ap, ap₂, _∙_, subst}
 use native.Mathlib.Nat.{mul-zero}
 use native.Mathlib.Omega.{arith}
 use Rattle.sheet.proofs.records.Statement.{statement}
 use Rattle.sheet.proofs.records.Tie as tie
 
+-- what holds before each record: those counted were read, at is where the next one starts, and the tables have the ids
+record Before (s : List ℕ) (c : Counts) (at : ℕ) (stops cars demands closures : List ℕ) : Type 0 where
+  read : Records s c
+  starts : at ≡ endOf c
+  stop-places : length stops ≡ 64
+  car-places : length cars ≡ 32
+  demand-places : length demands ≡ 64
+  closed-places : length closures ≡ 64
+  tables : Tables s c stops cars demands closures
+
 abbrev Inv-loop : tie.InvT-loop
-Inv-loop s across count c₀ left₀ c left =
-    Small c × (c .demands + left ≤ 65535) × (c .closures + left ≤ 65535) × (recordsVerdict s count (none across) ≡ recordsVerdict s left c)
+Inv-loop s across count c₀ at₀ stops₀ cars₀ demands₀ closures₀ left₀ c at stops cars demands closures left =
+    Before s c at stops cars demands closures × (recordsVerdict s count (none across) ≡ recordsVerdict s left c)
 
 abbrev μ-loop : tie.MeasureT-loop
-μ-loop s across count c₀ left₀ c left = left
+μ-loop s across count c₀ at₀ stops₀ cars₀ demands₀ closures₀ left₀ c at stops cars demands closures left = left
+
+-- before the first record
+at-first : (s : List ℕ) {c : Counts} {w : ℕ} (stops cars demands closures : List ℕ) → w ≡ acrossBits (edition s) → c ≡ none w
+    → length stops ≡ 64 → length cars ≡ 32 → length demands ≡ 64 → length closures ≡ 64 → Before s c 24 stops cars demands closures
+at-first s {c} {w} stops cars demands closures w-is c-is n1 n2 n3 n4 =
+    rw (c-is, w-is) (record {
+      read = no-records (Read s) s;
+      starts = omega (arith, mul-zero (118 + acrossBits (edition s)), mul-zero (737 + acrossBits (edition s)));
+      stop-places = n1;
+      car-places = n2;
+      demand-places = n3;
+      closed-places = n4;
+      tables =
+          record {
+            stop-ids = record { room = omega (arith, n1); each = λ i l. absurd (omega (arith, l)) };
+            car-ids = record { room = omega (arith, n2); each = λ i l. absurd (omega (arith, l)) };
+            demand-ids = record { room = omega (arith, n3); each = λ i l. absurd (omega (arith, l)) };
+            closed-ids = record { room = omega (arith, n4); each = λ i l. absurd (omega (arith, l)) };
+          };
+    })
+
+module _ (s : List ℕ) (c : Counts) (at : ℕ) (stops cars demands closures : List ℕ) (b : Before s c at stops cars demands closures) where
+  few : Small c × (c .demands < 65535) × (c .closures < 65535)
+  few =
+      let h = small s c (b .read) in
+      (h, omega (arith, few-demands s c (b .read), h .stops), omega (arith, few-closures s c (b .read), h .stops))
+
+  not-far : at < 16777216
+  not-far =
+      let h = small s c (b .read) in
+      omega (arith, b .starts, h .policies, h .stop-bits, h .lines, h .car-bits, h .aboards, h .waits, h .demands, h .closures)
+
+  its-code : {code : ℕ} → code ≡ fieldAt s (at + 0) 6 → code ≡ kindAt s c
+  its-code e = e ∙ ap (λ (x : ℕ). fieldAt s (x + 0) 6) (b .starts)
+
+  its-stated : {len : ℕ} → len ≡ fieldAt s (at + 6) 16 → len ≡ lengthAt s c
+  its-stated e = e ∙ ap (λ (x : ℕ). fieldAt s (x + 6) 16) (b .starts)
+
+  -- a code that is tested is the record's
+  is-kind : (n : ℕ) {code : ℕ} → code ≡ fieldAt s (at + 0) 6 → eqb code n ≡ true → eqb (kindAt s c) n ≡ true
+  is-kind n e = subst (λ (x : ℕ). eqb x n ≡ true) (its-code e)
+
+  -- one record more
+  after : {code len id : ℕ} {d : Counts} {stops′ cars′ demands′ closures′ : List ℕ} → Clean s c → code ≡ kindAt s c → len ≡ lengthAt s c
+      → id ≡ read (from s at) (first 32) → d ≡ next c (kindOf (kindAt s c))
+      → stops′ ≡ kept (eqb code 2) (c .stops) id stops → cars′ ≡ kept (eqb code 4) (c .cars) id cars
+      → demands′ ≡ kept (eqb code 7) (c .demands) id demands → closures′ ≡ kept (eqb code 8) (c .closures) id closures
+      → Before s d (at + 22 + len) stops′ cars′ demands′ closures′
+  unfolding refusal5
+  after {code} {len} {id} h code-is len-is at-id d-is stops-are cars-are demands-are closures-are =
+      let k = kindOf (kindAt s c) in
+      let n = bodyLength k + acrossIn (c .across) k in
+      let stated : lengthAt s c ≡ n = eqb-true (lengthAt s c) n (not-false _ (h .its-length)) in
+      let ends : endOf c + 22 + lengthAt s c ≡ endOf (next c k) = omega (arith, stated, end-next c k (h .known)) in
+      let id-is : id ≡ read (from s (endOf c)) (first 32) = at-id ∙ ap (λ (x : ℕ). read (from s x) (first 32)) (b .starts) in
+      rw (d-is, stops-are, cars-are, demands-are, closures-are, code-is, len-is, b .starts) (record {
+        read = one-more s c (b .read) h;
+        starts = ends;
+        stop-places = kept-length (eqb (kindAt s c) 2) (c .stops) id stops ∙ b .stop-places;
+        car-places = kept-length (eqb (kindAt s c) 4) (c .cars) id cars ∙ b .car-places;
+        demand-places = kept-length (eqb (kindAt s c) 7) (c .demands) id demands ∙ b .demand-places;
+        closed-places = kept-length (eqb (kindAt s c) 8) (c .closures) id closures ∙ b .closed-places;
+        tables =
+            record {
+              stop-ids = stops-kept s c (b .read) h id-is stops (b .stop-places) (b .tables .stop-ids);
+              car-ids = cars-kept s c (b .read) h id-is cars (b .car-places) (b .tables .car-ids);
+              demand-ids = demands-kept s c (b .read) h id-is demands (b .demand-places) (b .tables .demand-ids);
+              closed-ids = closures-kept s c (b .read) h id-is closures (b .closed-places) (b .tables .closed-ids);
+            };
+      })
 
 loop-holds : tie.Need-loop-holds Inv-loop μ-loop
 loop-holds c =
-    let w = c .before .args .across in
-    let l = c .before .pre .0 in (
-      record {
-        across = l;
-        policies = omega arith;
-        stops = omega arith;
-        lines = omega arith;
-        cars = omega arith;
-        aboards = omega arith;
-        waits = omega arith;
-        demands = omega arith;
-        closures = omega arith;
-        stop-bits = omega (arith, mul-zero (118 + w));
-        car-bits = omega (arith, mul-zero (737 + w));
-      },
-      search needs,
-      search needs,
-      refl,
+    let start = c .before .before in
+    let a = start .args in (
+      at-first (a .s .now) _ _ _ _ (start .pre) (c .none .ensures) refl refl refl refl,
+      ap (λ x. recordsVerdict (a .s .now) (a .count) x) (sym (c .none .ensures)),
     )
+
+record-refusal-requires : tie.Need-record-refusal-requires Inv-loop μ-loop
+record-refusal-requires c κs =
+    let r = c .before .before .before .before in
+    let front = r .front-at .ensures in
+    let b = r .before .before .loop .inv .0 in (
+      few _ _ _ _ _ _ _ b .0,
+      b .starts,
+      its-code _ _ _ _ _ _ _ b (front .0 .is),
+      its-stated _ _ _ _ _ _ _ b (front .1 .is),
+      front .1 .small,
+      front .2,
+      b .tables,
+    )
+
+cast-offset : tie.Need-cast-t22 Inv-loop μ-loop
+cast-offset c = omega (arith, not-far _ _ _ _ _ _ _ (c .before .before .before .before .before .before .before .before .loop .inv .0))
 
 returns : tie.Need-returns Inv-loop μ-loop
 returns c =
-    let l = c .before .before .before .before .loop in
-    let s = c .before .before .before .before .before .before .args .s .now in
-    let n = c .before .before .record-refusal in
+    let n = c .before .record-refusal in
+    let r = c .before .before .before .before .before .before in
+    let l = r .before .before .loop in
+    let s = r .before .before .before .before .before .args .s .now in
     let f : recordRefusal s (l .c) ≢ 0 = λ e. c .if1 .taken (n .ensures ∙ e) in
-    sym (l .inv .3 ∙ verdict-stop s (l .left) (l .c) (c .before .before .before .loop-test .taken) f ∙ ap₂ Refused (sym (n .ensures)) (sym (c .before .end-of .ensures)))
+    sym (l .inv .1 ∙ verdict-stop s (l .left) (l .c) (r .before .loop-test .taken) f ∙ ap₂ Refused (sym (n .ensures)) (sym (l .inv .0 .starts)))
+
+keep-stops : tie.Need-keep-requires Inv-loop μ-loop
+keep-stops c κs e =
+    let d = c .before .before in
+    let r = d .before .before .before .before .before .before in
+    let l = r .before .before .loop in
+    let b = l .inv .0 in
+    let h = clean _ _ (sym (d .before .record-refusal .ensures) ∙ d .if1 .left) in
+    stop-room _ _ (b .read) h (l .stops) (b .stop-places) (is-kind _ _ _ _ _ _ _ b 2 (r .front-at .ensures .0 .is) e)
+
+keep-cars : tie.Need-keep-requires-2 Inv-loop μ-loop
+keep-cars c κs e =
+    let d = c .before .before .before .before .before .before in
+    let r = d .before .before .before .before .before .before in
+    let l = r .before .before .loop in
+    let b = l .inv .0 in
+    let h = clean _ _ (sym (d .before .record-refusal .ensures) ∙ d .if1 .left) in
+    car-room _ _ (b .read) h (l .cars) (b .car-places) (is-kind _ _ _ _ _ _ _ b 4 (r .front-at .ensures .0 .is) e)
+
+keep-demands : tie.Need-keep-requires-3 Inv-loop μ-loop
+keep-demands c κs e =
+    let d = c .before .before .before .before .before .before .before .before .before .before in
+    let r = d .before .before .before .before .before .before in
+    let l = r .before .before .loop in
+    let b = l .inv .0 in
+    let h = clean _ _ (sym (d .before .record-refusal .ensures) ∙ d .if1 .left) in
+    demand-room _ _ (b .read) h (l .demands) (b .demand-places) (is-kind _ _ _ _ _ _ _ b 7 (r .front-at .ensures .0 .is) e)
+
+keep-closures : tie.Need-keep-requires-4 Inv-loop μ-loop
+keep-closures c κs e =
+    let d = c .before .before .before .before .before .before .before .before .before .before .before .before .before .before in
+    let r = d .before .before .before .before .before .before in
+    let l = r .before .before .loop in
+    let b = l .inv .0 in
+    let h = clean _ _ (sym (d .before .record-refusal .ensures) ∙ d .if1 .left) in
+    closed-room _ _ (b .read) h (l .closures) (b .closed-places) (is-kind _ _ _ _ _ _ _ b 8 (r .front-at .ensures .0 .is) e)
+
+next-requires : tie.Need-next-requires Inv-loop μ-loop
+next-requires c κs =
+    let e = c .before .before .before .before .before .before .before .before .before .before in
+    let d = e .before .before .before .before .before .before .before in
+    few _ _ _ _ _ _ _ (d .before .before .before .before .before .before .before .before .loop .inv .0)
+
+add-at : tie.Need-add-at Inv-loop μ-loop
+add-at c =
+    let e = c .before .before .before .before .before .before .before .before .before .before in
+    let d = e .before .before .before .before .before .before .before .before in
+    omega (arith, not-far _ _ _ _ _ _ _ (d .before .before .before .before .before .before .before .before .loop .inv .0))
+
+cast-at : tie.Need-cast-at Inv-loop μ-loop
+cast-at c =
+    let e = c .before .before .before .before .before .before .before .before .before .before in
+    let d = e .before .before .before .before .before .before .before .before .before in
+    omega (arith, d .before .before .before .before .before .before .front-at .ensures .1 .small)
+
+add-at-2 : tie.Need-add-at-2 Inv-loop μ-loop
+add-at-2 c =
+    let e = c .before .before .before .before .before .before .before .before .before .before in
+    let d = e .before .before .before .before .before .before .before .before .before in
+    let r = d .before .before .before .before .before .before in
+    omega (arith, not-far _ _ _ _ _ _ _ (r .before .before .loop .inv .0), r .front-at .ensures .1 .small)
+
+sub-left : tie.Need-sub-left Inv-loop μ-loop
+sub-left c =
+    let e = c .before .before .before .before .before .before .before .before .before .before in
+    let d = e .before .before .before .before .before .before .before .before .before in
+    omega (arith, d .before .before .before .before .before .before .before .loop-test .taken)
+
+loop-less : tie.Need-loop-less Inv-loop μ-loop
+loop-less c =
+    let e = c .before .before .before .before .before .before .before .before .before .before in
+    let d = e .before .before .before .before .before .before .before .before .before in
+    omega (arith, d .before .before .before .before .before .before .before .loop-test .taken)
 
 loop-again : tie.Need-loop-again Inv-loop μ-loop
 loop-again c =
-    let d = c .before .before .before .before in
-    let l = d .before .before .before .loop in
-    let s = d .before .before .before .before .before .args .s .now in
-    let f : recordRefusal s (l .c) ≡ 0 = sym (d .before .record-refusal .ensures) ∙ c .before .before .before .if1 .left in
-    let code : c .before .before .field .result ≡ fieldAt s (d .end-of .result + 0) 6 = c .before .before .field .ensures .is in
-    let k : c .next .result ≡ next (l .c) (kindOf (kindAt s (l .c))) =
-    c .next .ensures
-    ∙ ap (next (l .c))
-    (c .before .of-code .ensures .is
-    ∙ ap kindOf (code ∙ ap (λ (x : ℕ). fieldAt s (x + 0) 6) (d .end-of .ensures))) in
-    rw k (
-      next-small (l .c) (kindOf (kindAt s (l .c))) (l .inv .0) (clean s (l .c) f .has-room) (omega arith) (omega arith),
-      omega (arith, next-demands (l .c) (kindOf (kindAt s (l .c)))),
-      omega (arith, next-closures (l .c) (kindOf (kindAt s (l .c)))),
-      l .inv .3 ∙ verdict-on s (l .left) (l .c) (d .before .before .loop-test .taken) f,
+    let fourth = c .before .before .before .before in
+    let third = fourth .before .before .before .before in
+    let second = third .before .before .before .before in
+    let first = second .before .before .before .before in
+    let d = first .before .before .before in
+    let r = d .before .before .before .before .before .before in
+    let l = r .before .before .loop in
+    let b = l .inv .0 in
+    let front = r .front-at .ensures in
+    let s = r .before .before .before .before .before .args .s .now in
+    let f : recordRefusal s (l .c) ≡ 0 = sym (d .before .record-refusal .ensures) ∙ d .if1 .left in
+    let code = its-code _ _ _ _ _ _ _ b (front .0 .is) in
+    let k : c .before .next .result ≡ next (l .c) (kindOf (kindAt s (l .c))) =
+    c .before .next .ensures ∙ ap (next (l .c)) (c .before .before .of-code .ensures .is ∙ ap kindOf code) in (
+      after _ _ _ _ _ _ _ b (clean _ _ f) code (its-stated _ _ _ _ _ _ _ b (front .1 .is)) (front .2) k (first .keep .ensures)
+          (second .keep2 .ensures) (third .keep3 .ensures)
+          (fourth .keep4 .ensures),
+      l .inv .1 ∙ verdict-on s (l .left) (l .c) (r .before .loop-test .taken) f ∙ ap (recordsVerdict s (l .left - 1)) (sym k),
     )
 
+lent-stops : tie.Need-slice-aggregate-record-refusal Inv-loop μ-loop
+lent-stops c = sym (c .before .before .before .loop .inv .0 .stop-places)
+
+kept-stops : tie.Need-slice-aggregate-keep Inv-loop μ-loop
+kept-stops c =
+    let d = c .before .before in
+    sym (d .before .before .before .before .before .before .before .before .loop .inv .0 .stop-places)
+
+lent-cars : tie.Need-slice-aggregate-record-refusal-2 Inv-loop μ-loop
+lent-cars c = sym (c .before .before .before .before .loop .inv .0 .car-places)
+
+kept-cars : tie.Need-slice-aggregate-keep-2 Inv-loop μ-loop
+kept-cars c =
+    let d = c .before .before .before .before .before .before in
+    sym (d .before .before .before .before .before .before .before .before .loop .inv .0 .car-places)
+
+lent-demands : tie.Need-slice-aggregate-record-refusal-3 Inv-loop μ-loop
+lent-demands c = sym (c .before .before .before .before .before .loop .inv .0 .demand-places)
+
+kept-demands : tie.Need-slice-aggregate-keep-3 Inv-loop μ-loop
+kept-demands c =
+    let d = c .before .before .before .before .before .before .before .before .before .before in
+    sym (d .before .before .before .before .before .before .before .before .loop .inv .0 .demand-places)
+
+lent-closures : tie.Need-slice-aggregate-record-refusal-4 Inv-loop μ-loop
+lent-closures c = sym (c .before .before .before .before .before .before .loop .inv .0 .closed-places)
+
+kept-closures : tie.Need-slice-aggregate-keep-4 Inv-loop μ-loop
+kept-closures c =
+    let e = c .before .before .before .before .before .before .before .before .before .before in
+    let d = e .before .before .before .before in
+    sym (d .before .before .before .before .before .before .before .before .loop .inv .0 .closed-places)
+
+tail-requires : tie.Need-tail-requires Inv-loop μ-loop
+tail-requires c κs = few _ _ _ _ _ _ _ (c .before .loop .inv .0) .0
+
 returns-2 : tie.Need-returns-2 Inv-loop μ-loop
-returns-2 c = c .tail .ensures ∙ sym (c .before .before .loop .inv .3 ∙ verdict-end _ _ _ (c .before .loop-test .left))
+returns-2 c = c .tail .ensures ∙ sym (c .before .before .loop .inv .1 ∙ verdict-end _ _ _ (c .before .loop-test .left))
 
 pub records-spec : {M : Type 1} → statement M
 records-spec =
     tie.close
-    (tie.spec Inv-loop μ-loop loop-holds (λ c κs. search needs) (λ c κs. search needs) (λ c. search needs) returns (λ c κs. search needs)
-    (λ c κs. search needs) (λ c κs. search needs) (λ c. search needs) (λ c. search needs) loop-again (λ c κs. search needs) returns-2)
+    (tie.spec Inv-loop μ-loop (λ c κs. search needs) loop-holds (λ c κs. search needs) lent-stops lent-cars lent-demands lent-closures
+    record-refusal-requires cast-offset returns kept-stops keep-stops kept-cars keep-cars kept-demands keep-demands kept-closures keep-closures
+    (λ c κs. search needs) next-requires add-at cast-at add-at-2 sub-left loop-less loop-again tail-requires returns-2)

@@ -1,7 +1,9 @@
 -- why::of_ids meets its contract.
 use Rattle.accepted.specs.Accepted.{accepted}
+use Rattle.cells.specs.Ids.{rising-of}
 use Rattle.cells.specs.Begun.{stops-seen}
 use Rattle.layout.specs.Records.{sheetOf, limitOf}
+use Rattle.manifest.specs.Stops.{ascending}
 use Rattle.why.specs.PairLaws.{record-is}
 use Rattle.why.specs.Why.{both-found, no-stop, no-car}
 use borrow.Author.Needs.{needs}
@@ -19,9 +21,15 @@ car-record-requires c κs =
     accepted (a .s .now) (a .c) (c .before .before .before .before .before .before .pre) .small
 
 stop-index-requires : tie.Need-stop-index-requires
+unfolding sheetOf
 stop-index-requires c κs =
     let a = c .before .before .before .before .before .before .before .before .before .args in
-    omega (arith, accepted (a .s .now) (a .c) (c .before .before .before .before .before .before .before .before .before .pre) .small .stops, c .before .before .before .before .before .see-stops .ensures .0 .0)
+    let p = c .before .before .before .before .before .before .before .before .before .pre in
+    let b = a .s .now in
+    let few = accepted b (a .c) p .small .stops in
+    let seen = c .before .before .before .before .before .see-stops .ensures in
+    let stops = stops-seen (sheetOf b (a .c)) _ _ (seen .0 .1) (seen .1 .0 .1) (seen .1 .1) few refl in
+    (omega (arith, few, seen .0 .0), ascending (sheetOf b (a .c)) _ _ (a .c .stops) (stops .stops-held) (rising-of b (a .c) p))
 
 of-records-requires : tie.Need-of-records-requires
 unfolding sheetOf

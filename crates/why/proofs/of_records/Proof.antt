@@ -1,5 +1,6 @@
 -- why::of_records meets its contract.
 use Rattle.accepted.specs.Accepted.{accepted}
+use Rattle.cells.specs.Ids.{rising-of}
 use Rattle.bits.specs.Field.{field-lt}
 use Rattle.layout.specs.Records.{sheetOf, limitOf}
 use Rattle.pending.specs.Masks.{calls-are}
@@ -24,7 +25,7 @@ unfolding sheetOf
 waiting-requires c κs =
     let a = c .before .before .before .before .before .before .before .before .before .before .args in
     let p = c .before .before .before .before .before .before .before .before .before .before .pre in
-    (accepted (a .s .now) (a .c) (p .0 .0) .small, p .0 .3, p .0 .4, p .1 .stops-held, calls-are (sheetOf (a .s .now) (a .c)) (p .1 .masks-are))
+    (accepted (a .s .now) (a .c) (p .0 .0) .small, p .0 .3, p .0 .4, p .1 .stops-held, rising-of (a .s .now) (a .c) (p .0 .0), calls-are (sheetOf (a .s .now) (a .c)) (p .1 .masks-are))
 
 mul-v : tie.Need-mul-v
 mul-v c =

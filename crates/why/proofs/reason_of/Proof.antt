@@ -8,18 +8,18 @@ use Rattle.why.proofs.reason_of.Tie as tie
 
 rank-reason-requires : tie.Need-rank-reason-requires
 rank-reason-requires c κs =
-    let a = c .before .before .before .before .before .before .before .before .before .before .before .before .before .args in
-    omega (arith, against-small (a .row .car) (a .row .goal) (a .row .riders) (a .dests .now) (a .v) (c .before .before .before .before .before .before .has .result) (c .before .before .before .before .before .before .before .point .result .along) (c .before .before .before .before .asks-path .result), c .before .before .before .obstacle .ensures)
+    let a = c .before .before .before .before .before .before .before .before .before .before .before .before .before .before .before .args in
+    omega (arith, against-small (a .row .car) (a .row .goal) (a .row .riders) (a .dests .now) (a .v) (c .before .before .before .before .before .before .before .before .has .result) (c .before .before .before .before .before .before .before .before .before .point .result .along) (c .before .before .before .before .before .before .asks-path .result), c .before .before .before .before .before .obstacle .ensures)
 
 returns : tie.Need-returns
 returns c =
-    let a = c .before .before .before .before .before .before .before .before .before .before .before .before .before .before .before .args in
-    reason-by (a .row) (a .dests .now) (a .sides .now) (a .v) (a .xs .now) (a .n) (a .j) (a .waits) (a .served) (c .before .before .before .before .before .before .before .before .before .point .ensures) (c .before .before .before .before .before .before .before .before .has .ensures)
-    (c .before .before .before .before .before .before .asks-path .ensures) (c .before .before .before .before .before .obstacle .ensures) (c .before .before .before .before .rank .ensures) (c .before .before .before .has2 .ensures)
+    let a = c .before .before .before .before .before .before .before .before .before .before .before .before .before .before .before .before .before .args in
+    reason-by (a .row) (a .dests .now) (a .sides .now) (a .v) (a .xs .now) (a .n) (a .j) (a .waits) (a .served) (c .before .before .before .before .before .before .before .before .before .before .before .point .ensures) (c .before .before .before .before .before .before .before .before .before .before .has .ensures)
+    (c .before .before .before .before .before .before .before .before .asks-path .ensures) (c .before .before .before .before .before .before .before .obstacle .ensures) (c .before .before .before .before .rank .ensures) (c .before .before .before .has2 .ensures)
     (c .before .before .has3 .ensures) (c .before .rank-reason .ensures) (c .first-reason .ensures)
 
 pub reason-of-spec : {M : Type 1} → statement M
 reason-of-spec =
     tie.close
-    (tie.spec (λ c κs. search needs) (λ c κs. search needs) (λ c κs. search needs) (λ c κs. search needs) (λ c κs. search needs) (λ c κs. search needs)
-    (λ c κs. search needs) rank-reason-requires (λ c κs. search needs) returns)
+    (tie.spec (λ c κs. search needs) (λ c κs. search needs) (λ c κs. search needs) (λ c κs. search needs) (λ c κs. search needs) (λ c. search needs)
+    (λ c κs. search needs) (λ c κs. search needs) (λ c κs. search needs) rank-reason-requires (λ c κs. search needs) returns)

@@ -3,39 +3,42 @@ use native.Mathlib.Omega.{arith}
 use Rattle.hungarian.proofs.tree.begin.Statement.{statement}
 use Rattle.hungarian.proofs.tree.begin.Tie as tie
 use Prim.Native.Nat.{ℕ, _+_, _-_, _*_, _≤_, _<_}
-use mathlib.Core.Path.{_≡_, refl, _∙_}
-use lib.ListN.{length, length-set}
+use mathlib.Core.Path.{_≡_, refl, sym, _∙_}
+use mathlib.Core.Logic.{_⊎_, inl, inr, ⊎-elim}
+use lib.ListN.{length, length-set, set}
 use Rattle.alternating_tree.specs.Lists.{at, at-same, at-other, below-set}
 
 abbrev Inv-loop : tie.InvT-loop
-Inv-loop cells cols i w dist₀ from₀ j₀ dist from j =
+Inv-loop cells cols i w dist₀ from₀ best₀ least₀ j₀ dist from best least j =
     (j ≤ cols) × (length dist ≡ 65) × (length from ≡ 65)
     × ((k : ℕ) → k < j → at dist k ≡ at cells (i * cols + k) + at w k)
     × ((k : ℕ) → k < j → at from k ≡ cols)
+    × (((j ≡ 0) × (least ≡ 18446744073709551615)) ⊎ ((best < j) × (least ≡ at dist best)))
+    × ((k : ℕ) → k < j → least ≤ at dist k)
 
 abbrev μ-loop : tie.MeasureT-loop
-μ-loop cells cols i w dist₀ from₀ j₀ dist from j = cols - j
+μ-loop cells cols i w dist₀ from₀ best₀ least₀ j₀ dist from best least j = cols - j
 
 loop-holds : tie.Need-loop-holds Inv-loop μ-loop
-loop-holds c = (omega arith, omega arith, omega arith, (λ k l. absurd (omega arith)), (λ k l. absurd (omega arith)))
+loop-holds c = (omega arith, omega arith, omega arith, (λ k l. absurd (omega arith)), (λ k l. absurd (omega arith)), inl (refl, refl), (λ k l. absurd (omega arith)))
 
 cell-requires : tie.Need-cell-requires Inv-loop μ-loop
 cell-requires c κs = omega arith
 
-mul-dist : tie.Need-mul-dist Inv-loop μ-loop
-mul-dist c = omega arith
+mul-s : tie.Need-mul-s Inv-loop μ-loop
+mul-s c = omega arith
 
-shared-slice-read-dist : tie.Need-shared-slice-read-dist Inv-loop μ-loop
-shared-slice-read-dist c = omega arith
+shared-slice-read-s : tie.Need-shared-slice-read-s Inv-loop μ-loop
+shared-slice-read-s c = omega arith
 
-add-dist : tie.Need-add-dist Inv-loop μ-loop
-add-dist c =
+add-s : tie.Need-add-s Inv-loop μ-loop
+add-s c =
     let a = c .before .before .before in
     let b = c .before .before .before .before .before .before .before .before in
     omega (arith, c .before .cell .ensures, b .pre .1 .1 .0 (b .args .i * b .args .cols + a .loop .j), b .pre .1 .1 .1 (a .loop .j) (omega arith))
 
-mul-dist-2 : tie.Need-mul-dist-2 Inv-loop μ-loop
-mul-dist-2 c = omega arith
+mul-dist : tie.Need-mul-dist Inv-loop μ-loop
+mul-dist c = omega arith
 
 slice-write-dist : tie.Need-slice-write-dist Inv-loop μ-loop
 slice-write-dist c = omega arith
@@ -54,18 +57,43 @@ loop-less c = omega arith
 
 loop-again : tie.Need-loop-again Inv-loop μ-loop
 loop-again c =
-    let a = c .before .before .before in
-    let g = c .before .before .before .before .before .before .before .before .args in (
+    let a = c .before .before .before .before in
+    let b = a .before .before .before .before .before in
+    let g = b .args in
+    let l = a .loop in
+    let lj = c .before .before .before .loop-test .taken in
+    let s = c .before .before .cell .result + at (g .w .now) (l .j) in
+    let here = at-same (l .dist) (l .j) s (omega (arith, l .inv .1, lj, b .pre .1 .0 .0)) in
+    let small : s < 18446744073709551615 = omega (arith, c .before .before .cell .ensures, b .pre .1 .1 .0 (g .i * g .cols + l .j), b .pre .1 .1 .1 (l .j) lj) in
+    let ds = below-set (λ k v. v ≡ at (g .cells .now) (g .i * g .cols + k) + at (g .w .now) k) (l .dist) (l .j) s (omega (arith, l .inv .1, lj, b .pre .1 .0 .0))
+    (l .inv .3) (omega (arith, c .before .before .cell .ensures)) in
+    let fs = below-set (λ k v. v ≡ g .cols) (l .from) (l .j) (g .cols) (omega (arith, l .inv .2, lj, b .pre .1 .0 .0)) (l .inv .4) refl in
+    ⊎-elim
+    (λ x. rw (x .1, x .2) (
       omega arith,
-      simp length-set (a .loop .inv .1),
-      simp length-set (a .loop .inv .2),
-      below-set (λ k v. v ≡ at (g .cells .now) (g .i * g .cols + k) + at (g .w .now) k) (a .loop .dist) (a .loop .j) (c .before .cell .result + at (g .w .now) (a .loop .j))
-          (omega arith) (a .loop .inv .3) (omega (arith, c .before .cell .ensures)),
-      below-set (λ k v. v ≡ g .cols) (a .loop .from) (a .loop .j) (g .cols) (omega arith) (a .loop .inv .4) refl,
-    )
+      simp length-set (l .inv .1),
+      simp length-set (l .inv .2),
+      ds,
+      fs,
+      inr (omega arith, sym here),
+      below-set (λ k v. s ≤ v) (l .dist) (l .j) s (omega (arith, l .inv .1, lj, b .pre .1 .0 .0)) (λ k lk. omega (arith, l .inv .6 k lk, x .0 .taken)) (omega arith),
+    ))
+    (λ x. rw (x .1, x .2) (
+      omega arith,
+      simp length-set (l .inv .1),
+      simp length-set (l .inv .2),
+      ds,
+      fs,
+      ⊎-elim
+          (λ z. absurd (omega (arith, x .0 .left, z .1, small)))
+          (λ z. inr (omega (arith, z .0), z .1 ∙ sym (at-other (l .dist) (l .j) s (l .best) (λ e. omega (arith, z .0)))))
+          (l .inv .5),
+      below-set (λ k v. l .least ≤ v) (l .dist) (l .j) s (omega (arith, l .inv .1, lj, b .pre .1 .0 .0)) (l .inv .6) (omega (arith, x .0 .left)),
+    ))
+    (c .if1 .came)
 
-mul-dist-3 : tie.Need-mul-dist-3 Inv-loop μ-loop
-mul-dist-3 c = omega arith
+mul-dist-2 : tie.Need-mul-dist-2 Inv-loop μ-loop
+mul-dist-2 c = omega arith
 
 slice-write-dist-2 : tie.Need-slice-write-dist-2 Inv-loop μ-loop
 slice-write-dist-2 c = omega arith
@@ -79,12 +107,19 @@ same-length-2 c = omega arith
 returns : tie.Need-returns Inv-loop μ-loop
 returns c =
     let a = c .before in
+    let l = a .loop in
     let g = c .before .before .before .before .before .before .args in
-    record {
-      distances = λ k l. at-other (a .loop .dist) (g .cols) 0 k (λ e. omega arith) ∙ a .loop .inv .3 k (omega arith);
-      froms = λ k l. a .loop .inv .4 k (omega arith);
-      home = at-same (a .loop .dist) (g .cols) 0 (omega arith);
-    }
+    let other : (k : ℕ) → k < g .cols → at (set (l .dist) (g .cols) 0) k ≡ at (l .dist) k = λ k lk. at-other (l .dist) (g .cols) 0 k (λ e. omega arith) in (
+      record {
+        distances = λ k lk. other k lk ∙ l .inv .3 k (omega arith);
+        froms = λ k lk. l .inv .4 k (omega arith);
+        home = at-same (l .dist) (g .cols) 0 (omega arith);
+      },
+      ⊎-elim
+          (λ z. ((λ p. absurd (omega (arith, z .0, p))), (λ k lk. absurd (omega (arith, z .0)))))
+          (λ z. ((λ p. omega (arith, z .0)), (λ k lk. omega (arith, other (l .best) (omega (arith, z .0)), other k lk, z .1, l .inv .6 k (omega arith)))))
+          (l .inv .5),
+    )
 
 pub begin-spec : {M : Type 1} → statement M
 begin-spec =
@@ -94,17 +129,17 @@ begin-spec =
     μ-loop
     loop-holds
     cell-requires
+    mul-s
+    shared-slice-read-s
+    add-s
     mul-dist
-    shared-slice-read-dist
-    add-dist
-    mul-dist-2
     slice-write-dist
     mul-from
     slice-write-from
     add-j
     loop-less
     loop-again
-    mul-dist-3
+    mul-dist-2
     slice-write-dist-2
     same-length
     same-length-2

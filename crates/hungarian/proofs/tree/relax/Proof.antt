@@ -3,28 +3,74 @@ use Rattle.hungarian.proofs.tree.relax.Statement.{statement}
 use Rattle.hungarian.proofs.tree.relax.Tie as tie
 use Prim.Native.Nat.{ℕ, _≤_, _<_, _-_, _+_, _*_}
 use mathlib.Core.Path.{_≡_, refl, sym, ap, _∙_}
-use mathlib.Core.Logic.{⊎-elim}
+use mathlib.Core.Logic.{_⊎_, inl, inr, ⊎-elim}
 use native.Mathlib.Omega.{arith}
 use lib.ListN.{length, length-set, set}
 use Rattle.alternating_tree.specs.Lists.{at, big, at-same, at-other, Lowered}
 use mathlib.Core.List.{List}
 use Rattle.laws.specs.Bools.{same?}
-use mathlib.Core.Logic.{inl, inr}
 
-abbrev Inv-loop : tie.InvT-loop
-Inv-loop cells cols r ur col d w seen dist₀ from₀ j₀ dist from j =
+-- the distances of the columns below j are lowered
+abbrev Lowers : (cells : List ℕ) (cols r ur col d : ℕ) (w seen dist₀ from₀ dist from : List ℕ) (j : ℕ) → Type 0
+Lowers cells cols r ur col d w seen dist₀ from₀ dist from j =
     (j ≤ cols) × (length dist ≡ 65) × (length from ≡ 65)
     × ((k : ℕ) → k < j → 0 < at seen k → (at dist k ≡ at dist₀ k) × (at from k ≡ at from₀ k))
     × ((k : ℕ) → k < j → at seen k ≡ 0 → Lowered col d ur (at cells (r * cols + k)) (at w k) (at dist₀ k) (at from₀ k) (at dist k) (at from k))
     × ((k : ℕ) → j ≤ k → (at dist k ≡ at dist₀ k) × (at from k ≡ at from₀ k))
 
-abbrev μ-loop : tie.MeasureT-loop
-μ-loop cells cols r ur col d w seen dist₀ from₀ j₀ dist from j = cols - j
+-- the nearest outside the tree of the columns below j, if there is one
+abbrev Best : (seen dist : List ℕ) (best least j : ℕ) → Type 0
+Best seen dist best least j =
+    ((least ≡ 18446744073709551615) × ((k : ℕ) → k < j → at seen k ≡ 0 → ⊥))
+    ⊎ ((best < j) × (at seen best ≡ 0) × (least ≡ at dist best) × ((k : ℕ) → k < j → at seen k ≡ 0 → least ≤ at dist k))
 
-module _ (cells : List ℕ) (cols r ur col d : ℕ) (w seen dist₀ from₀ : List ℕ) (j₀ : ℕ) (dist from : List ℕ) (j : ℕ)
-    (iv : Inv-loop cells cols r ur col d w seen dist₀ from₀ j₀ dist from j) (lj : j < cols) (lc : cols ≤ 64) where
+abbrev Inv-loop : tie.InvT-loop
+Inv-loop cells cols r ur col d w seen dist₀ from₀ best₀ least₀ j₀ dist from best least j =
+    Lowers cells cols r ur col d w seen dist₀ from₀ dist from j × Best seen dist best least j
+
+abbrev μ-loop : tie.MeasureT-loop
+μ-loop cells cols r ur col d w seen dist₀ from₀ best₀ least₀ j₀ dist from best least j = cols - j
+
+module _ (seen dist dist′ : List ℕ) (best least j : ℕ) (bs : Best seen dist best least j)
+    (same : (k : ℕ) → k < j → at dist′ k ≡ at dist k) where
+  best-here : at seen j ≡ 0 → at dist′ j < least → Best seen dist′ j (at dist′ j) (j + 1)
+  best-here z lt = inr (
+    omega arith,
+    z,
+    refl,
+    (λ k lk o. ⊎-elim
+        (λ q. rw q (omega arith))
+        (λ ne. ⊎-elim
+        (λ (x : (least ≡ 18446744073709551615) × ((k : ℕ) → k < j → at seen k ≡ 0 → ⊥)). absurd (x .1 k (omega arith) o))
+        (λ x. omega (arith, x .3 k (omega arith) o, same k (omega arith), lt))
+        bs)
+        (same? k j)),
+  )
+
+  best-kept : (at seen j ≡ 0 → (least ≤ at dist′ j) × (at dist′ j < 18446744073709551615)) → Best seen dist′ best least (j + 1)
+  best-kept o = ⊎-elim
+      (λ (x : (least ≡ 18446744073709551615) × ((k : ℕ) → k < j → at seen k ≡ 0 → ⊥)). inl (
+        x .0,
+        (λ k lk z. ⊎-elim
+            (λ q. absurd (let y = o (sym (ap (at seen) q) ∙ z) in omega (arith, x .0, y .0, y .1)))
+            (λ ne. x .1 k (omega arith) z)
+            (same? k j)),
+      ))
+      (λ x. inr (
+        omega (arith, x .0),
+        x .1,
+        x .2 ∙ sym (same best (x .0)),
+        (λ k lk z. ⊎-elim
+            (λ q. rw q (o (sym (ap (at seen) q) ∙ z) .0))
+            (λ ne. omega (arith, x .3 k (omega arith) z, same k (omega arith)))
+            (same? k j)),
+      ))
+      bs
+
+module _ (cells : List ℕ) (cols r ur col d : ℕ) (w seen dist₀ from₀ : List ℕ) (dist from : List ℕ) (j : ℕ)
+    (iv : Lowers cells cols r ur col d w seen dist₀ from₀ dist from j) (lj : j < cols) (lc : cols ≤ 64) where
   step-lower : (s : ℕ) → at seen j ≡ 0 → s + ur ≡ at cells (r * cols + j) + at w j + d → s < at dist j
-      → Inv-loop cells cols r ur col d w seen dist₀ from₀ j₀ (set dist j s) (set from j col) (j + 1)
+      → Lowers cells cols r ur col d w seen dist₀ from₀ (set dist j s) (set from j col) (j + 1)
   step-lower s z e lt = (
     omega arith,
     simp length-set (iv .1),
@@ -42,7 +88,7 @@ module _ (cells : List ℕ) (cols r ur col d : ℕ) (w seen dist₀ from₀ : Li
   )
 
   step-keep : (at seen j ≡ 0 → at dist j + ur ≤ at cells (r * cols + j) + at w j + d)
-      → Inv-loop cells cols r ur col d w seen dist₀ from₀ j₀ dist from (j + 1)
+      → Lowers cells cols r ur col d w seen dist₀ from₀ dist from (j + 1)
   step-keep le = (
     omega arith,
     iv .1,
@@ -57,8 +103,24 @@ module _ (cells : List ℕ) (cols r ur col d : ℕ) (w seen dist₀ from₀ : Li
     (λ k lk. iv .5 k (omega arith)),
   )
 
+  -- the column is lowered or left, and its distance is small
+  lowered : (s : ℕ) (dist′ from′ : List ℕ) → at seen j ≡ 0 → s + ur ≡ at cells (r * cols + j) + at w j + d → s < 18446744073709551615
+      → ((s < at dist j) × (dist′ ≡ set dist j s) × (from′ ≡ set from j col)) ⊎ ((at dist j ≤ s) × (dist′ ≡ dist) × (from′ ≡ from))
+      → Lowers cells cols r ur col d w seen dist₀ from₀ dist′ from′ (j + 1) × ((k : ℕ) → k < j → at dist′ k ≡ at dist k)
+      × (at dist′ j < 18446744073709551615)
+  lowered s dist′ from′ z e small = ⊎-elim
+      (λ x. rw (x .1, x .2) (
+        step-lower s z e (x .0),
+        (λ k lk. at-other dist j s k (λ q. omega arith)),
+        omega (arith, at-same dist j s (omega arith), small),
+      ))
+      (λ x. rw (x .1, x .2) (step-keep (λ o. omega (arith, x .0, e)), (λ k lk. refl), omega (arith, x .0, small)))
+
 loop-holds : tie.Need-loop-holds Inv-loop μ-loop
-loop-holds c = (omega arith, omega arith, omega arith, (λ k l. absurd (omega arith)), (λ k l. absurd (omega arith)), (λ k l. (refl, refl)))
+loop-holds c = (
+  (omega arith, omega arith, omega arith, (λ k l. absurd (omega arith)), (λ k l. absurd (omega arith)), (λ k l. (refl, refl))),
+  inl (refl, (λ k l. absurd (omega arith))),
+)
 
 mul-if1 : tie.Need-mul-if1 Inv-loop μ-loop
 mul-if1 c = omega arith
@@ -81,8 +143,8 @@ module _ (c : tie.After-shared-slice-known5 Inv-loop μ-loop) where
   parts =
       let a = c .before .before .before .before .before in
       let s = c .before .before .before .before .before .before .before .before .before .before .before in
-      let p = s .pre .1 .1 .1 (a .loop .j) (omega arith) in
-      (omega (arith, c .before .cell .ensures, s .pre .1 .1 .0 (s .args .r * s .args .cols + a .loop .j)), p .0, omega (arith, c .before .cell .ensures, p .1 (c .before .before .if1 .taken)))
+      let p = s .pre .1 .1 .1 .1 (a .loop .j) (omega arith) in
+      (omega (arith, c .before .cell .ensures, s .pre .1 .1 .1 .0 (s .args .r * s .args .cols + a .loop .j)), p .0, omega (arith, c .before .cell .ensures, p .1 (c .before .before .if1 .taken)))
 
 add-s : tie.Need-add-s Inv-loop μ-loop
 add-s c = omega (arith, parts c)
@@ -111,6 +173,19 @@ mul-from c = omega arith
 slice-write-from : tie.Need-slice-write-from Inv-loop μ-loop
 slice-write-from c = omega arith
 
+mul-k : tie.Need-mul-k Inv-loop μ-loop
+mul-k c = omega arith
+
+slice-read-k : tie.Need-slice-read-k Inv-loop μ-loop
+slice-read-k c =
+    let a = c .before .before .before .before .before .before .before .before in
+    let lj = c .before .before .before .before .before .before .before .loop-test .taken in
+    let lc = a .before .before .before .before .before .before .pre .1 .0 .0 in
+    ⊎-elim
+    (λ x. rw (x .1) (simp length-set (omega (arith, a .loop .inv .0 .1, lj, lc))))
+    (λ x. rw (x .1) (omega (arith, a .loop .inv .0 .1, lj, lc)))
+    (c .before .if2 .came)
+
 add-j : tie.Need-add-j Inv-loop μ-loop
 add-j c = omega arith
 
@@ -122,25 +197,38 @@ loop-again c =
     let a = c .before .before .before in
     let b = a .before .before .before .before .before .before in
     let g = b .args in
+    let l = a .loop in
     let lc = b .pre .1 .0 .0 in
     let lj = c .before .before .loop-test .taken in
-    let pj = b .pre .1 .1 .1 (a .loop .j) (omega arith) in
+    let pj = b .pre .1 .1 .1 .1 (l .j) (omega arith) in
+    let small = b .pre .1 .1 .1 .0 (g .r * g .cols + l .j) in
     ⊎-elim
     (λ x.
-    rw (x .5, x .6)
-    (step-lower (g .cells .now) (g .cols) (g .r) (g .ur) (g .col) (g .d) (g .w .now) (g .seen .now) (g .dist .now) (g .from .now) 0
-    (a .loop .dist) (a .loop .from) (a .loop .j) (a .loop .inv) lj lc (x .1 .result + at (g .w .now) (a .loop .j) - g .ur + g .d) (x .0 .taken)
-    (omega (arith, x .1 .ensures, pj .1 (x .0 .taken))) (x .4 .taken)))
-    (λ y. ⊎-elim
+    let s = x .1 .result + at (g .w .now) (l .j) - g .ur + g .d in
+    let z = x .0 .taken in
+    let y = lowered (g .cells .now) (g .cols) (g .r) (g .ur) (g .col) (g .d) (g .w .now) (g .seen .now) (g .dist .now) (g .from .now) (l .dist) (l .from)
+    (l .j) (l .inv .0) lj lc s (x .4 .dist) (x .4 .from) z (omega (arith, x .1 .ensures, pj .1 z))
+    (omega (arith, x .1 .ensures, pj .0, small, b .pre .1 .0 .2))
+    (⊎-elim (λ o. inl (o .0 .taken, o .1, o .2)) (λ o. inr (o .0 .left, o .1, o .2)) (x .4 .came)) in
+    rw (x .7, x .8, x .9, x .10)
+    (y .0, best-here (g .seen .now) (l .dist) (x .4 .dist) (l .best) (l .least) (l .j) (l .inv .1) (y .1) z (x .6 .taken)))
+    (λ v. ⊎-elim
     (λ x.
-    rw (x .5, x .6)
-    (step-keep (g .cells .now) (g .cols) (g .r) (g .ur) (g .col) (g .d) (g .w .now) (g .seen .now) (g .dist .now) (g .from .now) 0
-    (a .loop .dist) (a .loop .from) (a .loop .j) (a .loop .inv) lj lc (λ z. omega (arith, x .1 .ensures, x .4 .left, pj .1 z))))
+    let s = x .1 .result + at (g .w .now) (l .j) - g .ur + g .d in
+    let z = x .0 .taken in
+    let y = lowered (g .cells .now) (g .cols) (g .r) (g .ur) (g .col) (g .d) (g .w .now) (g .seen .now) (g .dist .now) (g .from .now) (l .dist) (l .from)
+    (l .j) (l .inv .0) lj lc s (x .4 .dist) (x .4 .from) z (omega (arith, x .1 .ensures, pj .1 z))
+    (omega (arith, x .1 .ensures, pj .0, small, b .pre .1 .0 .2))
+    (⊎-elim (λ o. inl (o .0 .taken, o .1, o .2)) (λ o. inr (o .0 .left, o .1, o .2)) (x .4 .came)) in
+    rw (x .7, x .8, x .9, x .10)
+    (y .0, best-kept (g .seen .now) (l .dist) (x .4 .dist) (l .best) (l .least) (l .j) (l .inv .1) (y .1) (λ o. (x .6 .left, y .2))))
     (λ x.
-    rw (x .1, x .2)
-    (step-keep (g .cells .now) (g .cols) (g .r) (g .ur) (g .col) (g .d) (g .w .now) (g .seen .now) (g .dist .now) (g .from .now) 0
-    (a .loop .dist) (a .loop .from) (a .loop .j) (a .loop .inv) lj lc (λ z. absurd (x .0 .left z))))
-    y)
+    rw (x .1, x .2, x .3, x .4) (
+      step-keep (g .cells .now) (g .cols) (g .r) (g .ur) (g .col) (g .d) (g .w .now) (g .seen .now) (g .dist .now) (g .from .now)
+          (l .dist) (l .from) (l .j) (l .inv .0) lj lc (λ z. absurd (x .0 .left z)),
+      best-kept (g .seen .now) (l .dist) (l .dist) (l .best) (l .least) (l .j) (l .inv .1) (λ k lk. refl) (λ z. absurd (x .0 .left z)),
+    ))
+    v)
     (c .if1 .came)
 
 same-length : tie.Need-same-length Inv-loop μ-loop
@@ -151,12 +239,19 @@ same-length-2 c = omega arith
 
 returns : tie.Need-returns Inv-loop μ-loop
 returns c =
-    let a = c .before in
-    record {
-      kept = λ k l. a .loop .inv .3 k (omega arith);
-      lowered = λ k l. a .loop .inv .4 k (omega arith);
-      stand = a .loop .inv .5 (c .before .before .before .before .before .before .before .args .cols) (omega arith) .0;
-    }
+    let l = c .before .loop in
+    let b = c .before .before .before .before .before .before .before in
+    let f = b .pre .1 .1 .0 in (
+      record {
+        kept = λ k lk. l .inv .0 .3 k (omega arith);
+        lowered = λ k lk. l .inv .0 .4 k (omega arith);
+        stand = l .inv .0 .5 (b .args .cols) (omega arith) .0;
+      },
+      ⊎-elim
+          (λ x. absurd (x .1 (f .0) (omega (arith, f .1)) (f .2)))
+          (λ x. record { below = omega (arith, x .0); outside = x .1; least = λ k lk z. omega (arith, x .2, x .3 k (omega arith) z) })
+          (l .inv .1),
+    )
 
 pub relax-spec : {M : Type 1} → statement M
 relax-spec =
@@ -179,6 +274,8 @@ relax-spec =
     slice-write-dist
     mul-from
     slice-write-from
+    mul-k
+    slice-read-k
     add-j
     loop-less
     loop-again
