@@ -12,7 +12,7 @@ use lib.Bits.{bitAnd, bitOr, and-step, or-step, and-zero-l, or-zero-l}
 use lib.Count.{ones, ones-step}
 use lib.Pow.{shr-shr, pow-mono, pow-add, pow-pos, shl-lt, low}
 use borrow.Author.Tests.{eq-eqb, ne-eqb, le-leb, lt-leb, leb-true}
-use Rattle.laws.specs.Bools.{bit, bit-lt, which, same?, both, both-left, both-right, not-both, same-test, bit-and, bit-or, bit-not, bit-inj}
+use Rattle.laws.specs.Bools.{bit, bit-lt, which, same?, less?, both, both-left, both-right, not-both, same-test, bit-and, bit-or, bit-not, bit-inj}
 use Rattle.laws.specs.Folds.{count, any, any-some, any-none, none-any, any-at}
 use Rattle.mask.specs.Mask.{has, built, pastStops}
 
@@ -223,6 +223,9 @@ past-shift m n h l =
 pub past-all : (m n : ℕ) → 64 ≤ n → pastStops m n ≡ false
 unfolding pastStops
 past-all m n h = none-any (λ j. leb n j && has m j) 64 (λ j l. rw (lt-leb n j (omega arith)))
+
+pub past-some : (m n : ℕ) {past : Bool} → past ≡ pastStops m n → past ≡ true → n < 64
+past-some m n e t = ⊎-elim (λ (l : n < 64). l) (λ (l : 64 ≤ n). absurd (not-both (sym e ∙ t) (past-all m n l))) (less? n 64)
 
 -- a mask with no stop past the first n has none there
 pub past-none : (m n j : ℕ) → pastStops m n ≡ false → n ≤ j → j < 64 → has m j ≡ false

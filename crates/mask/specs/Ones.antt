@@ -1,14 +1,17 @@
 -- The places of a mask's ones, listed. Assumes nothing.
-use Prim.Native.Nat.{ℕ, _+_, _≤_, _<_}
+use Prim.Native.Nat.{ℕ, zero, suc, _+_, _-_, _≤_, _<_}
 use mathlib.Core.Path.{_≡_, refl, sym, ap, _∙_}
 use mathlib.Core.Bool.{true, false}
 use mathlib.Core.List.{List, _++_}
+use native.Mathlib.Nat.{add-zero, add-suc}
+use native.Mathlib.Numerals.{add-one}
 use native.Mathlib.Omega.{arith}
 use lib.ListN.{length, getD, drop, replicate, length-replicate, set, length-set}
 use Rattle.laws.specs.Folds.{count, count-le, count-yes, count-no, nth}
 use Rattle.laws.specs.Tables.{filtered, filtered-take, filtered-skip, getD-filtered}
 use Rattle.mask.specs.declared.Ones.{Ones}
-use Rattle.mask.specs.Mask.{has}
+use Rattle.mask.specs.Mask.{has, pastStops}
+use Rattle.mask.specs.MaskLaws.{past-none}
 
 -- the places of the ones in order, then zeros, and how many they are
 unfoldable pub onesOf : ℕ → Ones
@@ -58,6 +61,16 @@ listing-skip mask j m now l lj t =
       held = filtered-skip (has mask) j m (replicate 64 0) now t (l .held);
     }
 
-pub listing-end : (mask m : ℕ) (now : List ℕ) → Listing mask 64 m now → record { at = now; count = m } ≡ onesOf mask
+-- past the last one nothing is added
+rest : (mask j m : ℕ) (now : List ℕ) → ((k : ℕ) → j ≤ k → k < 64 → has mask k ≡ false) → Listing mask j m now → (k : ℕ) → j + k ≤ 64
+    → Listing mask (j + k) m now
+rest mask j m now none l zero fits = rw (add-zero j) l
+rest mask j m now none l (suc k) fits =
+    rw (add-suc j k, ← add-one (j + k)) (listing-skip mask (j + k) m now (rest mask j m now none l k (omega arith)) (omega arith) (none (j + k) (omega arith) (omega arith)))
+
+pub listing-end : (mask j m : ℕ) (now : List ℕ) → Listing mask j m now → pastStops mask j ≡ false → record { at = now; count = m } ≡ onesOf mask
 unfolding onesOf
-listing-end mask m now l = rw (l .held, l .counted)
+listing-end mask j m now l e =
+    let whole : j + (64 - j) ≡ 64 = omega (arith, l .below) in
+    let all : Listing mask 64 m now = rw whole at (rest mask j m now (λ k a b. past-none mask j k e a b) l (64 - j) (omega (arith, l .below))) in
+    rw (all .held, all .counted)

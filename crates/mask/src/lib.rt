@@ -45,6 +45,14 @@ pub fn with(mask: u64, j: usize) -> u64
     mask | (1 << (63 - j))
 }
 
+// The mask with stop j where b holds: how a loop over the first stops builds a mask.
+pub fn with_if(mask: u64, b: bool, j: usize) -> u64
+    requires { ⌜ j < 64 ⌝ }
+    ensures { λ r. ⌜ r ≡ built (λ k. has mask k || (b && eqb k j)) 64 ⌝ }
+{
+    if b { with(mask, j) } else { mask }
+}
+
 // One digit more at the low end: how a loop over the stops builds a mask.
 pub fn pushed(mask: u64, b: bool) -> u64
     requires { ⌜ mask < 2 ^ 63 ⌝ }
@@ -73,14 +81,14 @@ pub struct Ones {
     pub count: usize,
 }
 
-// The ones of a mask, listed.
+// The ones of a mask, listed; past the last one nothing is looked at.
 pub fn list_ones(mask: u64) -> Ones
     ensures { λ r. ⌜ r ≡ onesOf mask ⌝ }
 {
     let mut at = [0usize; 64];
     let mut count: usize = 0;
     let mut j: usize = 0;
-    while j < 64 {
+    while past_stops(mask, j) {
         if has(mask, j) {
             at[count] = j;
             count += 1;
