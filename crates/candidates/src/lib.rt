@@ -102,8 +102,8 @@ fn cut_stops(viable: u64, ds: &[f64], limit: u32) -> u64
     let e = reach(viable);
     let mut m: u64 = 0;
     let mut j: usize = 0;
-    while j < 64 {
-        m = mask::pushed(m, is_kept(viable, ds, limit, j, e));
+    while mask::past_stops(viable, j) {
+        m = mask::with_if(m, is_kept(viable, ds, limit, j, e), j);
         j += 1;
     }
     m

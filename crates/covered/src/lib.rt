@@ -131,25 +131,23 @@ fn covered_mask<'a>(
 {
     let mut m: u64 = 0;
     let mut j: usize = 0;
-    while j < 64 {
-        m = mask::pushed(
-            m,
-            covered_at(
-                targets,
-                lines,
-                rooms,
-                n,
-                ids,
-                nl,
-                stops,
-                required,
-                weights,
-                nw,
-                asked,
-                j,
-                names[j],
-            ),
+    while mask::past_stops(asked, j) {
+        let covered = covered_at(
+            targets,
+            lines,
+            rooms,
+            n,
+            ids,
+            nl,
+            stops,
+            required,
+            weights,
+            nw,
+            asked,
+            j,
+            names[j],
         );
+        m = mask::with_if(m, covered, j);
         j += 1;
     }
     m
