@@ -1,8 +1,12 @@
-// The car records of a sheet, decoded once into an array that a pass lends.
+// The idle cars of a sheet, decoded four at a time into an array that a pass lends.
 ghost use mathlib.Core.Path.{_≡_};
+ghost use mathlib.Core.Bool.{cond};
+ghost use Prim.Native.Nat.{ℕ, _<_, _≤_, _%_, min};
+ghost use lib.Dec.{eqb};
+ghost use lib.ListN.{getD};
 ghost use Rattle.layout.specs.Offsets.{Small};
 ghost use Rattle.layout.specs.Records.{sheetOf};
-ghost use Rattle.cars.specs.Cars.{blank, carsIn};
+ghost use Rattle.cars.specs.Cars.{blank, fourOf};
 use components::Car;
 use components::Direction;
 use components::Mode;
@@ -10,9 +14,10 @@ use components::Phase;
 use components::Point;
 use components::Threshold;
 use layout::Counts;
+use mask::Ones;
 
-// What stands where there is no record.
-fn blank() -> Car
+// What stands where there is no car.
+pub fn blank() -> Car
     ensures { λ r. ⌜ r ≡ blank ⌝ }
 {
     Car {
@@ -41,17 +46,37 @@ fn blank() -> Car
     }
 }
 
-// The cars of a sheet, in record order, then blank ones.
-pub fn cars_of(s: &[u8], c: Counts) -> [Car; 32]
-    requires { ⌜ Small c ⌝ }
-    ensures { λ r. ⌜ r ≡ carsIn (sheetOf (now (s .entry)) c) ⌝ }
+// At most four.
+fn few(n: usize) -> usize
+    ensures { λ r. ⌜ r ≡ min n 4 ⌝ }
 {
-    let mut cars = [blank(); 32];
-    let n = c.cars;
-    let mut i: u32 = 0;
-    while i < n {
-        cars[i as usize] = sheet::car_at(s, c, i);
-        i += 1;
+    if n < 4 { n } else { 4 }
+}
+
+// The listed cars from one on, at most four, then blank ones.
+fn four_of(s: &[u8], c: Counts, idle: Ones, first: usize) -> [Car; 4]
+    requires { ⌜ Small c × (idle .count ≤ 64) × (first ≤ idle .count) × ((k : ℕ) → k < idle .count → getD (idle .at) k 0 < c .cars) ⌝ }
+    ensures { λ r. ⌜ r ≡ fourOf (sheetOf (now (s .entry)) c) idle first ⌝ }
+{
+    let mut cars = [blank(); 4];
+    let n = few(idle.count - first);
+    let mut k: usize = 0;
+    while k < n {
+        let i = idle.at[first + k];
+        cars[k] = sheet::car_at(s, c, i as u32);
+        k += 1;
     }
     cars
+}
+
+// The four of which the listed car r is one: at every fourth car they are decoded, at the others they are at hand.
+pub fn four_at(s: &[u8], c: Counts, idle: Ones, r: usize, cars: [Car; 4]) -> [Car; 4]
+    requires { ⌜ Small c × (idle .count ≤ 64) × (r ≤ idle .count) × ((k : ℕ) → k < idle .count → getD (idle .at) k 0 < c .cars) ⌝ }
+    ensures { λ a. ⌜ a ≡ cond (eqb (r % 4) 0) (fourOf (sheetOf (now (s .entry)) c) idle r) cars ⌝ }
+{
+    if r % 4 == 0 {
+        four_of(s, c, idle, r)
+    } else {
+        cars
+    }
 }

@@ -40,9 +40,11 @@ cellBy row dests sides v xs n j = cond (has (row .kept) j) (rankCell (rankBy row
 unfoldable pub heldBy : Row → List Float → List Float → Waiters → List Float → ℕ → ℕ → Bool
 heldBy row dests sides v xs n j = has (row .kept) j && rankHeld (rankBy row dests sides v xs n j)
 
--- a mask of pending stops that is not empty
-unfoldable pub sweepBy : Strategy → Car → ℕ → ℕ → List Float → ℕ → Sweep
-sweepBy strategy car pending demand xs n =
-    byStrategy strategy (sweepOf car) (sweepOf car)
-    (cond (car .listed && not (eqb pending 0)) (preparedBy (sweepOf car) (car .position .along) demand xs n) (sweepOf car))
-    (sweepOf car)
+-- the sweep after the pass of a car at a coordinate, by its sweep and whether it is idle-listed; the pending stops are those of a mask
+unfoldable pub sweepFrom : Strategy → Sweep → Bool → Float → ℕ → ℕ → List Float → ℕ → Sweep
+sweepFrom strategy sweep listed along pending demand xs n =
+    byStrategy strategy sweep sweep (cond (listed && not (eqb pending 0)) (preparedBy sweep along demand xs n) sweep) sweep
+
+-- that of a car
+abbrev pub sweepBy : Strategy → Car → ℕ → ℕ → List Float → ℕ → Sweep
+sweepBy strategy car = sweepFrom strategy (sweepOf car) (car .listed) (car .position .along)

@@ -28,7 +28,7 @@ use Rattle.assignment.specs.Pending.{idle, pendingStops}
 use Rattle.assignment.specs.Candidates.{kept}
 use Rattle.assignment.specs.Cells.{byStrategy, sweepAfter, rank, cell, heldCell}
 use Rattle.ranking.specs.declared.Row.{Row}
-use Rattle.ranking.specs.Ranking.{scanBy, rankBy, cellBy, heldBy, sweepBy}
+use Rattle.ranking.specs.Ranking.{scanBy, rankBy, cellBy, heldBy, sweepFrom, sweepBy}
 use Rattle.sweep.specs.Sweeps.{sweepOf}
 
 -- a row holds car i's part of the sheet, under a limit
@@ -100,7 +100,7 @@ module _ (s : Sheet) (ids : List ℕ) (xs : List Float) (hs : HoldsStops s ids x
 pub sweep-is : (s : Sheet) (ids : List ℕ) (xs : List Float) (pending demand : ℕ) → HoldsStops s ids xs (s .stops)
     → HoldsDemand s demand (s .stops)
     → not (eqb pending 0) ≡ ltb 0 (pendingStops s) → (i : ℕ) → sweepBy (s .policy .strategy) (s .car i) pending demand xs (s .stops) ≡ sweepAfter s i
-unfolding sweepBy sweepAfter idle
+unfolding sweepFrom sweepAfter idle
 sweep-is s ids xs pending demand hs hd e i =
     by-parts (s .policy .strategy) (sweepOf (s .car i)) (sweepOf (s .car i)) (sweepOf (s .car i))
     (cond (idle s i && ltb 0 (pendingStops s)) (preparedSweep s i) (sweepOf (s .car i)))

@@ -4,7 +4,7 @@ ghost use Prim.Native.Nat.{_+_, _<_, _≤_};
 ghost use lib.ListN.{length};
 ghost use Rattle.assignment.specs.Cells.{rankCell, rankHeld};
 ghost use Rattle.etd.specs.Pairs.{demandPlaces};
-ghost use Rattle.ranking.specs.Ranking.{scanBy, rankBy, cellBy, heldBy, sweepBy};
+ghost use Rattle.ranking.specs.Ranking.{scanBy, rankBy, cellBy, heldBy, sweepFrom};
 use components::Car;
 use components::Place;
 use components::Policy;
@@ -115,25 +115,26 @@ pub fn cell<'a>(
     }
 }
 
-// The car's sweep after the pass: prepare_car under SCAN, for an idle car and with a pending stop.
+// A car's sweep after the pass: prepare_car under SCAN, for an idle car and with a pending stop.
 pub fn sweep_after(
     strategy: Strategy,
-    car: Car,
+    sweep: Sweep,
+    listed: bool,
+    along: f64,
     pending: u64,
     demand: u64,
     xs: &[f64],
     n: usize,
 ) -> Sweep
     requires { ⌜ (n ≤ 64) × (n ≤ length (now xs)) ⌝ }
-    ensures { λ r. ⌜ r ≡ sweepBy strategy car pending demand (now (xs .entry)) n ⌝ }
+    ensures { λ r. ⌜ r ≡ sweepFrom strategy sweep listed along pending demand (now (xs .entry)) n ⌝ }
 {
-    let sweep = Sweep::of(car);
     match strategy {
         Strategy::Etd => sweep,
         Strategy::Rsr => sweep,
         Strategy::Scan => {
-            if car.listed & (pending != 0) {
-                scan::prepare(sweep, car.position.along, demand, xs, n)
+            if listed & (pending != 0) {
+                scan::prepare(sweep, along, demand, xs, n)
             } else {
                 sweep
             }

@@ -22,10 +22,11 @@ use Rattle.components.specs.declared.Car.{Car}
 use Rattle.components.specs.Sheet.{Sheet}
 use Rattle.components.specs.declared.Place.{Place}
 use Rattle.components.specs.declared.Policy.{Policy}
+use Rattle.components.specs.declared.Strategy.the-variants.{Etd}
+use Rattle.etd.specs.Halts.{HoldsCounts}
 use Rattle.layout.specs.declared.Counts.{Counts}
 use Rattle.layout.specs.Offsets.{Small}
 use Rattle.layout.specs.Records.{sheetOf}
-use Rattle.cars.specs.Cars.{noCar, HoldsCars}
 use Rattle.manifest.specs.World.{goalOf}
 use Rattle.manifest.specs.declared.Waiters.{Waiters}
 use Rattle.manifest.specs.Stops.{HoldsStops, sidesOf, positionIn}
@@ -227,8 +228,8 @@ module _ (s : Sheet) (ids : List ℕ) (xs : List Float) (acar adest : List ℕ) 
       (rw e (h .weighed i l)) row dests sides
       (rw e hr) waiters (h .waiting)
 
--- what the row of a car needs, in a buffer of some cells
-pub record CarNeeds (b : List ℕ) (c : Counts) (ids : List ℕ) (xs : List Float) (acar adest : List ℕ) (masks : StopMasks) (waiters : List Waiters)
+-- what rows need, each in a buffer of some cells
+pub record RowsNeed (b : List ℕ) (c : Counts) (ids : List ℕ) (xs : List Float) (acar adest : List ℕ) (masks : StopMasks) (waiters : List Waiters)
     (stops : Ones) (cells : ℕ) : Type 0 where
   pub small : Small c
   pub ids-size : length ids ≡ 64
@@ -237,6 +238,13 @@ pub record CarNeeds (b : List ℕ) (c : Counts) (ids : List ℕ) (xs : List Floa
   pub adest-size : length adest ≡ 512
   pub fits : stops .count ≤ cells
   pub ready : Ready (sheetOf b c) ids xs acar adest masks waiters stops
+
+-- what the row of a car needs: these, the policy, and under ETD the counts of the stops
+pub record CarNeeds (b : List ℕ) (c : Counts) (policy : Policy) (ids : List ℕ) (xs : List Float) (acar adest : List ℕ) (masks : StopMasks)
+    (waiters : List Waiters) (stops : Ones) (table : List ℕ) (cells : ℕ) : Type 0 where
+  pub rows : RowsNeed b c ids xs acar adest masks waiters stops cells
+  pub policy-is : policy ≡ sheetOf b c .policy
+  pub counted : policy .strategy ≡ Etd → HoldsCounts (masks .demand) xs (c .stops) table
 
 -- a coordinate of the known destinations of a car's riders, in a buffer
 unfoldable pub destsFor : Sheet → List ℕ → List Float → List ℕ → List ℕ → Car → List Float → List Float
@@ -255,15 +263,13 @@ pub record FilledCar (s : Sheet) (ids : List ℕ) (xs : List Float) (acar adest 
   pub held-cells : counted .held ≡ count (rowHeld (rowFor s ids xs acar adest masks limit car) (destsFor s ids xs acar adest car buffer)
       (destsFor s ids (sidesOf xs) acar adest car aside) waiters xs (s .stops) stops) (stops .count)
 
--- the row of car i of a list that holds the sheet's cars
+-- the row of a car that is record i
 pub filled-at : (s : Sheet) (ids : List ℕ) (xs : List Float) (acar adest : List ℕ) (masks : StopMasks) (waiters : List Waiters) (stops : Ones)
-    → Ready s ids xs acar adest masks waiters stops → (limit i n : ℕ) (counted : Counted) (cars : List Car) (exit : List ℕ) → HoldsCars s cars
-    → i < s .cars → FilledCar s ids xs acar adest masks waiters stops limit (getD cars i noCar) n counted exit
+    → Ready s ids xs acar adest masks waiters stops → (limit i n : ℕ) (counted : Counted) (car : Car) (exit : List ℕ) → car ≡ s .car i
+    → i < s .cars → FilledCar s ids xs acar adest masks waiters stops limit car n counted exit
     → FilledRow s limit i n (counted .held) exit × (counted .ranked ≡ keptNumber s limit i)
 unfolding destsFor keptNumber rowFor
-filled-at s ids xs acar adest masks waiters stops h limit i n counted cars exit hc l f =
-    let e = hc .each i l in
-    let car = getD cars i noCar in
+filled-at s ids xs acar adest masks waiters stops h limit i n counted car exit e l f =
     let row = row-of s ids xs acar adest masks (h .held) limit car (rowFor s ids xs acar adest masks limit car) (f .buffer)
     (f .aside) refl refl refl in (
       record {

@@ -1,6 +1,6 @@
 -- A row of the matrix, from what the code holds. Assumes nothing.
 use Prim.Native.Nat.{ℕ, _+_, _≤_, _<_}
-use mathlib.Core.Path.{_≡_, sym, ap, _∙_}
+use mathlib.Core.Path.{_≡_, refl, sym, ap, _∙_}
 use mathlib.Core.Bool.{Bool, true, false, cond}
 use mathlib.Core.List.{List, _++_}
 use mathlib.Core.Logic.{⊎-elim}
@@ -11,12 +11,17 @@ use lib.Seq.{getD-set-same, getD-set-other, ext-getD}
 use lib.Ieee.{Float, nan}
 use borrow.Author.Tests.{lt-ltb, le-ltb}
 use Rattle.laws.specs.Bools.{same?, less?}
-use Rattle.laws.specs.Tables.{tab, length-tab, getD-tab, getD-tab₀}
+use Rattle.laws.specs.Tables.{tab, tab-length, length-tab, getD-tab, getD-tab₀}
 use Rattle.mask.specs.declared.Ones.{Ones}
 use Rattle.scale.specs.Scale.{sentinel}
 use Rattle.manifest.specs.declared.Waiters.{Waiters}
 use Rattle.ranking.specs.declared.Row.{Row}
-use Rattle.ranking.specs.Ranking.{cellBy, heldBy}
+use Rattle.ranking.specs.Ranking.{cellBy, heldBy, HoldsHalts}
+use Rattle.components.specs.declared.Strategy.{Strategy}
+use Rattle.components.specs.declared.Strategy.the-variants.{Etd, Rsr, Scan, Unknown}
+use Rattle.assignment.specs.Cells.{byStrategy}
+use Rattle.etd.specs.Pairs.{haltsAt}
+use Rattle.etd.specs.Halts.{stopCounts, HoldsCounts, counts-held}
 
 -- what is read past the last stop
 abbrev pub noWaiters : Waiters
@@ -29,6 +34,42 @@ rowCell row dests sides waiters xs n stops k = cellBy row dests sides (getD wait
 -- whether it is held
 unfoldable pub rowHeld : Row → List Float → List Float → List Waiters → List Float → ℕ → Ones → ℕ → Bool
 rowHeld row dests sides waiters xs n stops k = heldBy row dests sides (getD waiters (getD (stops .at) k 0) noWaiters) xs n (getD (stops .at) k 0)
+
+-- ---- what ETD asks for, in buffers that no other strategy writes to
+
+-- the counts of the stops
+unfoldable pub tableFor : Strategy → ℕ → List Float → ℕ → List ℕ → List ℕ
+tableFor strategy demand xs n entry = byStrategy strategy (tab (stopCounts demand xs n) n ++ drop n entry) entry entry entry
+
+-- the demand stops between a car at x and each stop
+unfoldable pub haltsFor : Strategy → Float → ℕ → List Float → ℕ → List ℕ → List ℕ
+haltsFor strategy x demand xs n entry = byStrategy strategy (tab (haltsAt x demand xs n) n ++ drop n entry) entry entry entry
+
+pub table-held : (strategy : Strategy) (demand : ℕ) (xs : List Float) (n : ℕ) (entry : List ℕ) {exit : List ℕ} → n ≤ length entry
+    → exit ≡ tableFor strategy demand xs n entry → strategy ≡ Etd → HoldsCounts demand xs n exit
+unfolding tableFor
+table-held strategy demand xs n entry {exit} room e is = counts-held demand xs n entry exit room (e ∙ rw is refl)
+
+pub halts-size : (strategy : Strategy) (x : Float) (demand : ℕ) (xs : List Float) (n : ℕ) (entry : List ℕ) {exit : List ℕ} → n ≤ length entry
+    → exit ≡ haltsFor strategy x demand xs n entry → length exit ≡ length entry
+unfolding haltsFor
+halts-size Etd x demand xs n entry {exit} room e = tab-length (haltsAt x demand xs n) n entry exit room e
+halts-size Rsr x demand xs n entry room e = ap length e
+halts-size Scan x demand xs n entry room e = ap length e
+halts-size Unknown x demand xs n entry room e = ap length e
+
+pub halts-held : (row : Row) (x : Float) (demand : ℕ) (xs : List Float) (n : ℕ) (entry : List ℕ) {exit : List ℕ} → n ≤ length entry
+    → row .car .position .along ≡ x → row .demand ≡ demand
+    → exit ≡ haltsFor (row .policy .strategy) x demand xs n entry → HoldsHalts row xs n exit
+unfolding haltsFor
+halts-held row x demand xs n entry {exit} room ex ed e =
+    record {
+      size = omega (arith, halts-size (row .policy .strategy) x demand xs n entry room e);
+      at = λ is j l.
+          ap (λ (t : List ℕ). getD t j 0) (e ∙ rw is refl)
+          ∙ getD-tab (haltsAt x demand xs n) n j (drop n entry) 0 l
+          ∙ rw (ex, ed) refl;
+    }
 
 -- ---- spare cells
 
