@@ -27,7 +27,7 @@ use Rattle.riders.specs.declared.Riders.{Riders}
 use Rattle.dispatch.specs.WaitersLaws.{HoldsWaiters, Weighed}
 use Rattle.dispatch.specs.RidersLaws.{HoldsRiders, isAt, standsAt, boundFor, ridesTo, useful-is}
 use Rattle.etd.specs.Etd.{intervenes, extraDelay, addDelay, travelTime, interveningStops, riderDelay, computeCost, etdTerms, etdRank}
-use Rattle.etd.specs.Pairs.{interveningIn, delayIn, costBy, fairCostBy, termsBy, rankBy}
+use Rattle.etd.specs.Pairs.{interveningIn, haltsAt, delayIn, costBy, fairCostBy, termsBy, rankBy}
 
 -- an entry of what is collected, and a part g of it: one index more
 module _ {A B : Type 0} (p : ℕ → Bool) (f : ℕ → A) (g : A → B) (n k : ℕ) (d : A) (e : B)
@@ -56,11 +56,13 @@ unfolding collected count
 collected-map p f g zero k d e r q l = absurd (omega arith)
 collected-map p f g (suc n) k d e r q l = one-more p f g n k d e (λ r q m. collected-map p f g n k d e r q m) (p n) r q l
 
-module _ (s : Sheet) (ids : List ℕ) (xs : List Float) (n demand : ℕ) (hs : HoldsStops s ids xs n) (hd : HoldsDemand s demand n) (i j : ℕ) where
-  intervening-is : interveningIn (s .car i .position .along) (stopAt s j .along) demand xs n ≡ interveningStops s i j
-  unfolding interveningIn interveningStops
-  intervening-is =
-      count-cong (λ k. has demand k && intervenes (s .car i .position .along) (stopAt s j .along) (getD xs k nan))
+module _ (s : Sheet) (ids : List ℕ) (xs : List Float) (n demand : ℕ) (hs : HoldsStops s ids xs n) (hd : HoldsDemand s demand n) (i j : ℕ)
+    (l : j < n) where
+  halts-are : haltsAt (s .car i .position .along) demand xs n j ≡ interveningStops s i j
+  unfolding haltsAt interveningIn interveningStops
+  halts-are =
+      ap (λ (p : Float). interveningIn (s .car i .position .along) p demand xs n) (hs .at j l)
+      ∙ count-cong (λ k. has demand k && intervenes (s .car i .position .along) (stopAt s j .along) (getD xs k nan))
       (λ k. demandStop s k && intervenes (s .car i .position .along) (stopAt s j .along) (stopAt s k .along)) n
       (λ k l. ap₂ (λ (b : Bool) (q : Float). b && intervenes (s .car i .position .along) (stopAt s j .along) q) (hd .is-demand k l) (hs .at k l))
       ∙ ap (count (λ k. demandStop s k && intervenes (s .car i .position .along) (stopAt s j .along) (stopAt s k .along))) (hs .counted)
@@ -104,15 +106,17 @@ module _ (s : Sheet) (ids : List ℕ) (xs : List Float) (n demand : ℕ) (hs : H
         by a true Nowhere = refl
         by a true (At x) = refl
 
-    cost-is : costBy (s .policy) (s .car i) (goal s i) (r .count) dests sides demand xs n (stopAt s j) ≡ computeCost s i j
+    cost-is : costBy (s .policy) (s .car i) (goal s i) (r .count) dests sides
+        (haltsAt (s .car i .position .along) demand xs n j) (stopAt s j) ≡ computeCost s i j
     unfolding costBy computeCost travelTime
-    cost-is = rw (intervening-is, delay-is)
+    cost-is = rw (halts-are, delay-is)
 
     -- the rank of stop j
-    pub rank-is : Weighed s i → (v : Waiters) → HoldsWaiters s j v → j < n
-        → rankBy (s .policy) (s .car i) (goal s i) r dests sides v demand xs n j ≡ etdRank s i j
+    pub rank-is : Weighed s i → (v : Waiters) → HoldsWaiters s j v
+        → rankBy (s .policy) (s .car i) (goal s i) r dests sides v
+        (haltsAt (s .car i .position .along) demand xs n j) xs j ≡ etdRank s i j
     unfolding rankBy fairCostBy etdRank
-    rank-is w v hv l =
+    rank-is w v hv =
         rw (
           point-is s ids xs n hs j l,
           useful-is s i j w r dests sides hr v hv false (let e = hs .counted in omega arith),
@@ -123,6 +127,7 @@ module _ (s : Sheet) (ids : List ℕ) (xs : List Float) (n demand : ℕ) (hs : H
 
     -- what its cost is made of
     pub terms-are : (v : Waiters) → HoldsWaiters s j v
-        → termsBy (s .policy) (s .car i) (goal s i) (r .count) dests sides v demand xs n (stopAt s j) ≡ etdTerms s i j
+        → termsBy (s .policy) (s .car i) (goal s i) (r .count) dests sides v
+        (haltsAt (s .car i .position .along) demand xs n j) (stopAt s j) ≡ etdTerms s i j
     unfolding termsBy fairCostBy etdTerms travelTime
-    terms-are v hv = rw (intervening-is, delay-is, cost-is, hv .squares, hv .waitsum)
+    terms-are v hv = rw (cost-is, halts-are, delay-is, hv .squares, hv .waitsum)

@@ -1,13 +1,15 @@
 // ETD: etd.rs.
 ghost use mathlib.Core.Path.{_≡_};
-ghost use mathlib.Core.Bool.{_&&_, cond};
-ghost use Prim.Native.Nat.{_+_, _≤_, _<_};
-ghost use lib.ListN.{length};
+ghost use mathlib.Core.Bool.{not, _&&_, cond};
+ghost use mathlib.Core.List.{_++_};
+ghost use Prim.Native.Nat.{_+_, _-_, _≤_, _<_};
+ghost use lib.ListN.{length, drop};
 ghost use lib.Ieee.{lt};
-ghost use Rattle.fp.specs.Num.{epsilon, infinity, plus, minus};
 ghost use Rattle.laws.specs.Bools.{bit};
-ghost use Rattle.etd.specs.Etd.{doorCost, extraDelay, isAhead, movingBonus, directionBonus, weighted};
-ghost use Rattle.etd.specs.Pairs.{demandPlaces, betweenIn, delayIn, termsBy, rankBy};
+ghost use Rattle.laws.specs.Tables.{tab};
+ghost use Rattle.etd.specs.Etd.{intervenes, doorCost, extraDelay, isAhead, movingBonus, directionBonus, weighted};
+ghost use Rattle.etd.specs.Pairs.{interveningIn, haltsAt, delayIn, termsBy, rankBy};
+ghost use Rattle.etd.specs.Halts.{placeOf, demandPlaces, countsAt, stopCounts, HoldsCounts, haltsBetween};
 use components::Car;
 use components::Phase;
 use components::Place;
@@ -30,21 +32,16 @@ pub struct Terms {
     pub cost: f64,
 }
 
-fn upper(x: f64, p: f64) -> f64
-    ensures { λ r. ⌜ r ≡ cond (lt x p) p x ⌝ }
-{
-    if x < p { p } else { x }
-}
-
-// The position of a stop with demand, infinity for one without.
+// The position of a stop with demand; infinity for any other, and for a position that is not below it.
 fn place_of(demand: bool, q: f64) -> f64
-    ensures { λ r. ⌜ r ≡ cond demand q infinity ⌝ }
+    ensures { λ r. ⌜ r ≡ placeOf demand q ⌝ }
 {
-    if demand { q } else { 1.0 / 0.0 }
+    let infinity = 1.0 / 0.0;
+    if demand & (q < infinity) { q } else { infinity }
 }
 
-// The positions of the n stops at xs, infinity in the place of one without demand.
-pub fn demand_places(demand: u64, xs: &[f64], n: usize) -> [f64; 64]
+// The places of the n stops at xs.
+fn demand_places(demand: u64, xs: &[f64], n: usize) -> [f64; 64]
     requires { ⌜ (n ≤ 64) × (n ≤ length (now xs)) ⌝ }
     ensures { λ r. ⌜ r ≡ demandPlaces demand (now (xs .entry)) n ⌝ }
 {
@@ -57,36 +54,118 @@ pub fn demand_places(demand: u64, xs: &[f64], n: usize) -> [f64; 64]
     places
 }
 
-// 1 where q lies strictly between lo and hi.
-fn is_between(lo: f64, hi: f64, q: f64) -> u64
-    ensures { λ r. ⌜ r ≡ bit (lt lo q && lt q hi) ⌝ }
+// 1 where q is below hi.
+fn is_below(q: f64, hi: f64) -> u64
+    ensures { λ r. ⌜ r ≡ bit (lt q hi) ⌝ }
 {
-    if (lo < q) & (q < hi) { 1 } else { 0 }
+    if q < hi { 1 } else { 0 }
 }
 
-// How many of the first n places lie strictly between lo and hi. Nothing branches, so that several are taken at once.
-fn places_between(lo: f64, hi: f64, places: &[f64], n: usize) -> u64
+// 1 where q is not above lo.
+fn is_up_to(lo: f64, q: f64) -> u64
+    ensures { λ r. ⌜ r ≡ bit (not (lt lo q)) ⌝ }
+{
+    if lo < q { 0 } else { 1 }
+}
+
+// How many of the first n places lie short of x, times 128, and how many up to it. Nothing branches, so that several are taken at once.
+fn counts_at(x: f64, places: &[f64], n: usize) -> u64
     requires { ⌜ (n ≤ 64) × (n ≤ length (now places)) ⌝ }
-    ensures { λ r. ⌜ r ≡ betweenIn lo hi (now (places .entry)) n ⌝ }
+    ensures { λ r. ⌜ r ≡ countsAt (now (places .entry)) n x ⌝ }
+{
+    let lo = x + 1e-9;
+    let hi = x - 1e-9;
+    let mut short: u64 = 0;
+    let mut reached: u64 = 0;
+    let mut k: usize = 0;
+    while k < n {
+        let q = places[k];
+        short += is_below(q, hi);
+        reached += is_up_to(lo, q);
+        k += 1;
+    }
+    short * 128 + reached
+}
+
+// The counts of the n stops at xs, for every row of a pass.
+pub fn fill_table(demand: u64, xs: &[f64], n: usize, out: &mut [u64])
+    requires { ⌜ (n ≤ 64) × (n ≤ length (now xs)) × (n ≤ length (now out)) ⌝ }
+    ensures { λ _. ⌜ now (out .exit) ≡ tab (stopCounts demand (now (xs .entry)) n) n ++ drop n (now (out .entry)) ⌝ }
+{
+    let places = demand_places(demand, xs, n);
+    let mut j: usize = 0;
+    while j < n {
+        out[j] = counts_at(xs[j], &places, n);
+        j += 1;
+    }
+}
+
+// a less b, 0 where b is larger.
+fn less(a: u64, b: u64) -> u64
+    ensures { λ r. ⌜ r ≡ a - b ⌝ }
+{
+    if b < a { a - b } else { 0 }
+}
+
+// The demand stops between a car at x and a stop at p, from the counts of the two.
+fn halts_between(x: f64, p: f64, car: u64, stop: u64) -> u64
+    ensures { λ r. ⌜ r ≡ haltsBetween x p car stop ⌝ }
+{
+    if x < p {
+        less(stop / 128, car % 128)
+    } else {
+        less(car / 128, stop % 128)
+    }
+}
+
+// The demand stops between a car at x and each of the n stops at xs, from the stops' counts.
+pub fn fill_halts<'a>(
+    x: f64,
+    demand: u64,
+    xs: &'a [f64],
+    n: usize,
+    table: &'a [u64],
+    out: &mut [u64],
+)
+    requires { ⌜ (n ≤ 64) × (n ≤ length (now xs)) × (n ≤ length (now out)) × HoldsCounts demand (now xs) n (now table) ⌝ }
+    ensures { λ _. ⌜ now (out .exit) ≡ tab (haltsAt x demand (now (xs .entry)) n) n ++ drop n (now (out .entry)) ⌝ }
+{
+    let places = demand_places(demand, xs, n);
+    let car = counts_at(x, &places, n);
+    let mut j: usize = 0;
+    while j < n {
+        out[j] = halts_between(x, xs[j], car, table[j]);
+        j += 1;
+    }
+}
+
+fn upper(x: f64, p: f64) -> f64
+    ensures { λ r. ⌜ r ≡ cond (lt x p) p x ⌝ }
+{
+    if x < p { p } else { x }
+}
+
+// 1 where a stop at q with demand lies strictly between a car at x and a stop at p, by more than 1e-9 from either.
+fn is_between(demand: bool, x: f64, p: f64, q: f64) -> u64
+    ensures { λ r. ⌜ r ≡ bit (demand && intervenes x p q) ⌝ }
+{
+    let lo = fp::lesser(p, x) + 1e-9;
+    let hi = upper(x, p) - 1e-9;
+    if demand & ((lo < q) & (q < hi)) { 1 } else { 0 }
+}
+
+// How many demand stops, of the n at xs, lie between: for one pair, one by one.
+pub fn intervening_stops(x: f64, p: f64, demand: u64, xs: &[f64], n: usize) -> u64
+    requires { ⌜ (n ≤ 64) × (n ≤ length (now xs)) ⌝ }
+    ensures { λ r. ⌜ r ≡ interveningIn x p demand (now (xs .entry)) n ⌝ }
 {
     let mut stops: u64 = 0;
     let mut k: usize = 0;
     while k < n {
-        stops += is_between(lo, hi, places[k]);
+        stops += is_between(mask::has(demand, k), x, p, xs[k]);
         k += 1;
     }
     stops
-}
-
-// How many of the places lie strictly between a car at x and a stop at p, by more than 1e-9 from either.
-fn intervening_stops(x: f64, p: f64, places: &[f64], n: usize) -> u64
-    requires { ⌜ (n ≤ 64) × (n ≤ length (now places)) ⌝ }
-    ensures { λ r. let lo = plus (cond (lt x p) x p) epsilon in let hi = minus (cond (lt x p) p x) epsilon in
-        ⌜ r ≡ betweenIn lo hi (now (places .entry)) n ⌝ }
-{
-    let lo = fp::lesser(p, x) + 1e-9;
-    let hi = upper(x, p) - 1e-9;
-    places_between(lo, hi, places, n)
 }
 
 // The door cycles of these stops, in seconds.
@@ -187,8 +266,8 @@ fn weighted(
     fp::max_zero(fp::fma(wait, travel, b))
 }
 
-// compute_cost, of a stop at p, for a car whose riders go to the first count points of dests and sides; then less both fairness bonuses. The places are
-// those of the demand stops of the n at xs.
+// compute_cost, of a stop at p with so many halts before it, for a car whose riders go to the first count points of dests and sides; then less both
+// fairness bonuses.
 pub fn cost_terms(
     policy: Policy,
     car: Car,
@@ -197,22 +276,17 @@ pub fn cost_terms(
     dests: &[f64],
     sides: &[f64],
     waiters: Waiters,
-    demand: u64,
-    xs: &[f64],
-    places: &[f64],
-    n: usize,
+    halts: u64,
     p: Point,
 ) -> Terms
-    requires { ⌜ (count ≤ length (now dests)) × (count ≤ length (now sides)) × (n ≤ 64) × (n ≤ length (now xs))
-        × (now places ≡ demandPlaces demand (now xs) n) ⌝ }
-    ensures { λ r. ⌜ r ≡ termsBy policy car goal count (now (dests .entry)) (now (sides .entry)) waiters demand (now (xs .entry)) n p ⌝ }
+    requires { ⌜ (count ≤ length (now dests)) × (count ≤ length (now sides)) ⌝ }
+    ensures { λ r. ⌜ r ≡ termsBy policy car goal count (now (dests .entry)) (now (sides .entry)) waiters halts p ⌝ }
 {
     let x = car.position;
     let speed = car.speed;
     let phase = car.phase;
     let travel = x.distance(p) / speed;
-    let stops = intervening_stops(x.along, p.along, places, n);
-    let doors = door_cost(stops, car.transition, car.dwell, policy.rate);
+    let doors = door_cost(halts, car.transition, car.dwell, policy.rate);
     let delay = existing_rider_delay(x, p, speed, dests, sides, count);
     let bonus = direction_bonus(phase, goal, x.along, p.along, travel);
     let sum = weighted(policy.w0, policy.w1, policy.w2, travel, delay, doors, bonus);
@@ -229,7 +303,7 @@ pub fn cost_terms(
     }
 }
 
-// rank, of stop j of the n at xs, the demand stops of which have the places.
+// rank, of stop j of those at xs, with so many halts before it.
 pub fn rank(
     policy: Policy,
     car: Car,
@@ -238,36 +312,19 @@ pub fn rank(
     dests: &[f64],
     sides: &[f64],
     waiters: Waiters,
-    demand: u64,
+    halts: u64,
     xs: &[f64],
-    places: &[f64],
-    n: usize,
     j: usize,
 ) -> Rank
-    requires { ⌜ (riders .count ≤ length (now dests)) × (riders .count ≤ length (now sides)) × (n ≤ 64) × (64 + n ≤ length (now xs))
-        × (j < n) × (now places ≡ demandPlaces demand (now xs) n) ⌝ }
-    ensures { λ r. ⌜ r ≡ rankBy policy car goal riders (now (dests .entry)) (now (sides .entry)) waiters demand
-        (now (xs .entry)) n j ⌝ }
+    requires { ⌜ (riders .count ≤ length (now dests)) × (riders .count ≤ length (now sides)) × (j < 64) × (64 + j < length (now xs)) ⌝ }
+    ensures { λ r. ⌜ r ≡ rankBy policy car goal riders (now (dests .entry)) (now (sides .entry)) waiters halts (now (xs .entry)) j ⌝ }
 {
     let p = manifest::point(xs, j);
     let count = riders.count;
     let here = mask::has(riders.exits, j);
     if dispatch::pair_is_useful(car, goal, riders, dests, waiters, here, p.along, false) {
         if car.speed > 0.0 {
-            let t = cost_terms(
-                policy,
-                car,
-                goal,
-                count,
-                dests,
-                sides,
-                waiters,
-                demand,
-                xs,
-                places,
-                n,
-                p,
-            );
+            let t = cost_terms(policy, car, goal, count, dests, sides, waiters, halts, p);
             dispatch::finite_rank(t.cost)
         } else {
             Rank::Never

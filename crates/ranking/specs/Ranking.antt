@@ -1,13 +1,16 @@
 -- Ranks and cells over what the code holds. Assumes nothing.
-use Prim.Native.Nat.{ℕ}
+use Prim.Native.Nat.{ℕ, _≤_, _<_}
+use mathlib.Core.Path.{_≡_}
 use mathlib.Core.Bool.{Bool, false, not, _&&_, cond}
 use mathlib.Core.List.{List}
 use lib.Dec.{eqb}
+use lib.ListN.{length, getD}
 use lib.Ieee.{Float}
 use Rattle.mask.specs.Mask.{has}
 use Rattle.scale.specs.Scale.{sentinel}
 use Rattle.components.specs.declared.Car.{Car}
 use Rattle.components.specs.declared.Strategy.{Strategy}
+use Rattle.components.specs.declared.Strategy.the-variants.{Etd}
 use Rattle.components.specs.declared.Rank.{Rank}
 use Rattle.components.specs.declared.Rank.the-variants.{Never}
 use Rattle.manifest.specs.declared.Waiters.{Waiters}
@@ -16,7 +19,7 @@ use Rattle.sweep.specs.declared.Sweep.{Sweep}
 use Rattle.sweep.specs.Sweeps.{sweepOf}
 use Rattle.scan.specs.Scan.{preparedBy, rankOf}
 use Rattle.dispatch.specs.Pairs.{usefulBy}
-use Rattle.etd.specs.Pairs.{rankBy as etdBy}
+use Rattle.etd.specs.Pairs.{haltsAt, rankBy as etdBy}
 use Rattle.rsr.specs.Pairs.{rankBy as rsrBy}
 use Rattle.assignment.specs.Cells.{byStrategy, rankCell, rankHeld}
 use Rattle.ranking.specs.declared.Row.{Row}
@@ -26,10 +29,19 @@ scanBy row dests v xs j =
     rankOf (row .sweep) (usefulBy (row .car) (row .goal) (row .riders) dests v (has (row .riders .exits) j) (pointIn xs j .along) false)
     (row .car .position) (pointIn xs j)
 
+-- the demand stops between the row's car and stop j, for ETD
+abbrev pub haltsBy : Row → List Float → ℕ → ℕ → ℕ
+haltsBy row xs n j = haltsAt (row .car .position .along) (row .demand) xs n j
+
+-- a list that holds them for each of n stops, where the strategy asks for them
+pub record HoldsHalts (row : Row) (xs : List Float) (n : ℕ) (halts : List ℕ) : Type 0 where
+  pub size : n ≤ length halts
+  pub at : row .policy .strategy ≡ Etd → (j : ℕ) → j < n → getD halts j 0 ≡ haltsBy row xs n j
+
 unfoldable pub rankBy : Row → List Float → List Float → Waiters → List Float → ℕ → ℕ → Rank
 rankBy row dests sides v xs n j =
     byStrategy (row .policy .strategy)
-    (etdBy (row .policy) (row .car) (row .goal) (row .riders) dests sides v (row .demand) xs n j)
+    (etdBy (row .policy) (row .car) (row .goal) (row .riders) dests sides v (haltsBy row xs n j) xs j)
     (rsrBy (row .policy) (row .car) (row .goal) (row .riders) dests v xs j)
     (scanBy row dests v xs j)
     Never

@@ -28,7 +28,7 @@ use Rattle.assignment.specs.Pending.{idle, pendingStops}
 use Rattle.assignment.specs.Candidates.{kept}
 use Rattle.assignment.specs.Cells.{byStrategy, sweepAfter, rank, cell, heldCell}
 use Rattle.ranking.specs.declared.Row.{Row}
-use Rattle.ranking.specs.Ranking.{scanBy, rankBy, cellBy, heldBy, sweepFrom, sweepBy}
+use Rattle.ranking.specs.Ranking.{scanBy, haltsBy, rankBy, cellBy, heldBy, sweepFrom, sweepBy}
 use Rattle.sweep.specs.Sweeps.{sweepOf}
 
 -- a row holds car i's part of the sheet, under a limit
@@ -78,13 +78,13 @@ module _ (s : Sheet) (ids : List ℕ) (xs : List Float) (hs : HoldsStops s ids x
   rank-is =
       ap
       (λ (t : Strategy). byStrategy t
-      (etdBy (row .policy) (row .car) (row .goal) (row .riders) dests sides v (row .demand) xs (s .stops) j)
+      (etdBy (row .policy) (row .car) (row .goal) (row .riders) dests sides v (haltsBy row xs (s .stops) j) xs j)
       (rsrBy (row .policy) (row .car) (row .goal) (row .riders) dests v xs j)
       (scanBy row dests v xs j) Never)
       (ap (λ (p : Policy). p .strategy) (h .policy))
       ∙ by-parts (s .policy .strategy) Never (etdRank s i j) (rsrRank s i j) (scanRank s (sweepAfter s i) i j)
       (rw (h .policy, h .car, h .goal-is)
-      (etd-is s ids xs (s .stops) (row .demand) hs (h .demand) i j (row .riders) dests sides (h .riders) weighed v hv l))
+      (etd-is s ids xs (s .stops) (row .demand) hs (h .demand) i j l (row .riders) dests sides (h .riders) weighed v hv))
       (rw (h .policy, h .car, h .goal-is) (rsr-is s ids xs (s .stops) hs i j (row .riders) dests sides (h .riders) v hv weighed l))
       scan-is
 

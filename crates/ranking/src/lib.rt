@@ -3,8 +3,8 @@ ghost use mathlib.Core.Path.{_≡_};
 ghost use Prim.Native.Nat.{_+_, _<_, _≤_};
 ghost use lib.ListN.{length};
 ghost use Rattle.assignment.specs.Cells.{rankCell, rankHeld};
-ghost use Rattle.etd.specs.Pairs.{demandPlaces};
-ghost use Rattle.ranking.specs.Ranking.{scanBy, rankBy, cellBy, heldBy, sweepFrom};
+ghost use Rattle.components.specs.declared.Strategy.the-variants.{Etd};
+ghost use Rattle.ranking.specs.Ranking.{scanBy, haltsBy, HoldsHalts, rankBy, cellBy, heldBy, sweepFrom};
 use components::Car;
 use components::Place;
 use components::Policy;
@@ -41,19 +41,19 @@ fn scan_rank<'a>(row: Row, dests: &'a [f64], waiters: Waiters, xs: &'a [f64], j:
     scan::rank(sweep, useful, car.position, p)
 }
 
-// The rank of stop j, by the strategy; the demand stops have the places.
+// The rank of stop j, by the strategy; ETD's takes the halts before it, which no other asks for.
 pub fn rank<'a>(
     row: Row,
     dests: &'a [f64],
     sides: &'a [f64],
     waiters: Waiters,
     xs: &'a [f64],
-    places: &'a [f64],
+    halts: u64,
     n: usize,
     j: usize,
 ) -> Rank
     requires { ⌜ (row .riders .count ≤ length (now dests)) × (row .riders .count ≤ length (now sides)) × (n ≤ 64)
-        × (64 + n ≤ length (now xs)) × (j < n) × (now places ≡ demandPlaces (row .demand) (now xs) n) ⌝ }
+        × (64 + n ≤ length (now xs)) × (j < n) × (row .policy .strategy ≡ Etd → halts ≡ haltsBy row (now xs) n j) ⌝ }
     ensures { λ r. ⌜ r ≡ rankBy row (now (dests .entry)) (now (sides .entry)) waiters (now (xs .entry)) n j ⌝ }
 {
     let policy = row.policy;
@@ -70,10 +70,8 @@ pub fn rank<'a>(
             dests,
             sides,
             waiters,
-            row.demand,
+            halts,
             xs,
-            places,
-            n,
             j,
         ),
         Strategy::Rsr => rsr::rank(policy, car, goal, riders, dests, waiters, xs, j),
@@ -92,24 +90,24 @@ fn rank_cell(rank: Rank) -> Scaled
     }
 }
 
-// The cell of stop j, and whether it is held; the demand stops have the places.
+// The cell of stop j, and whether it is held; under ETD the halts before each stop are listed.
 pub fn cell<'a>(
     row: Row,
     dests: &'a [f64],
     sides: &'a [f64],
     waiters: Waiters,
     xs: &'a [f64],
-    places: &'a [f64],
+    halts: &'a [u64],
     n: usize,
     j: usize,
 ) -> Scaled
     requires { ⌜ (row .riders .count ≤ length (now dests)) × (row .riders .count ≤ length (now sides)) × (n ≤ 64)
-        × (64 + n ≤ length (now xs)) × (j < n) × (now places ≡ demandPlaces (row .demand) (now xs) n) ⌝ }
+        × (64 + n ≤ length (now xs)) × (j < n) × HoldsHalts row (now xs) n (now halts) ⌝ }
     ensures { λ r. ⌜ (r .cell ≡ cellBy row (now (dests .entry)) (now (sides .entry)) waiters (now (xs .entry)) n j)
         × (r .held ≡ heldBy row (now (dests .entry)) (now (sides .entry)) waiters (now (xs .entry)) n j) ⌝ }
 {
     if mask::has(row.kept, j) {
-        rank_cell(rank(row, dests, sides, waiters, xs, places, n, j))
+        rank_cell(rank(row, dests, sides, waiters, xs, halts[j], n, j))
     } else {
         scale::no_rank()
     }

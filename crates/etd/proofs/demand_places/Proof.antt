@@ -1,7 +1,6 @@
 -- etd::demand_places meets its contract.
 use Prim.Native.Nat.{ℕ, _≤_, _+_, _-_}
 use mathlib.Core.Path.{_≡_, refl, ap, _∙_}
-use mathlib.Core.Bool.{cond}
 use mathlib.Core.List.{List, _++_}
 use native.Mathlib.Omega.{arith}
 use borrow.Author.Needs.{needs}
@@ -11,12 +10,12 @@ use Rattle.laws.specs.Folds.{ended}
 use Rattle.laws.specs.Tables.{tab, tab-next}
 use Rattle.mask.specs.Mask.{has}
 use Rattle.fp.specs.Num.{infinity}
-use Rattle.etd.specs.Pairs.{demandPlaces}
+use Rattle.etd.specs.Halts.{placeOf, demandPlaces}
 use Rattle.etd.proofs.demand_places.Statement.{statement}
 use Rattle.etd.proofs.demand_places.Tie as tie
 
 abbrev place : ℕ → List Float → ℕ → Float
-place demand xs k = cond (has demand k) (getD xs k nan) infinity
+place demand xs k = placeOf (has demand k) (getD xs k nan)
 
 abbrev Inv-loop : tie.InvT-loop
 Inv-loop demand xs n places₀ k₀ places k = (k ≤ n) × (length places ≡ 64) × (places ≡ tab (place demand xs) k ++ drop k (replicate 64 infinity))
@@ -36,7 +35,7 @@ loop-again c =
       omega arith,
       simp length-set (l .inv .1),
       tab-next (place (s .args .demand) (s .args .xs .now)) (replicate 64 infinity) (l .places) (l .k) (c .place-of .result) (omega arith) (l .inv .2)
-          (c .place-of .ensures ∙ ap (λ b. cond b (getD (s .args .xs .now) (l .k) nan) infinity) h),
+          (c .place-of .ensures ∙ ap (λ b. placeOf b (getD (s .args .xs .now) (l .k) nan)) h),
     )
 
 returns : tie.Need-returns Inv-loop μ-loop

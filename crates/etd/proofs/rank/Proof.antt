@@ -22,7 +22,7 @@ use mathlib.Core.Path.{_≡_}
 use Rattle.etd.proofs.rank.Statement.{statement}
 use Rattle.etd.proofs.rank.Tie as tie
 
-module _ (y : Policy) (car : Car) (goal : Place) (r : Riders) (dests sides : List Float) (w : Waiters) (demand : ℕ) (xs : List Float) (n j : ℕ)
+module _ (y : Policy) (car : Car) (goal : Place) (r : Riders) (dests sides : List Float) (w : Waiters) (halts : ℕ) (xs : List Float) (j : ℕ)
   where
     moves : {p : Point} {here useful : Bool} {cost : Float} {rank : Rank} →
         p ≡ pointIn xs j →
@@ -30,9 +30,9 @@ module _ (y : Policy) (car : Car) (goal : Place) (r : Riders) (dests sides : Lis
         useful ≡ usefulBy car goal r dests w here (p .along) false →
         useful ≡ true →
         lt zero (car .speed) ≡ true →
-        cost ≡ fairCostBy y car goal (r .count) dests sides w demand xs n p →
+        cost ≡ fairCostBy y car goal (r .count) dests sides w halts p →
         rank ≡ finiteRank cost →
-        rank ≡ rankBy y car goal r dests sides w demand xs n j
+        rank ≡ rankBy y car goal r dests sides w halts xs j
     unfolding rankBy
     moves p-is here-is useful-is useful quick cost-is rank-is = rw (← p-is, ← here-is, ← useful-is, useful, quick, ← cost-is) rank-is
 
@@ -42,7 +42,7 @@ module _ (y : Policy) (car : Car) (goal : Place) (r : Riders) (dests sides : Lis
         useful ≡ usefulBy car goal r dests w here (p .along) false →
         useful ≡ true →
         lt zero (car .speed) ≡ false →
-        Never ≡ rankBy y car goal r dests sides w demand xs n j
+        Never ≡ rankBy y car goal r dests sides w halts xs j
     unfolding rankBy
     stands p-is here-is useful-is useful slow = rw (← p-is, ← here-is, ← useful-is, useful, slow)
 
@@ -51,31 +51,31 @@ module _ (y : Policy) (car : Car) (goal : Place) (r : Riders) (dests sides : Lis
         here ≡ has (r .exits) j →
         useful ≡ usefulBy car goal r dests w here (p .along) false →
         useful ≡ false →
-        Never ≡ rankBy y car goal r dests sides w demand xs n j
+        Never ≡ rankBy y car goal r dests sides w halts xs j
     unfolding rankBy
     useless p-is here-is useful-is not-useful = rw (← p-is, ← here-is, ← useful-is, not-useful)
 
 returns : tie.Need-returns
 returns c =
     let asked = c .before .before .before .before .before in
-    let a = asked .before .before .before .before .before .before .before .args in
-    moves (a .policy) (a .car) (a .goal) (a .riders) (a .dests .now) (a .sides .now) (a .waiters) (a .demand) (a .xs .now) (a .n) (a .j)
+    let a = asked .before .before .before .before .before .before .args in
+    moves (a .policy) (a .car) (a .goal) (a .riders) (a .dests .now) (a .sides .now) (a .waiters) (a .halts) (a .xs .now) (a .j)
     (asked .before .before .point .ensures) (asked .before .has .ensures) (asked .pair-is-useful .ensures)
-    (c .before .before .before .before .if1 .taken) (c .before .before .if2 .taken) (cost-by (a .policy) (a .car) (a .goal) (a .riders .count) (a .dests .now) (a .sides .now) (a .waiters) (a .demand) (a .xs .now) (a .n) _ (c .before .cost-terms .ensures)) (c .finite-rank .ensures)
+    (c .before .before .before .before .if1 .taken) (c .before .before .if2 .taken) (cost-by (a .policy) (a .car) (a .goal) (a .riders .count) (a .dests .now) (a .sides .now) (a .waiters) (a .halts) _ (c .before .cost-terms .ensures)) (c .finite-rank .ensures)
 
 returns-2 : tie.Need-returns-2
 returns-2 c =
     let asked = c .before .before .before in
-    let a = asked .before .before .before .before .before .before .before .args in
-    stands (a .policy) (a .car) (a .goal) (a .riders) (a .dests .now) (a .sides .now) (a .waiters) (a .demand) (a .xs .now) (a .n) (a .j)
+    let a = asked .before .before .before .before .before .before .args in
+    stands (a .policy) (a .car) (a .goal) (a .riders) (a .dests .now) (a .sides .now) (a .waiters) (a .halts) (a .xs .now) (a .j)
     (asked .before .before .point .ensures) (asked .before .has .ensures) (asked .pair-is-useful .ensures) (c .before .before .if1 .taken)
     (c .if2 .left)
 
 returns-3 : tie.Need-returns-3
 returns-3 c =
     let asked = c .before in
-    let a = asked .before .before .before .before .before .before .before .args in
-    useless (a .policy) (a .car) (a .goal) (a .riders) (a .dests .now) (a .sides .now) (a .waiters) (a .demand) (a .xs .now) (a .n) (a .j)
+    let a = asked .before .before .before .before .before .before .args in
+    useless (a .policy) (a .car) (a .goal) (a .riders) (a .dests .now) (a .sides .now) (a .waiters) (a .halts) (a .xs .now) (a .j)
     (asked .before .before .point .ensures) (asked .before .has .ensures) (asked .pair-is-useful .ensures) (c .if1 .left)
 
 pub rank-spec : {M : Type 1} → statement M

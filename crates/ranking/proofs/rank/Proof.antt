@@ -1,31 +1,35 @@
 -- ranking::rank meets its contract.
-use Rattle.components.specs.declared.Rank.the-variants.{Never}
+use Prim.Native.Nat.{ℕ}
 use Rattle.etd.specs.Pairs.{rankBy as etdBy}
-use Rattle.ranking.specs.Ranking.{scanBy, rankBy}
+use Rattle.ranking.specs.Ranking.{rankBy}
 use Rattle.ranking.specs.RankingLaws.{by-etd, by-rsr, by-scan}
-use Rattle.rsr.specs.Pairs.{rankBy as rsrBy}
 use borrow.Author.Needs.{needs}
-use mathlib.Core.Path.{_∙_}
+use mathlib.Core.Path.{ap, _∙_}
 use Rattle.ranking.proofs.rank.Statement.{statement}
 use Rattle.ranking.proofs.rank.Tie as tie
 
 returns : tie.Need-returns
 unfolding rankBy
 returns c =
-    let a = c .before .before .before .before .before .before .before .before .before .before .args in
-    c .rank .ensures ∙ by-etd (a .row .policy .strategy) (etdBy (a .row .policy) (a .row .car) (a .row .goal) (a .row .riders) (a .dests .now) (a .sides .now) (a .waiters) (a .row .demand) (a .xs .now) (a .n) (a .j)) (rsrBy (a .row .policy) (a .row .car) (a .row .goal) (a .row .riders) (a .dests .now) (a .waiters) (a .xs .now) (a .j)) (scanBy (a .row) (a .dests .now) (a .waiters) (a .xs .now) (a .j)) Never (c .before .enum-told .given .1)
+    let s = c .before .before .before .before .before .before .before .before .before in
+    let a = s .args in
+    let is = c .before .enum-told .given .1 in
+    c .rank .ensures
+    ∙ ap (λ (h : ℕ). etdBy (a .row .policy) (a .row .car) (a .row .goal) (a .row .riders) (a .dests .now) (a .sides .now) (a .waiters) h (a .xs .now) (a .j))
+    (s .pre .5 is)
+    ∙ by-etd (a .row .policy .strategy) _ _ _ _ is
 
 returns-2 : tie.Need-returns-2
 unfolding rankBy
 returns-2 c =
-    let a = c .before .before .before .before .before .before .before .before .before .before .args in
-    c .rank2 .ensures ∙ by-rsr (a .row .policy .strategy) (etdBy (a .row .policy) (a .row .car) (a .row .goal) (a .row .riders) (a .dests .now) (a .sides .now) (a .waiters) (a .row .demand) (a .xs .now) (a .n) (a .j)) (rsrBy (a .row .policy) (a .row .car) (a .row .goal) (a .row .riders) (a .dests .now) (a .waiters) (a .xs .now) (a .j)) (scanBy (a .row) (a .dests .now) (a .waiters) (a .xs .now) (a .j)) Never (c .before .enum-told2 .given .1)
+    let a = c .before .before .before .before .before .before .before .before .before .args in
+    c .rank2 .ensures ∙ by-rsr (a .row .policy .strategy) _ _ _ _ (c .before .enum-told2 .given .1)
 
 returns-3 : tie.Need-returns-3
 unfolding rankBy
 returns-3 c =
-    let a = c .before .before .before .before .before .before .before .before .before .before .args in
-    c .scan-rank .ensures ∙ by-scan (a .row .policy .strategy) (etdBy (a .row .policy) (a .row .car) (a .row .goal) (a .row .riders) (a .dests .now) (a .sides .now) (a .waiters) (a .row .demand) (a .xs .now) (a .n) (a .j)) (rsrBy (a .row .policy) (a .row .car) (a .row .goal) (a .row .riders) (a .dests .now) (a .waiters) (a .xs .now) (a .j)) (scanBy (a .row) (a .dests .now) (a .waiters) (a .xs .now) (a .j)) Never (c .before .enum-told3 .given .1)
+    let a = c .before .before .before .before .before .before .before .before .before .args in
+    c .scan-rank .ensures ∙ by-scan (a .row .policy .strategy) _ _ _ _ (c .before .enum-told3 .given .1)
 
 returns-4 : tie.Need-returns-4
 unfolding rankBy
