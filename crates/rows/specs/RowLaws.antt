@@ -66,7 +66,8 @@ halts-held row x demand xs n entry {exit} room ex ed e =
     record {
       size = omega (arith, halts-size (row .policy .strategy) x demand xs n entry room e);
       at = λ is j l.
-          ap (λ (t : List ℕ). getD t j 0) (e ∙ rw is refl)
+          let filled : exit ≡ tab (haltsAt x demand xs n) n ++ drop n entry = e ∙ rw is refl in
+          ap (λ (t : List ℕ). getD t j 0) filled
           ∙ getD-tab (haltsAt x demand xs n) n j (drop n entry) 0 l
           ∙ rw (ex, ed) refl;
     }
