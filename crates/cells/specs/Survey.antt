@@ -17,13 +17,11 @@ use Rattle.mask.specs.Mask.{has, built}
 use Rattle.mask.specs.MaskLaws.{built-cong}
 use Rattle.fields.specs.Held.{held}
 use Rattle.components.specs.declared.Point.{Point}
-use Rattle.components.specs.declared.Car.{Car}
 use Rattle.components.specs.Sheet.{Sheet}
 use Rattle.layout.specs.declared.Counts.{Counts}
 use Rattle.layout.specs.declared.Reading.the-variants.{Accepted}
 use Rattle.layout.specs.Records.{sheetOf}
 use Rattle.layout.specs.Verdict.{verdict}
-use Rattle.cars.specs.Cars.{noCar, carsIn, HoldsCars, cars-held}
 use Rattle.accepted.specs.Sound.{SoundSheet}
 use Rattle.accepted.specs.Accepted.{accepted}
 use Rattle.fp.specs.Order.{finite-real}
@@ -49,11 +47,10 @@ pub record SeenStops (s : Sheet) (ids : List ℕ) (xs : List Float) (masks : Sto
   pub stops-held : HoldsStops s ids xs (s .stops)
   pub masks-are : masks ≡ masksOf s
 
--- these; the cars; the pending stops and the idle cars, listed
-pub record Survey (s : Sheet) (ids : List ℕ) (xs : List Float) (masks : StopMasks) (stops : Ones) (cars : List Car) (idle : Ones) : Type 0 where
+-- these; the pending stops and the idle cars, listed
+pub record Survey (s : Sheet) (ids : List ℕ) (xs : List Float) (masks : StopMasks) (stops idle : Ones) : Type 0 where
   pub seen : SeenStops s ids xs masks
   pub listed : stops ≡ onesOf (masks .pending)
-  pub cars-held : HoldsCars s cars
   pub rows : Rows s idle
 
 -- ---- columns that were filled hold the sheet's records
@@ -127,35 +124,21 @@ holds-aboard s acar adest r q e f =
 
 -- ---- the idle cars
 
--- the idle ones of the first n, as a mask of their records
-unfoldable pub idleMask : List Car → ℕ → ℕ
-idleMask cars n = built (λ i. ltb i n && getD cars i noCar .listed) 64
+-- as a mask of their records
+unfoldable pub idleMask : Sheet → ℕ
+idleMask s = built (λ i. ltb i (s .cars) && idle s i) 64
 
-pub idle-same : (s : Sheet) (cars : List Car) → HoldsCars s cars → idleMask cars (s .cars) ≡ built (λ i. ltb i (s .cars) && idle s i) 64
-unfolding idleMask idle
-idle-same s cars h =
-    built-cong (λ i. ltb i (s .cars) && getD cars i noCar .listed) (λ i. ltb i (s .cars) && s .car i .listed) 64
-    (λ i l. ⊎-elim
-    (λ (b : i < s .cars). ap (λ (k : Car). ltb i (s .cars) && k .listed) (h .each i b))
-    (λ (b : s .cars ≤ i). rw (le-ltb i (s .cars) b))
-    (less? i (s .cars)))
-
-pub rows-listed : (s : Sheet) (cars : List Car) → HoldsCars s cars → s .cars ≤ 32 → (idle : Ones) → idle ≡ onesOf (idleMask cars (s .cars))
-    → Rows s idle
-unfolding idleCars rowCar
-rows-listed s cars held few listed h =
+pub rows-listed : (s : Sheet) → s .cars ≤ 32 → (idle : Ones) → idle ≡ onesOf (idleMask s) → Rows s idle
+unfolding idleMask idleCars rowCar
+rows-listed s few listed h =
     let fit : s .cars ≤ 64 = omega arith in
-    let e = idle-same s cars held in
-    let number = listed-number (idle s) (s .cars) fit (idleMask cars (s .cars)) e listed h in
+    let number = listed-number (idle s) (s .cars) fit (idleMask s) refl listed h in
     record {
       number = number;
       few = omega (arith, number, count-le (idle s) (s .cars));
-      car-of = listed-at (idle s) (s .cars) fit (idleMask cars (s .cars)) e listed h;
-      below = listed-below (idle s) (s .cars) fit (idleMask cars (s .cars)) e listed h;
+      car-of = listed-at (idle s) (s .cars) fit (idleMask s) refl listed h;
+      below = listed-below (idle s) (s .cars) fit (idleMask s) refl listed h;
     }
-
-pub rows-in : (s : Sheet) → s .cars ≤ 32 → (idle : Ones) → idle ≡ onesOf (idleMask (carsIn s) (s .cars)) → Rows s idle
-rows-in s few = rows-listed s (carsIn s) (cars-held s (carsIn s) few refl) few
 
 -- ---- ready to fill rows
 
@@ -168,11 +151,11 @@ weighed-of s h i l =
     }
 
 pub ready : (bytes : List ℕ) (c : Counts) → verdict bytes ≡ Accepted c
-    → (ids : List ℕ) (xs : List Float) (masks : StopMasks) (stops : Ones) (cars : List Car) (idle : Ones)
-    → Survey (sheetOf bytes c) ids xs masks stops cars idle → (acar adest : List ℕ)
+    → (ids : List ℕ) (xs : List Float) (masks : StopMasks) (stops idle : Ones)
+    → Survey (sheetOf bytes c) ids xs masks stops idle → (acar adest : List ℕ)
     → HoldsAboard (sheetOf bytes c) acar adest (sheetOf bytes c .aboards)
     → (waiters : List Waiters) → waiters ≡ gatheredOf (sheetOf bytes c) → Ready (sheetOf bytes c) ids xs acar adest masks waiters stops
-ready bytes c e ids xs masks stops cars idle h acar adest ha waiters hw =
+ready bytes c e ids xs masks stops idle h acar adest ha waiters hw =
     let sound = accepted bytes c e .sheet in
     record {
       held = record {

@@ -17,14 +17,13 @@ ghost use Rattle.manifest.specs.Manifest.{riderlessCall};
 ghost use Rattle.mask.specs.Mask.{has};
 ghost use Rattle.mask.specs.Ones.{onesOf};
 ghost use Rattle.pending.specs.Masks.{stopMask, masksOf};
-ghost use Rattle.cars.specs.Cars.{carsIn};
 ghost use Rattle.rows.specs.MatrixLaws.{FilledRows};
 ghost use Rattle.rows.specs.Gathered.{gathered, gatheredOf};
 ghost use Rattle.ranking.specs.RankingLaws.{HoldsRow};
 ghost use Rattle.cells.specs.Survey.{SeenStops, Survey, coordinates, idleMask};
-use components::Car;
 use layout::Counts;
 use layout::aboard;
+use layout::car;
 use layout::stop;
 use layout::waiting;
 use manifest::Waiters;
@@ -163,10 +162,12 @@ pub fn row_of<'a>(
     let mut acar = [0u32; 512];
     let mut adest = [0u32; 512];
     fill_aboard(s, c, &mut acar, &mut adest);
+    let policy = sheet::policy_at(s);
     let car = sheet::car_at(s, c, i);
     rows::row_for(
         s,
         c,
+        policy,
         car,
         limit,
         ids,
@@ -179,39 +180,27 @@ pub fn row_of<'a>(
     )
 }
 
-// The idle ones of the first n cars, as a mask of their records.
-fn idle_cars(cars: [Car; 32], n: usize) -> u64
-    requires { ⌜ (n ≤ 32) × (length cars ≡ 32) ⌝ }
-    ensures { λ r. ⌜ r ≡ idleMask cars n ⌝ }
+// The idle cars of a sheet, as a mask of their records.
+fn idle_cars(s: &[u8], c: Counts) -> u64
+    requires { ⌜ Small c ⌝ }
+    ensures { λ r. ⌜ r ≡ idleMask (sheetOf (now (s .entry)) c) ⌝ }
 {
     let mut m: u64 = 0;
-    let mut i: usize = 0;
-    while i < 64 {
-        let mut idle = false;
-        if i < n {
-            let car = cars[i];
-            idle = car.listed;
-        }
-        m = mask::pushed(m, idle);
+    let mut i: u32 = 0;
+    while i < c.cars {
+        let listed = bits::flag(s, c.car_start(i), car::LISTED);
+        m = mask::with_if(m, listed, i as usize);
         i += 1;
     }
     m
 }
 
-// The records of the idle ones of the first n cars, listed.
-pub fn list_idle(cars: [Car; 32], n: usize) -> Ones
-    requires { ⌜ (n ≤ 32) × (length cars ≡ 32) ⌝ }
-    ensures { λ r. ⌜ r ≡ onesOf (idleMask cars n) ⌝ }
-{
-    mask::list_ones(idle_cars(cars, n))
-}
-
 // The records of a sheet's idle cars, listed.
 pub fn list_cars(s: &[u8], c: Counts) -> Ones
     requires { ⌜ Small c ⌝ }
-    ensures { λ r. ⌜ r ≡ onesOf (idleMask (carsIn (sheetOf (now (s .entry)) c)) (c .cars)) ⌝ }
+    ensures { λ r. ⌜ r ≡ onesOf (idleMask (sheetOf (now (s .entry)) c)) ⌝ }
 {
-    list_idle(cars::cars_of(s, c), c.cars as usize)
+    mask::list_ones(idle_cars(s, c))
 }
 
 // The cells of the idle cars, a row each, how many pairs are ranked, and how many cells are held.
@@ -223,14 +212,13 @@ pub fn fill_matrix<'a>(
     xs: &'a [f64],
     masks: StopMasks,
     stops: Ones,
-    cars: [Car; 32],
     idle: Ones,
     columns: usize,
     matrix: &mut [u64],
 ) -> Counted
     requires { ⌜ (verdict (now s) ≡ Accepted c) × (length (now ids) ≡ 64) × (length (now xs) ≡ 128) × (stops .count ≤ columns)
         × (columns ≤ 64) × (2048 ≤ length (now matrix)) ⌝ }
-    requires { ⌜ Survey (sheetOf (now s) c) (now ids) (now xs) masks stops cars idle ⌝ }
+    requires { ⌜ Survey (sheetOf (now s) c) (now ids) (now xs) masks stops idle ⌝ }
     ensures { λ r. ⌜ FilledRows (sheetOf (now (s .entry)) c) limit (idle .count) columns (now (matrix .entry)) r (now (matrix .exit)) ⌝ }
 {
     let mut acar = [0u32; 512];
@@ -248,7 +236,6 @@ pub fn fill_matrix<'a>(
         masks,
         waiters,
         stops,
-        cars,
         idle,
         columns,
         matrix,

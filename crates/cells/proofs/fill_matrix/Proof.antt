@@ -4,7 +4,7 @@ use Rattle.cells.specs.Ids.{rising-of}
 use Rattle.cells.specs.Survey.{Survey, holds-aboard, ready}
 use Rattle.layout.specs.Records.{sheetOf}
 use Rattle.pending.specs.Masks.{calls-are}
-use Rattle.rows.specs.MatrixLaws.{CarNeeds}
+use Rattle.rows.specs.MatrixLaws.{RowsNeed}
 use borrow.Author.Needs.{needs}
 use lib.ListN.{length}
 use mathlib.Core.Path.{_≡_, refl, _∙_}
@@ -40,9 +40,9 @@ fill-rows-requires c κs =
         acar-size = aboard .0 .0;
         adest-size = aboard .1 .0;
         fits = p .0 .3;
-        ready = ready b (a .c) (p .0 .0) (a .ids .now) (a .xs .now) (a .masks) (a .stops) (a .cars) (a .idle) (p .1) _ _ held _ (c .before .before .before .waiting .ensures);
+        ready = ready b (a .c) (p .0 .0) (a .ids .now) (a .xs .now) (a .masks) (a .stops) (a .idle) (p .1) _ _ held _ (c .before .before .before .waiting .ensures);
       },
-      (p .1 .cars-held, p .1 .rows, p .0 .4, p .0 .5),
+      (p .1 .rows, p .0 .4, p .0 .5),
     )
 
 same-length : tie.Need-same-length

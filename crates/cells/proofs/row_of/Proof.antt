@@ -17,30 +17,30 @@ fill-aboard-requires c κs =
 
 car-at-requires : tie.Need-car-at-requires
 car-at-requires c κs =
-    let a = c .before .before .before .before .before .before .before .before .before .before .args in
-    let p = c .before .before .before .before .before .before .before .before .before .before .pre in
+    let a = c .before .before .before .before .before .before .before .before .before .before .before .args in
+    let p = c .before .before .before .before .before .before .before .before .before .before .before .pre in
     (accepted (a .s .now) (a .c) (p .0 .0) .small, p .0 .1)
 
 row-for-requires : tie.Need-row-for-requires
 unfolding sheetOf
 row-for-requires c κs =
-    let a = c .before .before .before .before .before .before .before .before .before .before .before .before .before .before .before .args in
-    let p = c .before .before .before .before .before .before .before .before .before .before .before .before .before .before .before .pre in
+    let a = c .before .before .before .before .before .before .before .before .before .before .before .before .before .before .before .before .args in
+    let p = c .before .before .before .before .before .before .before .before .before .before .before .before .before .before .before .before .pre in
     let b = a .s .now in
-    let aboard = c .before .before .before .before .before .before .before .fill-aboard .ensures in
+    let aboard = c .before .before .before .before .before .before .before .before .fill-aboard .ensures in
     let seated = holds-aboard (sheetOf b (a .c)) _ _ _ _ (aboard .0 .1) (aboard .1 .1) in
     let small = accepted b (a .c) (p .0 .0) .small in (
       (small, p .0 .2, p .0 .3, aboard .0 .0, aboard .1 .0, omega (arith, small .aboards, p .0 .4), omega (arith, small .aboards, p .0 .5)),
-      held-of b (a .c) (p .0 .0) (a .ids .now) (a .xs .now) (a .masks) (p .1) _ _ seated,
+      (c .before .before .before .before .before .policy-at .ensures, held-of b (a .c) (p .0 .0) (a .ids .now) (a .xs .now) (a .masks) (p .1) _ _ seated),
     )
 
 returns : tie.Need-returns
 unfolding sheetOf
 returns c =
-    let a = c .before .before .before .before .before .before .before .before .before .before .before .before .before .before .before .before .before .before .before .before .args in
-    let p = c .before .before .before .before .before .before .before .before .before .before .before .before .before .before .before .before .before .before .before .before .pre in
+    let a = c .before .before .before .before .before .before .before .before .before .before .before .before .before .before .before .before .before .before .before .before .before .args in
+    let p = c .before .before .before .before .before .before .before .before .before .before .before .before .before .before .before .before .before .before .before .before .before .pre in
     let row = c .before .before .before .before .row-for in
-    let aboard = c .before .before .before .before .before .before .before .before .before .before .before .before .fill-aboard .ensures in
+    let aboard = c .before .before .before .before .before .before .before .before .before .before .before .before .before .fill-aboard .ensures in
     let b = a .s .now in
     let seated = holds-aboard (sheetOf b (a .c)) _ _ _ _ (aboard .0 .1) (aboard .1 .1) in
     let known = held-of b (a .c) (p .0 .0) (a .ids .now) (a .xs .now) (a .masks) (p .1) _ _ seated in
@@ -50,5 +50,5 @@ returns c =
 pub row-of-spec : {M : Type 1} → statement M
 row-of-spec =
     tie.close
-    (tie.spec (λ c. search needs) (λ c. search needs) fill-aboard-requires car-at-requires (λ c. search needs) (λ c. search needs) row-for-requires
+    (tie.spec (λ c. search needs) (λ c. search needs) fill-aboard-requires (λ c κs. search needs) car-at-requires (λ c. search needs) (λ c. search needs) row-for-requires
     (λ c. search needs) (λ c. search needs) returns)
