@@ -32,7 +32,7 @@ fn prepare(
     row_of[cols] = i;
     col_of[i] = cols;
     tree::clear(seen, cols);
-    tree::begin(cells, cols, i, w, dist, from)
+    tree::begin(cells, n, cols, i, w, row_of, dist, from)
 }
 
 // Row i gets a column, and the rows before it keep one each.
@@ -67,7 +67,21 @@ fn insert(
             tree::augment(row_of, col_of, from, seen, n, cols, j);
             return;
         }
-        j = tree::join(cells, cols, r, u[r], j, t, d, w, seen, dist, from);
+        j = tree::join(
+            cells,
+            n,
+            cols,
+            r,
+            u[r],
+            j,
+            t,
+            d,
+            w,
+            row_of,
+            seen,
+            dist,
+            from,
+        );
     }
 }
 

@@ -22,22 +22,39 @@ pub(crate) fn cell(cells: &[u64], cols: usize, i: usize, j: usize) -> u64
     cells[i * cols + j]
 }
 
-// Row i alone in the tree: the distance of each column is its slack, and the stand is where it is seen from. Answers the nearest column; the first
-// is nearer than the distance that is started from.
+// What columns are compared by: twice the distance k, and 1 more where row r has the column. So of equal distances a free column's is less, and no branch
+// asks for it.
+fn rank(k: u64, r: usize, n: usize) -> u64
+    requires { ⌜ k < 9223372036854775808 ⌝ }
+    ensures free { λ x. ⌜ (n ≤ r → x ≡ 2 * k) ⌝ }
+    ensures taken { λ x. ⌜ (r < n → x ≡ 2 * k + 1) ⌝ }
+{
+    if r < n {
+        return 2 * k + 1;
+    }
+    2 * k
+}
+
+// Row i alone in the tree: the distance of each column is its slack, and the stand is where it is seen from. Answers the nearest column, a free one
+// where it can; the first is less than the rank that is started from.
 pub(crate) fn begin(
     cells: &[u64],
+    n: usize,
     cols: usize,
     i: usize,
     w: &[u64],
+    row_of: &[usize],
     dist: &mut [u64],
     from: &mut [usize],
 ) -> usize
-    requires { ⌜ (length (now w) ≡ 65) × (length (now dist) ≡ 65) × (length (now from) ≡ 65) ⌝ }
+    requires { ⌜ (length (now w) ≡ 65) × (length (now «row_of») ≡ 65) × (length (now dist) ≡ 65) × (length (now from) ≡ 65) ⌝ }
     requires { ⌜ (cols ≤ 64) × (i * cols + cols ≤ length (now cells)) ⌝ }
     requires { ⌜ ((k : ℕ) → at (now cells) k ≤ big) ⌝ }
     requires { ⌜ ((j : ℕ) → j < cols → at (now w) j ≤ big) ⌝ }
     ensures rooted { λ _. ⌜ Rooted (now (cells .entry)) cols i (now (w .entry)) (now (dist .exit)) (now (from .exit)) ⌝ }
     ensures nearest { λ r. ⌜ (0 < cols → r < cols) × ((j : ℕ) → j < cols → at (now (dist .exit)) r ≤ at (now (dist .exit)) j) ⌝ }
+    ensures free_first { λ r. ⌜ ((j : ℕ) → j < cols → at (now (dist .exit)) j ≡ at (now (dist .exit)) r → n ≤ at (now («row_of» .entry)) j
+        → n ≤ at (now («row_of» .entry)) r) ⌝ }
 {
     let mut best = 0;
     let mut least = 18446744073709551615;
@@ -46,9 +63,10 @@ pub(crate) fn begin(
         let s = cell(cells, cols, i, j) + w[j];
         dist[j] = s;
         from[j] = cols;
-        if s < least {
+        let a = rank(s, row_of[j], n);
+        if a < least {
             best = j;
-            least = s;
+            least = a;
         }
         j += 1;
     }
@@ -105,20 +123,23 @@ pub(crate) fn raise_columns(seen: &[usize], dist: &[u64], w: &mut [u64], cols: u
 }
 
 // The distances outside the tree are lowered to those by row r, whose column is col, at the distance d. Answers the column outside the tree with the
-// least distance.
+// least distance, a free one where it can.
 fn relax(
     cells: &[u64],
+    n: usize,
     cols: usize,
     r: usize,
     ur: u64,
     col: usize,
     d: u64,
     w: &[u64],
+    row_of: &[usize],
     seen: &[usize],
     dist: &mut [u64],
     from: &mut [usize],
 ) -> usize
-    requires { ⌜ (length (now w) ≡ 65) × (length (now seen) ≡ 65) × (length (now dist) ≡ 65) × (length (now from) ≡ 65) ⌝ }
+    requires { ⌜ (length (now w) ≡ 65) × (length (now «row_of») ≡ 65) × (length (now seen) ≡ 65) × (length (now dist) ≡ 65)
+        × (length (now from) ≡ 65) ⌝ }
     requires { ⌜ (cols ≤ 64) × (r * cols + cols ≤ length (now cells)) × (d ≤ big) ⌝ }
     requires { ⌜ ((f : ℕ) × (f < cols) × (at (now seen) f ≡ 0)) ⌝ }
     requires { ⌜ ((k : ℕ) → at (now cells) k ≤ big) ⌝ }
@@ -127,6 +148,8 @@ fn relax(
     ensures relaxed { λ _. ⌜ DistancesRelaxed (now (cells .entry)) cols r ur col d (now (w .entry)) (now (seen .entry)) (now (dist .entry))
         (now (from .entry)) (now (dist .exit)) (now (from .exit)) ⌝ }
     ensures nearest { λ x. ⌜ Nearest (now (seen .entry)) (now (dist .exit)) cols x ⌝ }
+    ensures free_first { λ x. ⌜ ((j : ℕ) → j < cols → at (now (seen .entry)) j ≡ 0 → at (now (dist .exit)) j ≡ at (now (dist .exit)) x
+        → n ≤ at (now («row_of» .entry)) j → n ≤ at (now («row_of» .entry)) x) ⌝ }
 {
     let mut best = 0;
     let mut least = 18446744073709551615;
@@ -138,7 +161,7 @@ fn relax(
                 dist[j] = s;
                 from[j] = col;
             }
-            let k = dist[j];
+            let k = rank(dist[j], row_of[j], n);
             if k < least {
                 best = j;
                 least = k;
@@ -203,6 +226,7 @@ pub(crate) fn clear(seen: &mut [usize], cols: usize)
 // distance.
 pub(crate) fn join(
     cells: &[u64],
+    n: usize,
     cols: usize,
     r: usize,
     ur: u64,
@@ -210,11 +234,13 @@ pub(crate) fn join(
     t: usize,
     d: u64,
     w: &[u64],
+    row_of: &[usize],
     seen: &mut [usize],
     dist: &mut [u64],
     from: &mut [usize],
 ) -> usize
-    requires { ⌜ (length (now w) ≡ 65) × (length (now seen) ≡ 65) × (length (now dist) ≡ 65) × (length (now from) ≡ 65) ⌝ }
+    requires { ⌜ (length (now w) ≡ 65) × (length (now «row_of») ≡ 65) × (length (now seen) ≡ 65) × (length (now dist) ≡ 65)
+        × (length (now from) ≡ 65) ⌝ }
     requires { ⌜ (cols ≤ 64) × (r * cols + cols ≤ length (now cells)) × (j < cols) × (0 < t) × (d ≤ big) ⌝ }
     requires { ⌜ ((f : ℕ) × (f < cols) × (at (now seen) f ≡ 0) × (f ≡ j → ⊥)) ⌝ }
     requires { ⌜ ((k : ℕ) → at (now cells) k ≤ big) ⌝ }
@@ -225,5 +251,5 @@ pub(crate) fn join(
     ensures nearest { λ x. ⌜ Nearest (now (seen .exit)) (now (dist .exit)) cols x ⌝ }
 {
     seen[j] = t;
-    relax(cells, cols, r, ur, j, d, w, seen, dist, from)
+    relax(cells, n, cols, r, ur, j, d, w, row_of, seen, dist, from)
 }

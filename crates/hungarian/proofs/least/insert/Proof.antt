@@ -280,7 +280,7 @@ slice-read-join c =
 
 join-requires : tie.Need-join-requires Inv-loop μ-loop
 join-requires c κs =
-    let a = c .before .before .before .before .before .before .before .before in
+    let a = c .before .before .before .before .before .before .before .before .before in
     let s = start a in
     let mx = s .pre .1 .0 in
     let li = s .pre .1 .1 in
@@ -291,9 +291,9 @@ join-requires c κs =
     let gr = grown mx li g0 j near in
     let lj = near .below in
     let out = near .outside in
-    let own = c .before .before .before .before .before .if1 .left in
+    let own = c .before .before .before .before .before .before .if1 .left in
     let other : iv .2 .0 ≡ j → ⊥ = λ e. let same : at (a .loop .row-of) (iv .2 .0) ≡ at (a .loop .row-of) j = ap (at (a .loop .row-of)) e in omega (arith, g0 .free, own) in (
-      (iv .0 .w65, iv .1 .se65, iv .1 .di65, iv .1 .fr65),
+      (iv .0 .w65, iv .0 .ro65, iv .1 .se65, iv .1 .di65, iv .1 .fr65),
       (
         (mx .cols64, omega (arith, row-in (at (a .loop .row-of) j) (s .args .n) (s .args .cols) own, mx .whole), lj, omega arith, d-low mx li g0 j near),
         ((iv .2 .0, g0 .below, f-unseen mx li g0, other), (mx .small, (λ x l. (w-low mx li g0 x l, (λ o. join-under mx li gr j lj out refl own x l o))))),
@@ -302,16 +302,16 @@ join-requires c κs =
 
 loop-less : tie.Need-loop-less Inv-loop μ-loop
 loop-less c =
-    let a = c .before .before .before .before .before .before .before .before .before .before .before .before .before .before .before in
+    let a = c .before .before .before .before .before .before .before .before .before .before .before .before .before .before .before .before in
     let s = start a in
     let near = a .loop .inv .4 in
     let j = a .loop .j in
     let v = c .before .before .before .before .before .before .join in
-    unseen-less (s .args .cols) (a .loop .seen) (v .last .1 .1 .1 .1 .1 .1 .1 .1 .0) j (near .below) (near .outside) (omega (arith, v .ensures .0 .turned)) (v .ensures .0 .others)
+    unseen-less (s .args .cols) (a .loop .seen) (v .last .1 .1 .1 .1 .1 .1 .1 .1 .1 .1 .0) j (near .below) (near .outside) (omega (arith, v .ensures .0 .turned)) (v .ensures .0 .others)
 
 loop-again : tie.Need-loop-again Inv-loop μ-loop
 loop-again c =
-    let a = c .before .before .before .before .before .before .before .before .before .before .before .before .before .before .before in
+    let a = c .before .before .before .before .before .before .before .before .before .before .before .before .before .before .before .before in
     let s = start a in
     let mx = s .pre .1 .0 in
     let li = s .pre .1 .1 in
@@ -322,12 +322,12 @@ loop-again c =
     let gr = grown mx li g0 j near in
     let lj = near .below in
     let out = near .outside in
-    let own = c .before .before .before .before .before .before .before .before .before .before .before .before .if1 .left in
+    let own = c .before .before .before .before .before .before .before .before .before .before .before .before .before .if1 .left in
     let v = c .before .before .before .before .before .before .join in (
       iv .0,
-      record { di65 = v .kept .1 .1 .1 .1 .1 .1 .1 .1 .1 .0 ∙ iv .1 .di65; fr65 = v .kept .1 .1 .1 .1 .1 .1 .1 .1 .1 .1 .0 ∙ iv .1 .fr65; se65 = v .kept .1 .1 .1 .1 .1 .1 .1 .1 .0 ∙ iv .1 .se65 },
-      (iv .2 .0, record { d = at (a .loop .dist) j; growing = joined mx li gr j lj out refl own (v .last .1 .1 .1 .1 .1 .1 .1 .1 .0) (v .last .1 .1 .1 .1 .1 .1 .1 .1 .1 .0) (v .last .1 .1 .1 .1 .1 .1 .1 .1 .1 .1 .0) (v .ensures .0) }),
-      omega (arith, iv .3, unseen-less (s .args .cols) (a .loop .seen) (v .last .1 .1 .1 .1 .1 .1 .1 .1 .0) j lj out (omega (arith, v .ensures .0 .turned)) (v .ensures .0 .others)),
+      record { di65 = v .kept .1 .1 .1 .1 .1 .1 .1 .1 .1 .1 .1 .0 ∙ iv .1 .di65; fr65 = v .kept .1 .1 .1 .1 .1 .1 .1 .1 .1 .1 .1 .1 .0 ∙ iv .1 .fr65; se65 = v .kept .1 .1 .1 .1 .1 .1 .1 .1 .1 .1 .0 ∙ iv .1 .se65 },
+      (iv .2 .0, record { d = at (a .loop .dist) j; growing = joined mx li gr j lj out refl own (v .last .1 .1 .1 .1 .1 .1 .1 .1 .1 .1 .0) (v .last .1 .1 .1 .1 .1 .1 .1 .1 .1 .1 .1 .0) (v .last .1 .1 .1 .1 .1 .1 .1 .1 .1 .1 .1 .1 .0) (v .ensures .0) }),
+      omega (arith, iv .3, unseen-less (s .args .cols) (a .loop .seen) (v .last .1 .1 .1 .1 .1 .1 .1 .1 .1 .1 .0) j lj out (omega (arith, v .ensures .0 .turned)) (v .ensures .0 .others)),
       v .ensures .1,
     )
 
