@@ -86,14 +86,7 @@ fn gained(s: usize, d: u64, k: u64) -> u64
 }
 
 // The prices of the tree's rows, at the distance d.
-pub(crate) fn raise_rows(
-    seen: &[usize],
-    col_of: &[usize],
-    dist: &[u64],
-    u: &mut [u64],
-    rows: usize,
-    d: u64,
-)
+fn raise_rows(seen: &[usize], col_of: &[usize], dist: &[u64], u: &mut [u64], rows: usize, d: u64)
     requires { ⌜ (length (now seen) ≡ 65) × (length (now «col_of») ≡ 32) × (length (now dist) ≡ 65) × (length (now u) ≡ 32) ⌝ }
     requires { ⌜ (rows ≤ 32) × (d ≤ big) ⌝ }
     requires { ⌜ ((r : ℕ) → r < rows → (at (now «col_of») r ≤ 64) × (at (now u) r ≤ big)) ⌝ }
@@ -109,7 +102,7 @@ pub(crate) fn raise_rows(
 }
 
 // The discounts of the tree's columns, at the distance d.
-pub(crate) fn raise_columns(seen: &[usize], dist: &[u64], w: &mut [u64], cols: usize, d: u64)
+fn raise_columns(seen: &[usize], dist: &[u64], w: &mut [u64], cols: usize, d: u64)
     requires { ⌜ (length (now seen) ≡ 65) × (length (now dist) ≡ 65) × (length (now w) ≡ 65) ⌝ }
     requires { ⌜ (cols ≤ 64) × (d ≤ big) ⌝ }
     requires { ⌜ ((j : ℕ) → j < cols → (at (now w) j ≤ big) × (0 < at (now seen) j → at (now dist) j ≤ d)) ⌝ }
@@ -120,6 +113,39 @@ pub(crate) fn raise_columns(seen: &[usize], dist: &[u64], w: &mut [u64], cols: u
         w[j] += gained(seen[j], d, dist[j]);
         j += 1;
     }
+}
+
+// The prices of the tree's rows and the discounts of its columns, where it comes to a free column at the distance d, as its turn t. As turn 2 that
+// column is alone in the tree with row i, whose price is the only one that gains.
+pub(crate) fn raise(
+    seen: &[usize],
+    col_of: &[usize],
+    dist: &[u64],
+    u: &mut [u64],
+    w: &mut [u64],
+    i: usize,
+    cols: usize,
+    t: usize,
+    d: u64,
+)
+    requires { ⌜ (length (now seen) ≡ 65) × (length (now «col_of») ≡ 32) × (length (now dist) ≡ 65) × (length (now u) ≡ 32)
+        × (length (now w) ≡ 65) ⌝ }
+    requires { ⌜ (i < 32) × (cols ≤ 64) × (d ≤ big) ⌝ }
+    requires { ⌜ ((r : ℕ) → r < i + 1 → (at (now «col_of») r ≤ 64) × (at (now u) r ≤ big)) ⌝ }
+    requires { ⌜ ((r : ℕ) → r < i + 1 → 0 < at (now seen) (at (now «col_of») r) → at (now dist) (at (now «col_of») r) ≤ d) ⌝ }
+    requires { ⌜ ((j : ℕ) → j < cols → (at (now w) j ≤ big) × (0 < at (now seen) j → at (now dist) j ≤ d)) ⌝ }
+    requires { ⌜ (t ≡ 2 → gain (at (now seen) (at (now «col_of») i)) d (at (now dist) (at (now «col_of») i)) ≡ d) ⌝ }
+    requires { ⌜ (t ≡ 2 → (r : ℕ) → r < i → gain (at (now seen) (at (now «col_of») r)) d (at (now dist) (at (now «col_of») r)) ≡ 0) ⌝ }
+    requires { ⌜ (t ≡ 2 → (j : ℕ) → j < cols → gain (at (now seen) j) d (at (now dist) j) ≡ 0) ⌝ }
+    ensures rows { λ _. ⌜ RaisedRows (now (seen .entry)) (now («col_of» .entry)) (now (dist .entry)) (i + 1) d (now (u .entry)) (now (u .exit)) ⌝ }
+    ensures columns { λ _. ⌜ RaisedColumns (now (seen .entry)) (now (dist .entry)) cols d (now (w .entry)) (now (w .exit)) ⌝ }
+{
+    if t == 2 {
+        u[i] += d;
+        return;
+    }
+    raise_rows(seen, col_of, dist, u, i + 1, d);
+    raise_columns(seen, dist, w, cols, d);
 }
 
 // The distances outside the tree are lowered to those by row r, whose column is col, at the distance d. Answers the column outside the tree with the

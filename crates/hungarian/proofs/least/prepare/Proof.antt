@@ -9,7 +9,7 @@ use Prim.Native.Nat.{ℕ, zero, suc, _<_}
 use mathlib.Core.List.{List}
 use lib.ListN.{length-set, set}
 use mathlib.Core.Logic.{⊎-elim}
-use Rattle.alternating_tree.specs.Lists.{at, big, FreeColumn}
+use Rattle.alternating_tree.specs.Lists.{at, big, FreeColumn, at-same}
 use Rattle.alternating_tree.specs.State.{Growing, prepared}
 
 -- whatever the rows have, there is a first column that no row has, or none below cols
@@ -95,8 +95,13 @@ returns c =
     (set (g .col-of .now) (g .i) (g .cols)) (v .last .1 .1 .1 .1 .1 .1 .0) (v .last .1 .1 .1 .1 .1 .1 .1 .0) (cl .last .0)
     = prepared (v .last .1 .1 .1 .1 .1 .1 .0) (v .last .1 .1 .1 .1 .1 .1 .1 .0) (cl .last .0)
     (b .pre .1 .0) (b .pre .1 .1) (b .pre .0 .0) (b .pre .1 .2) e (cl .ensures) (v .ensures .0) in
-    let lr = v .ensures .1 .0 .0 (omega (arith, growing .below)) in
-    ((f, growing), record { below = lr; outside = cl .ensures .zeros (v .result) lr; least = λ j lj o. v .ensures .1 .0 .1 j lj })
+    let lr = v .ensures .1 .0 .0 (omega (arith, growing .below)) in (
+      (f, growing),
+      (
+        record { below = lr; outside = cl .ensures .zeros (v .result) lr; least = λ j lj o. v .ensures .1 .0 .1 j lj },
+        (cl .ensures, at-same (g .col-of .now) (g .i) (g .cols) (omega (arith, b .pre .0 .0 .co32, b .pre .1 .0 .rows32, b .pre .1 .1))),
+      ),
+    )
 
 pub prepare-spec : {M : Type 1} → statement M
 prepare-spec =
