@@ -22,8 +22,8 @@ pub(crate) fn cell(cells: &[u64], cols: usize, i: usize, j: usize) -> u64
     cells[i * cols + j]
 }
 
-// What columns are compared by: twice the distance k, and 1 more where row r has the column. So of equal distances a free column's is less, and no branch
-// asks for it.
+// What columns are compared by: twice the distance k, and 1 more where a row r below n has the column. So of equal distances a free column's is
+// less, and no branch asks for it.
 fn rank(k: u64, r: usize, n: usize) -> u64
     requires { ⌜ k < 9223372036854775808 ⌝ }
     ensures free { λ x. ⌜ (n ≤ r → x ≡ 2 * k) ⌝ }
