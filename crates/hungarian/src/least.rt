@@ -5,7 +5,7 @@ ghost use Prim.Native.Nat.{ℕ, _+_, _<_};
 ghost use Rattle.assignment_problem.specs.Choice.{cellAt, total};
 ghost use Rattle.assignment_problem.specs.Recursion.{leastTotal};
 ghost use Rattle.alternating_tree.specs.Lists.{at, Nearest};
-ghost use Rattle.alternating_tree.specs.State.{Sizes, Scratch, Matrix, State, Growing};
+ghost use Rattle.alternating_tree.specs.State.{Sizes, Scratch, Matrix, State, Growing, Cleared};
 use super::tree;
 
 // Row i stands alone in the tree; answers the nearest column.
@@ -27,12 +27,13 @@ fn prepare(
     ensures growing { λ _. ⌜ ((f : ℕ) × Growing (now (cells .entry)) n cols i 1 f 0 (now (u .exit)) (now (w .entry)) (now («row_of» .exit))
         (now («col_of» .exit)) (now (dist .exit)) (now (from .exit)) (now (seen .exit))) ⌝ }
     ensures nearest { λ j. ⌜ Nearest (now (seen .exit)) (now (dist .exit)) cols j ⌝ }
+    ensures alone { λ _. ⌜ Cleared cols (now (seen .exit)) × (at (now («col_of» .exit)) i ≡ cols) ⌝ }
 {
     u[i] = 0;
     row_of[cols] = i;
     col_of[i] = cols;
     tree::clear(seen, cols);
-    tree::begin(cells, cols, i, w, dist, from)
+    tree::begin(cells, n, cols, i, w, row_of, dist, from)
 }
 
 // Row i gets a column, and the rows before it keep one each.
@@ -62,12 +63,25 @@ fn insert(
         let r = row_of[j];
         if n <= r {
             seen[j] = t;
-            tree::raise_rows(seen, col_of, dist, u, i + 1, d);
-            tree::raise_columns(seen, dist, w, cols, d);
+            tree::raise(seen, col_of, dist, u, w, i, cols, t, d);
             tree::augment(row_of, col_of, from, seen, n, cols, j);
             return;
         }
-        j = tree::join(cells, cols, r, u[r], j, t, d, w, seen, dist, from);
+        j = tree::join(
+            cells,
+            n,
+            cols,
+            r,
+            u[r],
+            j,
+            t,
+            d,
+            w,
+            row_of,
+            seen,
+            dist,
+            from,
+        );
     }
 }
 

@@ -22,22 +22,39 @@ pub(crate) fn cell(cells: &[u64], cols: usize, i: usize, j: usize) -> u64
     cells[i * cols + j]
 }
 
-// Row i alone in the tree: the distance of each column is its slack, and the stand is where it is seen from. Answers the nearest column; the first
-// is nearer than the distance that is started from.
+// What columns are compared by: twice the distance k, and 1 more where a row r below n has the column. So of equal distances a free column's is
+// less, and no branch asks for it.
+fn rank(k: u64, r: usize, n: usize) -> u64
+    requires { ⌜ k < 9223372036854775808 ⌝ }
+    ensures free { λ x. ⌜ (n ≤ r → x ≡ 2 * k) ⌝ }
+    ensures taken { λ x. ⌜ (r < n → x ≡ 2 * k + 1) ⌝ }
+{
+    if r < n {
+        return 2 * k + 1;
+    }
+    2 * k
+}
+
+// Row i alone in the tree: the distance of each column is its slack, and the stand is where it is seen from. Answers the nearest column, a free one
+// where it can; the first is less than the rank that is started from.
 pub(crate) fn begin(
     cells: &[u64],
+    n: usize,
     cols: usize,
     i: usize,
     w: &[u64],
+    row_of: &[usize],
     dist: &mut [u64],
     from: &mut [usize],
 ) -> usize
-    requires { ⌜ (length (now w) ≡ 65) × (length (now dist) ≡ 65) × (length (now from) ≡ 65) ⌝ }
+    requires { ⌜ (length (now w) ≡ 65) × (length (now «row_of») ≡ 65) × (length (now dist) ≡ 65) × (length (now from) ≡ 65) ⌝ }
     requires { ⌜ (cols ≤ 64) × (i * cols + cols ≤ length (now cells)) ⌝ }
     requires { ⌜ ((k : ℕ) → at (now cells) k ≤ big) ⌝ }
     requires { ⌜ ((j : ℕ) → j < cols → at (now w) j ≤ big) ⌝ }
     ensures rooted { λ _. ⌜ Rooted (now (cells .entry)) cols i (now (w .entry)) (now (dist .exit)) (now (from .exit)) ⌝ }
     ensures nearest { λ r. ⌜ (0 < cols → r < cols) × ((j : ℕ) → j < cols → at (now (dist .exit)) r ≤ at (now (dist .exit)) j) ⌝ }
+    ensures free_first { λ r. ⌜ ((j : ℕ) → j < cols → at (now (dist .exit)) j ≡ at (now (dist .exit)) r → n ≤ at (now («row_of» .entry)) j
+        → n ≤ at (now («row_of» .entry)) r) ⌝ }
 {
     let mut best = 0;
     let mut least = 18446744073709551615;
@@ -46,9 +63,10 @@ pub(crate) fn begin(
         let s = cell(cells, cols, i, j) + w[j];
         dist[j] = s;
         from[j] = cols;
-        if s < least {
+        let a = rank(s, row_of[j], n);
+        if a < least {
             best = j;
-            least = s;
+            least = a;
         }
         j += 1;
     }
@@ -68,14 +86,7 @@ fn gained(s: usize, d: u64, k: u64) -> u64
 }
 
 // The prices of the tree's rows, at the distance d.
-pub(crate) fn raise_rows(
-    seen: &[usize],
-    col_of: &[usize],
-    dist: &[u64],
-    u: &mut [u64],
-    rows: usize,
-    d: u64,
-)
+fn raise_rows(seen: &[usize], col_of: &[usize], dist: &[u64], u: &mut [u64], rows: usize, d: u64)
     requires { ⌜ (length (now seen) ≡ 65) × (length (now «col_of») ≡ 32) × (length (now dist) ≡ 65) × (length (now u) ≡ 32) ⌝ }
     requires { ⌜ (rows ≤ 32) × (d ≤ big) ⌝ }
     requires { ⌜ ((r : ℕ) → r < rows → (at (now «col_of») r ≤ 64) × (at (now u) r ≤ big)) ⌝ }
@@ -91,7 +102,7 @@ pub(crate) fn raise_rows(
 }
 
 // The discounts of the tree's columns, at the distance d.
-pub(crate) fn raise_columns(seen: &[usize], dist: &[u64], w: &mut [u64], cols: usize, d: u64)
+fn raise_columns(seen: &[usize], dist: &[u64], w: &mut [u64], cols: usize, d: u64)
     requires { ⌜ (length (now seen) ≡ 65) × (length (now dist) ≡ 65) × (length (now w) ≡ 65) ⌝ }
     requires { ⌜ (cols ≤ 64) × (d ≤ big) ⌝ }
     requires { ⌜ ((j : ℕ) → j < cols → (at (now w) j ≤ big) × (0 < at (now seen) j → at (now dist) j ≤ d)) ⌝ }
@@ -104,21 +115,57 @@ pub(crate) fn raise_columns(seen: &[usize], dist: &[u64], w: &mut [u64], cols: u
     }
 }
 
+// The prices of the tree's rows and the discounts of its columns, where it comes to a free column at the distance d, as its turn t. As turn 2 that
+// column is alone in the tree with row i, whose price is the only one that gains.
+pub(crate) fn raise(
+    seen: &[usize],
+    col_of: &[usize],
+    dist: &[u64],
+    u: &mut [u64],
+    w: &mut [u64],
+    i: usize,
+    cols: usize,
+    t: usize,
+    d: u64,
+)
+    requires { ⌜ (length (now seen) ≡ 65) × (length (now «col_of») ≡ 32) × (length (now dist) ≡ 65) × (length (now u) ≡ 32)
+        × (length (now w) ≡ 65) ⌝ }
+    requires { ⌜ (i < 32) × (cols ≤ 64) × (d ≤ big) ⌝ }
+    requires { ⌜ ((r : ℕ) → r < i + 1 → (at (now «col_of») r ≤ 64) × (at (now u) r ≤ big)) ⌝ }
+    requires { ⌜ ((r : ℕ) → r < i + 1 → 0 < at (now seen) (at (now «col_of») r) → at (now dist) (at (now «col_of») r) ≤ d) ⌝ }
+    requires { ⌜ ((j : ℕ) → j < cols → (at (now w) j ≤ big) × (0 < at (now seen) j → at (now dist) j ≤ d)) ⌝ }
+    requires { ⌜ (t ≡ 2 → gain (at (now seen) (at (now «col_of») i)) d (at (now dist) (at (now «col_of») i)) ≡ d) ⌝ }
+    requires { ⌜ (t ≡ 2 → (r : ℕ) → r < i → gain (at (now seen) (at (now «col_of») r)) d (at (now dist) (at (now «col_of») r)) ≡ 0) ⌝ }
+    requires { ⌜ (t ≡ 2 → (j : ℕ) → j < cols → gain (at (now seen) j) d (at (now dist) j) ≡ 0) ⌝ }
+    ensures rows { λ _. ⌜ RaisedRows (now (seen .entry)) (now («col_of» .entry)) (now (dist .entry)) (i + 1) d (now (u .entry)) (now (u .exit)) ⌝ }
+    ensures columns { λ _. ⌜ RaisedColumns (now (seen .entry)) (now (dist .entry)) cols d (now (w .entry)) (now (w .exit)) ⌝ }
+{
+    if t == 2 {
+        u[i] += d;
+        return;
+    }
+    raise_rows(seen, col_of, dist, u, i + 1, d);
+    raise_columns(seen, dist, w, cols, d);
+}
+
 // The distances outside the tree are lowered to those by row r, whose column is col, at the distance d. Answers the column outside the tree with the
-// least distance.
+// least distance, a free one where it can.
 fn relax(
     cells: &[u64],
+    n: usize,
     cols: usize,
     r: usize,
     ur: u64,
     col: usize,
     d: u64,
     w: &[u64],
+    row_of: &[usize],
     seen: &[usize],
     dist: &mut [u64],
     from: &mut [usize],
 ) -> usize
-    requires { ⌜ (length (now w) ≡ 65) × (length (now seen) ≡ 65) × (length (now dist) ≡ 65) × (length (now from) ≡ 65) ⌝ }
+    requires { ⌜ (length (now w) ≡ 65) × (length (now «row_of») ≡ 65) × (length (now seen) ≡ 65) × (length (now dist) ≡ 65)
+        × (length (now from) ≡ 65) ⌝ }
     requires { ⌜ (cols ≤ 64) × (r * cols + cols ≤ length (now cells)) × (d ≤ big) ⌝ }
     requires { ⌜ ((f : ℕ) × (f < cols) × (at (now seen) f ≡ 0)) ⌝ }
     requires { ⌜ ((k : ℕ) → at (now cells) k ≤ big) ⌝ }
@@ -127,6 +174,8 @@ fn relax(
     ensures relaxed { λ _. ⌜ DistancesRelaxed (now (cells .entry)) cols r ur col d (now (w .entry)) (now (seen .entry)) (now (dist .entry))
         (now (from .entry)) (now (dist .exit)) (now (from .exit)) ⌝ }
     ensures nearest { λ x. ⌜ Nearest (now (seen .entry)) (now (dist .exit)) cols x ⌝ }
+    ensures free_first { λ x. ⌜ ((j : ℕ) → j < cols → at (now (seen .entry)) j ≡ 0 → at (now (dist .exit)) j ≡ at (now (dist .exit)) x
+        → n ≤ at (now («row_of» .entry)) j → n ≤ at (now («row_of» .entry)) x) ⌝ }
 {
     let mut best = 0;
     let mut least = 18446744073709551615;
@@ -138,7 +187,7 @@ fn relax(
                 dist[j] = s;
                 from[j] = col;
             }
-            let k = dist[j];
+            let k = rank(dist[j], row_of[j], n);
             if k < least {
                 best = j;
                 least = k;
@@ -203,6 +252,7 @@ pub(crate) fn clear(seen: &mut [usize], cols: usize)
 // distance.
 pub(crate) fn join(
     cells: &[u64],
+    n: usize,
     cols: usize,
     r: usize,
     ur: u64,
@@ -210,11 +260,13 @@ pub(crate) fn join(
     t: usize,
     d: u64,
     w: &[u64],
+    row_of: &[usize],
     seen: &mut [usize],
     dist: &mut [u64],
     from: &mut [usize],
 ) -> usize
-    requires { ⌜ (length (now w) ≡ 65) × (length (now seen) ≡ 65) × (length (now dist) ≡ 65) × (length (now from) ≡ 65) ⌝ }
+    requires { ⌜ (length (now w) ≡ 65) × (length (now «row_of») ≡ 65) × (length (now seen) ≡ 65) × (length (now dist) ≡ 65)
+        × (length (now from) ≡ 65) ⌝ }
     requires { ⌜ (cols ≤ 64) × (r * cols + cols ≤ length (now cells)) × (j < cols) × (0 < t) × (d ≤ big) ⌝ }
     requires { ⌜ ((f : ℕ) × (f < cols) × (at (now seen) f ≡ 0) × (f ≡ j → ⊥)) ⌝ }
     requires { ⌜ ((k : ℕ) → at (now cells) k ≤ big) ⌝ }
@@ -225,5 +277,5 @@ pub(crate) fn join(
     ensures nearest { λ x. ⌜ Nearest (now (seen .exit)) (now (dist .exit)) cols x ⌝ }
 {
     seen[j] = t;
-    relax(cells, cols, r, ur, j, d, w, seen, dist, from)
+    relax(cells, n, cols, r, ur, j, d, w, row_of, seen, dist, from)
 }

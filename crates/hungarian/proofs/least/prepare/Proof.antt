@@ -7,9 +7,9 @@ use Rattle.hungarian.proofs.least.prepare.Tie as tie
 use native.Mathlib.Omega.{arith}
 use Prim.Native.Nat.{ℕ, zero, suc, _<_}
 use mathlib.Core.List.{List}
-use lib.ListN.{set}
+use lib.ListN.{length-set, set}
 use mathlib.Core.Logic.{⊎-elim}
-use Rattle.alternating_tree.specs.Lists.{at, big, FreeColumn}
+use Rattle.alternating_tree.specs.Lists.{at, big, FreeColumn, at-same}
 use Rattle.alternating_tree.specs.State.{Growing, prepared}
 
 -- whatever the rows have, there is a first column that no row has, or none below cols
@@ -55,11 +55,11 @@ clear-requires c κs = search needs
 
 begin-requires : tie.Need-begin-requires
 begin-requires c κs =
-    let b = c .before .before .before .before .before .before .before .before .before .before .before .before .before .before in
+    let b = c .before .before .before .before .before .before .before .before .before .before .before .before .before .before .before in
     let sz = b .pre .0 .0 in
     let sc = b .pre .0 .1 in
     let mx = b .pre .1 .0 in (
-      (sz .w65, sc .di65, sc .fr65),
+      (sz .w65, simp length-set (sz .ro65), sc .di65, sc .fr65),
       (
         (mx .cols64, omega (arith, row-in (b .args .i) (b .args .n) (b .args .cols) (b .pre .1 .1), mx .whole)),
         (mx .small, b .pre .1 .2 .w-bound big (mx .small)),
@@ -86,17 +86,22 @@ same-length-6 c = search needs
 
 returns : tie.Need-returns
 returns c =
-    let b = c .before .before .before .before .before .before .before .before .before .before .before .before .before .before .before .before .before .before .before in
+    let b = c .before .before .before .before .before .before .before .before .before .before .before .before .before .before .before .before .before .before .before .before in
     let v = c .before .before .before .before .begin in
-    let cl = c .before .before .before .before .before .before .before .before .before .clear in
+    let cl = c .before .before .before .before .before .before .before .before .before .before .clear in
     let g = b .args in
     let (f, e) = first-free (g .row-of .now) (g .n) (g .cols) in
     let growing : Growing (g .cells .now) (g .n) (g .cols) (g .i) 1 f 0 (set (g .u .now) (g .i) 0) (g .w .now) (set (g .row-of .now) (g .cols) (g .i))
-    (set (g .col-of .now) (g .i) (g .cols)) (v .last .1 .1 .1 .1 .0) (v .last .1 .1 .1 .1 .1 .0) (cl .last .0)
-    = prepared (v .last .1 .1 .1 .1 .0) (v .last .1 .1 .1 .1 .1 .0) (cl .last .0)
+    (set (g .col-of .now) (g .i) (g .cols)) (v .last .1 .1 .1 .1 .1 .1 .0) (v .last .1 .1 .1 .1 .1 .1 .1 .0) (cl .last .0)
+    = prepared (v .last .1 .1 .1 .1 .1 .1 .0) (v .last .1 .1 .1 .1 .1 .1 .1 .0) (cl .last .0)
     (b .pre .1 .0) (b .pre .1 .1) (b .pre .0 .0) (b .pre .1 .2) e (cl .ensures) (v .ensures .0) in
-    let lr = v .ensures .1 .0 (omega (arith, growing .below)) in
-    ((f, growing), record { below = lr; outside = cl .ensures .zeros (v .result) lr; least = λ j lj o. v .ensures .1 .1 j lj })
+    let lr = v .ensures .1 .0 .0 (omega (arith, growing .below)) in (
+      (f, growing),
+      (
+        record { below = lr; outside = cl .ensures .zeros (v .result) lr; least = λ j lj o. v .ensures .1 .0 .1 j lj },
+        (cl .ensures, at-same (g .col-of .now) (g .i) (g .cols) (omega (arith, b .pre .0 .0 .co32, b .pre .1 .0 .rows32, b .pre .1 .1))),
+      ),
+    )
 
 pub prepare-spec : {M : Type 1} → statement M
 prepare-spec =

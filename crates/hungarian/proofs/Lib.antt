@@ -1,0 +1,2 @@
+-- Laws that the proofs of `hungarian` share.
+pub mod Best
