@@ -52,14 +52,20 @@ pub record HoldsCounts (demand : ℕ) (xs : List Float) (n : ℕ) (table : List 
 unfoldable pub haltsBetween : Float → Float → ℕ → ℕ → ℕ
 haltsBetween x p car stop = cond (lt x p) (stop / 128 - car % 128) (car / 128 - stop % 128)
 
--- the table that is left holds them
+-- what is left in a list that was filled
+filled : (f : ℕ → ℕ) (n : ℕ) (entry exit : List ℕ) → n ≤ length entry → exit ≡ tab f n ++ drop n entry
+    → (n ≤ length exit) × ((j : ℕ) → j < n → getD exit j 0 ≡ f j)
+filled f n entry exit room e =
+    (omega (arith, tab-length f n entry exit room e), λ j l. ap (λ (t : List ℕ). getD t j 0) e ∙ getD-tab f n j (drop n entry) 0 l)
+
 pub counts-held : (demand : ℕ) (xs : List Float) (n : ℕ) (entry exit : List ℕ) → n ≤ length entry
     → exit ≡ tab (stopCounts demand xs n) n ++ drop n entry → HoldsCounts demand xs n exit
 counts-held demand xs n entry exit room e =
-    record {
-      size = omega (arith, tab-length (stopCounts demand xs n) n entry exit room e);
-      at = λ j l. ap (λ (t : List ℕ). getD t j 0) e ∙ getD-tab (stopCounts demand xs n) n j (drop n entry) 0 l;
-    }
+    let (size, at) = filled (stopCounts demand xs n) n entry exit room e in record { size = size; at = at }
+
+pub halts-held : (x : Float) (demand : ℕ) (xs : List Float) (n : ℕ) (entry exit : List ℕ) → n ≤ length entry
+    → exit ≡ tab (haltsAt x demand xs n) n ++ drop n entry → (n ≤ length exit) × ((j : ℕ) → j < n → getD exit j 0 ≡ haltsAt x demand xs n j)
+halts-held x demand xs n entry exit room e = filled (haltsAt x demand xs n) n entry exit room e
 
 -- ---- places
 

@@ -1,7 +1,7 @@
 -- The rank, the cell and the sweep from what is held are the sheet's. Assumes nothing.
 use Prim.Native.Nat.{ℕ, _<_}
 use mathlib.Core.Path.{_≡_, refl, sym, ap, _∙_}
-use mathlib.Core.Bool.{false, not, _&&_, cond}
+use mathlib.Core.Bool.{Bool, true, false, not, _&&_, cond, true≢false}
 use mathlib.Core.List.{List}
 use lib.Dec.{eqb, ltb}
 use lib.Ieee.{Float}
@@ -50,6 +50,13 @@ by-rsr t e r s u h = sym (ap (λ (x : Strategy). byStrategy x e r s u) h)
 
 pub by-scan : {A : Type 0} (t : Strategy) (e r s u : A) → t ≡ Scan → s ≡ byStrategy t e r s u
 by-scan t e r s u h = sym (ap (λ (x : Strategy). byStrategy x e r s u) h)
+
+-- no other strategy is ETD
+pub not-etd : {A : Type 0} (t u : Strategy) → byStrategy u true false false false ≡ false → t ≡ u → t ≡ Etd → A
+not-etd t u n e h = absurd (true≢false (sym (ap etd? h) ∙ ap etd? e ∙ n))
+  where
+    etd? : Strategy → Bool
+    etd? x = byStrategy x true false false false
 
 -- case by case
 pub by-parts : {A : Type 0} (t : Strategy) (d : A) {a b c : A} (x y z : A) → a ≡ x → b ≡ y → c ≡ z

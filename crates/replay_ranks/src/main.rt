@@ -117,8 +117,9 @@ fn rank_by<'a>(
     let waiters = cells::waiting(s, c, ids, xs, masks.calls);
     let v = waiters[j];
     let n = c.stops as usize;
-    let places = etd::demand_places(row.demand, xs, n);
-    ranking::rank(row, &dests, &sides, v, xs, &places, n, j)
+    let x = row.car.position.along;
+    let halts = etd::intervening_stops(x, xs[j], row.demand, xs, n);
+    ranking::rank(row, &dests, &sides, v, xs, halts, n, j)
 }
 
 // The rank of car i for stop j of an accepted sheet.

@@ -47,6 +47,7 @@ use Rattle.rows.specs.RowLaws.{noWaiters}
 use Rattle.rows.specs.Gathered.{gatheredOf, gathered-held}
 use Rattle.cells.specs.Survey.{SeenStops, weighed-of}
 use Rattle.ranking.specs.declared.Row.{Row}
+use Rattle.ranking.specs.Ranking.{haltsBy}
 use Rattle.ranking.specs.RankingLaws.{by-parts, HoldsRow, rank-is}
 use Rattle.why.specs.declared.Terms.{Terms}
 use Rattle.why.specs.Why.{asksPath, etdSlots, rsrSlots, scanSlots, termsOf, stopRecord, reasonOf, whyBy, whyAt}
@@ -89,14 +90,14 @@ module _ (s : Sheet) (ids : List ℕ) (xs : List Float) (hs : HoldsStops s ids x
   terms-are =
       ap
       (λ (t : Strategy). byStrategy t
-      (etdSlots (etdBy (row .policy) (row .car) (row .goal) (row .riders .count) dests sides v (row .demand) xs (s .stops) (pointIn xs j)))
+      (etdSlots (etdBy (row .policy) (row .car) (row .goal) (row .riders .count) dests sides v (haltsBy row xs (s .stops) j) (pointIn xs j)))
       (rsrSlots (rsrTermsOf (row .policy) (row .car) (row .goal) (v .waitsum) (has (row .car .calls) j) (pointIn xs j)))
       (scanSlots (distance (row .car .position) (pointIn xs j))) (scanSlots zero))
       (ap (λ (p : Policy). p .strategy) (h .policy))
       ∙ by-parts (s .policy .strategy) (scanSlots zero) (etdSlots (etdTerms s i j)) (rsrSlots (rsrTerms s i j))
       (scanSlots (distance (s .car i .position) (stopAt s j)))
       (rw (h .policy, h .car, h .goal-is, point-is s ids xs (s .stops) hs j l)
-      (ap etdSlots (etd-are s ids xs (s .stops) (row .demand) hs (h .demand) i j (row .riders) dests sides (h .riders) v hv)))
+      (ap etdSlots (etd-are s ids xs (s .stops) (row .demand) hs (h .demand) i j l (row .riders) dests sides (h .riders) v hv)))
       (rw (h .policy, h .car, h .goal-is, point-is s ids xs (s .stops) hs j l, hv .waitsum))
       (rw (h .car, point-is s ids xs (s .stops) hs j l))
 

@@ -14,12 +14,12 @@ use Rattle.manifest.specs.declared.Waiters.{Waiters}
 use Rattle.manifest.specs.Stops.{pointIn}
 use Rattle.dispatch.specs.Pairs.{obstacleBy}
 use Rattle.etd.specs.declared.Terms as etd
-use Rattle.etd.specs.Pairs.{termsBy as etdBy}
+use Rattle.etd.specs.Pairs.{interveningIn, halts-of, termsBy as etdBy}
 use Rattle.rsr.specs.declared.Terms as rsr
 use Rattle.rsr.specs.Rsr.{rsrTermsOf}
 use Rattle.assignment.specs.Cells.{byStrategy}
 use Rattle.ranking.specs.declared.Row.{Row}
-use Rattle.ranking.specs.Ranking.{rankBy}
+use Rattle.ranking.specs.Ranking.{haltsBy, rankBy}
 use Rattle.ranking.specs.RankingLaws.{by-etd, by-rsr}
 use Rattle.why.specs.declared.Terms.{Terms}
 use Rattle.why.specs.Why.{firstReason, rankReason, asksPath, etdSlots, rsrSlots, scanSlots}
@@ -28,7 +28,7 @@ module _ (row : Row) (dests sides : List Float) (v : Waiters) (xs : List Float) 
   unfoldable pub termsBy : Terms
   termsBy =
       byStrategy (row .policy .strategy)
-      (etdSlots (etdBy (row .policy) (row .car) (row .goal) (row .riders .count) dests sides v (row .demand) xs n (pointIn xs j)))
+      (etdSlots (etdBy (row .policy) (row .car) (row .goal) (row .riders .count) dests sides v (haltsBy row xs n j) (pointIn xs j)))
       (rsrSlots (rsrTermsOf (row .policy) (row .car) (row .goal) (v .waitsum) (has (row .car .calls) j) (pointIn xs j)))
       (scanSlots (distance (row .car .position) (pointIn xs j)))
       (scanSlots zero)
@@ -45,12 +45,16 @@ module _ (row : Row) (dests sides : List Float) (v : Waiters) (xs : List Float) 
 -- ---- laws
 
 module _ (row : Row) (dests sides : List Float) (v : Waiters) (xs : List Float) (n j : ℕ) {p : Point} (p-is : p ≡ pointIn xs j) {r : Terms} where
-  pub etd-terms : {t : etd.Terms} → row .policy .strategy ≡ Etd
-      → t ≡ etdBy (row .policy) (row .car) (row .goal) (row .riders .count) dests sides v (row .demand) xs n p → r ≡ etdSlots t
+  pub etd-terms : {t : etd.Terms} {halts : ℕ} → row .policy .strategy ≡ Etd
+      → halts ≡ interveningIn (row .car .position .along) (p .along) (row .demand) xs n
+      → t ≡ etdBy (row .policy) (row .car) (row .goal) (row .riders .count) dests sides v halts p → r ≡ etdSlots t
       → r ≡ termsBy row dests sides v xs n j
   unfolding termsBy
-  etd-terms e t-is r-is =
-      r-is ∙ ap etdSlots (t-is ∙ ap (etdBy (row .policy) (row .car) (row .goal) (row .riders .count) dests sides v (row .demand) xs n) p-is)
+  etd-terms e halts-is t-is r-is =
+      r-is
+      ∙ ap etdSlots
+      (t-is ∙ ap₂ (etdBy (row .policy) (row .car) (row .goal) (row .riders .count) dests sides v)
+      (halts-of (row .car .position .along) (row .demand) xs n j p-is halts-is) p-is)
       ∙ by-etd (row .policy .strategy) _ _ _ _ e
 
   pub rsr-terms : {t : rsr.Terms} {call : Bool} → row .policy .strategy ≡ Rsr → call ≡ has (row .car .calls) j

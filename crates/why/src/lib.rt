@@ -111,22 +111,11 @@ fn terms_of<'a>(
     let p = manifest::point(xs, j);
     let call = mask::has(car.calls, j);
     let strategy = policy.strategy;
-    let places = etd::demand_places(row.demand, xs, n);
     match strategy {
-        Strategy::Etd => etd_slots(etd::cost_terms(
-            policy,
-            car,
-            goal,
-            count,
-            dests,
-            sides,
-            v,
-            row.demand,
-            xs,
-            &places,
-            n,
-            p,
-        )),
+        Strategy::Etd => {
+            let halts = etd::intervening_stops(x.along, p.along, row.demand, xs, n);
+            etd_slots(etd::cost_terms(policy, car, goal, count, dests, sides, v, halts, p))
+        }
         Strategy::Rsr => rsr_slots(rsr::cost_terms(policy, car, goal, v, call, p)),
         Strategy::Scan => scan_slots(x.distance(p)),
         Strategy::Unknown => scan_slots(0.0),
@@ -199,8 +188,8 @@ fn reason_of<'a>(
     let strategy = policy.strategy;
     let path = asks_path(strategy);
     let obstacle = dispatch::obstacle(car, goal, riders, dests, v, here, p.along, path);
-    let places = etd::demand_places(row.demand, xs, n);
-    let rank = ranking::rank(row, dests, sides, v, xs, &places, n, j);
+    let halts = etd::intervening_stops(car.position.along, p.along, row.demand, xs, n);
+    let rank = ranking::rank(row, dests, sides, v, xs, halts, n, j);
     let shut = mask::has(car.restricted, j);
     let near = mask::has(row.kept, j);
     first_reason(

@@ -1,6 +1,7 @@
 -- replay_ranks::rank_by meets its contract.
 use Rattle.accepted.specs.Accepted.{accepted}
 use Rattle.cells.specs.Ids.{rising-of}
+use Rattle.etd.specs.Pairs.{haltsAt}
 use Rattle.layout.specs.Records.{sheetOf}
 use Rattle.pending.specs.Masks.{calls-are}
 use Rattle.replay_ranks.specs.RankLaws.{ranked}
@@ -29,20 +30,33 @@ array-copy-out-v c =
     let p = c .before .before .before .before .before .before .before .before .before .pre in
     omega (arith, accepted (a .s .now) (a .c) (p .0 .0) .small .stops, p .0 .2)
 
-demand-places-requires : tie.Need-demand-places-requires
-demand-places-requires c κs =
+mul-intervening-stops : tie.Need-mul-intervening-stops
+mul-intervening-stops c =
     let s = c .before .before .before .before .before .before .before .before .before .before .before in
+    let p = s .pre in
+    omega (arith, accepted (s .args .s .now) (s .args .c) (p .0 .0) .small .stops, p .0 .2)
+
+shared-slice-read-intervening-stops : tie.Need-shared-slice-read-intervening-stops
+shared-slice-read-intervening-stops c =
+    let s = c .before .before .before .before .before .before .before .before .before .before .before .before in
+    let p = s .pre in
+    omega (arith, accepted (s .args .s .now) (s .args .c) (p .0 .0) .small .stops, p .0 .2, p .0 .4)
+
+intervening-stops-requires : tie.Need-intervening-stops-requires
+intervening-stops-requires c κs =
+    let s = c .before .before .before .before .before .before .before .before .before .before .before .before in
     let p = s .pre in
     let small = accepted (s .args .s .now) (s .args .c) (p .0 .0) .small .stops in
     (small, omega (arith, small, p .0 .4))
 
 rank-requires : tie.Need-rank-requires
+unfolding haltsAt
 rank-requires c κs =
-    let a = c .before .before .before .before .before .before .before .before .before .before .before .before .before .before .before .args in
-    let p = c .before .before .before .before .before .before .before .before .before .before .before .before .before .before .before .pre in
-    let small = accepted (a .s .now) (a .c) (p .0 .0) .small .stops in
+    let s = c .before .before .before .before .before .before .before .before .before .before .before .before .before .before .before in
+    let p = s .pre in
+    let small = accepted (s .args .s .now) (s .args .c) (p .0 .0) .small .stops in
     let row = c .before .before .before .before .before .before .before .before .before .row-of .ensures in
-    (row .1, row .2, small, omega (arith, small, p .0 .4), p .0 .2, c .before .before .before .demand-places .ensures)
+    (row .1, row .2, small, omega (arith, small, p .0 .4), p .0 .2, λ is. c .before .before .intervening-stops .ensures)
 
 returns : tie.Need-returns
 unfolding sheetOf
@@ -59,4 +73,4 @@ pub rank-by-spec : {M : Type 1} → statement M
 rank-by-spec =
     tie.close
     (tie.spec (λ c. search needs) (λ c. search needs) (λ c κs. search needs) waiting-requires mul-v array-copy-out-v (λ c. search needs)
-    demand-places-requires (λ c. search needs) (λ c. search needs) (λ c. search needs) rank-requires returns)
+    mul-intervening-stops shared-slice-read-intervening-stops intervening-stops-requires (λ c. search needs) (λ c. search needs) rank-requires returns)
