@@ -52,9 +52,8 @@ fn judge<'a>(
     let mut ids = [0u32; 64];
     let mut xs = [0.0f64; 128];
     let masks = cells::see_stops(s, c, &mut ids, &mut xs);
-    let cars = cars::cars_of(s, c);
     let stops = mask::list_ones(masks.pending);
-    let idle = cells::list_idle(cars, c.cars as usize);
+    let idle = cells::list_cars(s, c);
     let n = idle.count;
     let w = bench::columns(n, stops.count);
     if shown::wrong_columns(n, w, columns) {
@@ -70,7 +69,7 @@ fn judge<'a>(
         };
     }
     let most = sheet::limit(s) as u32;
-    cells::fill_matrix(s, c, most, &ids, &xs, masks, stops, cars, idle, w, matrix);
+    cells::fill_matrix(s, c, most, &ids, &xs, masks, stops, idle, w, matrix);
     let least = shown::shows(n, w, matrix, columns, u, v);
     answer(least)
 }

@@ -1,6 +1,6 @@
 -- passprint::sent_lines meets its contract.
 use Rattle.accepted.specs.Accepted.{accepted}
-use Rattle.cells.specs.Survey.{rows-in}
+use Rattle.cells.specs.Survey.{rows-listed}
 use Rattle.layout.specs.Records.{sheetOf}
 use Rattle.passprint.specs.LineLaws.{text-is}
 use Rattle.text.specs.Lines.{put-as}
@@ -24,7 +24,7 @@ decision-lines-requires c κs =
     let listed = c .before .before .before .before .before .list-cars in
     let small = accepted (a .s .now) (a .c) (p .0) .small in
     let h = c .before .before .before .head-line .ensures in
-    (small, rows-in (sheetOf (a .s .now) (a .c)) (small .cars) (listed .result) (listed .ensures), p .2, omega (arith, h .1, p .4))
+    (small, rows-listed (sheetOf (a .s .now) (a .c)) (small .cars) (listed .result) (listed .ensures), p .2, omega (arith, h .1, p .4))
 
 sweep-lines-requires : tie.Need-sweep-lines-requires
 unfolding sheetOf
@@ -35,7 +35,7 @@ sweep-lines-requires c κs =
     let small = accepted (a .s .now) (a .c) (p .0) .small in
     let h = c .before .before .before .before .before .before .before .head-line .ensures in
     let d = c .before .before .before .decision-lines .ensures in
-    (small, rows-in (sheetOf (a .s .now) (a .c)) (small .cars) (listed .result) (listed .ensures), p .3, omega (arith, h .1, d .1, p .4))
+    (small, rows-listed (sheetOf (a .s .now) (a .c)) (small .cars) (listed .result) (listed .ensures), p .3, omega (arith, h .1, d .1, p .4))
 
 returns : tie.Need-returns
 unfolding sheetOf
@@ -46,7 +46,7 @@ returns c =
     let h = c .before .before .before .before .before .before .before .before .before .before .head-line .ensures in
     let d = c .before .before .before .before .before .before .decision-lines .ensures in
     let w = c .before .before .sweep-lines .ensures in
-    (put-as (text-is (a .s .now) (a .c) (p .0) (p .1) (n .result .count) (rows-in (sheetOf (a .s .now) (a .c)) (accepted (a .s .now) (a .c) (p .0) .small .cars) (n .result) (n .ensures) .number)) (then (h .0) (then (d .0) (w .0))), omega (arith, h .1, d .1, w .1))
+    (put-as (text-is (a .s .now) (a .c) (p .0) (p .1) (n .result .count) (rows-listed (sheetOf (a .s .now) (a .c)) (accepted (a .s .now) (a .c) (p .0) .small .cars) (n .result) (n .ensures) .number)) (then (h .0) (then (d .0) (w .0))), omega (arith, h .1, d .1, w .1))
 
 pub sent-lines-spec : {M : Type 1} → statement M
 sent-lines-spec =
