@@ -51,13 +51,6 @@ by-rsr t e r s u h = sym (ap (λ (x : Strategy). byStrategy x e r s u) h)
 pub by-scan : {A : Type 0} (t : Strategy) (e r s u : A) → t ≡ Scan → s ≡ byStrategy t e r s u
 by-scan t e r s u h = sym (ap (λ (x : Strategy). byStrategy x e r s u) h)
 
--- no other strategy is ETD
-pub not-etd : {A : Type 0} (t u : Strategy) → byStrategy u true false false false ≡ false → t ≡ u → t ≡ Etd → A
-not-etd t u n e h = absurd (true≢false (sym (ap etd? h) ∙ ap etd? e ∙ n))
-  where
-    etd? : Strategy → Bool
-    etd? x = byStrategy x true false false false
-
 -- case by case
 pub by-parts : {A : Type 0} (t : Strategy) (d : A) {a b c : A} (x y z : A) → a ≡ x → b ≡ y → c ≡ z
     → byStrategy t a b c d ≡ byStrategy t x y z d

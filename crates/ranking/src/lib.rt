@@ -2,7 +2,6 @@
 ghost use mathlib.Core.Path.{_≡_};
 ghost use Prim.Native.Nat.{_+_, _<_, _≤_};
 ghost use lib.ListN.{length};
-ghost use Rattle.etd.specs.Halts.{HoldsCounts};
 ghost use Rattle.assignment.specs.Cells.{rankCell, rankHeld};
 ghost use Rattle.components.specs.declared.Strategy.the-variants.{Etd};
 ghost use Rattle.ranking.specs.Ranking.{scanBy, haltsBy, HoldsHalts, rankBy, cellBy, heldBy, sweepFrom};
@@ -40,36 +39,6 @@ fn scan_rank<'a>(row: Row, dests: &'a [f64], waiters: Waiters, xs: &'a [f64], j:
     let here = mask::has(riders.exits, j);
     let useful = dispatch::pair_is_useful(car, goal, riders, dests, waiters, here, p.along, false);
     scan::rank(sweep, useful, car.position, p)
-}
-
-// What ETD's halts are counted from, once a pass; no other strategy asks for it.
-pub fn fill_table(strategy: Strategy, demand: u64, xs: &[f64], n: usize, table: &mut [u64])
-    requires { ⌜ (n ≤ 64) × (n ≤ length (now xs)) × (n ≤ length (now table)) ⌝ }
-    ensures { λ _. ⌜ (strategy ≡ Etd → HoldsCounts demand (now (xs .entry)) n (now (table .exit))) ⌝ }
-{
-    match strategy {
-        Strategy::Etd => etd::fill_table(demand, xs, n, table),
-        Strategy::Rsr => {}
-        Strategy::Scan => {}
-        Strategy::Unknown => {}
-    }
-}
-
-// The halts before each of the n stops, once a row, where the strategy asks for them.
-pub fn fill_halts<'a>(row: Row, xs: &'a [f64], n: usize, table: &'a [u64], halts: &mut [u64])
-    requires { ⌜ (n ≤ 64) × (n ≤ length (now xs)) × (n ≤ length (now halts))
-        × (row .policy .strategy ≡ Etd → HoldsCounts (row .demand) (now xs) n (now table)) ⌝ }
-    ensures { λ _. ⌜ HoldsHalts row (now (xs .entry)) n (now (halts .exit)) ⌝ }
-{
-    let car = row.car;
-    let policy = row.policy;
-    let strategy = policy.strategy;
-    match strategy {
-        Strategy::Etd => etd::fill_halts(car.position.along, row.demand, xs, n, table, halts),
-        Strategy::Rsr => {}
-        Strategy::Scan => {}
-        Strategy::Unknown => {}
-    }
 }
 
 // The rank of stop j, by the strategy; ETD's takes the halts before it, which no other asks for.
