@@ -20,6 +20,11 @@ unfoldable pub fieldAt : List ℕ → ℕ → ℕ → ℕ
 fieldAt s at zero = 0
 fieldAt s at (suc w) = fieldAt s at w * 2 + bitAt s (at + w)
 
+-- n bytes from byte k as one number, the first lowest: the order of a load
+unfoldable pub lowFirst : List ℕ → ℕ → ℕ → ℕ
+lowFirst s k zero = 0
+lowFirst s k (suc n) = getD s k 0 + 256 * lowFirst s (k + 1) n
+
 -- what `field` promises of its result; that it is small lets later sums and casts close
 pub record IsField (s : List ℕ) (at w r : ℕ) : Type 0 where
   pub is : r ≡ fieldAt s at w
