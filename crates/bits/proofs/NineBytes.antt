@@ -1,11 +1,11 @@
 -- Laws of 64 bits read at once, across nine bytes. Assumes nothing.
 use Prim.Native.Nat.{ℕ, zero, suc, _+_, _-_, _*_, _/_, _%_, _^_, _≤_, _<_}
-use mathlib.Core.Path.{_≡_, refl, sym, ap, _∙_, subst}
+use mathlib.Core.Path.{_≡_, sym, ap, _∙_, subst}
 use mathlib.Core.List.{List}
 use native.Mathlib.Omega.{arith}
 use lib.ListN.{getD, length, List·getD-eq-default}
 use native.Mathlib.Nat.{add-mul, mul-assoc, zero-div}
-use lib.Pow.{shl-lt, shl-shr, shr-shr, pow-mono, mod-pow-add, shr-mod, shl-exact, high, low, pow-add, mod-mod-pow}
+use lib.Pow.{shl-lt, shl-shr, shr-shr, shr-mod, high, low, pow-add}
 use lib.Bits.{bitAnd, and-mask}
 use Rattle.bits.specs.Field.{fieldAt, lowFirst, field-lt, field-split, field-byte, field-join, field-past}
 

@@ -1,12 +1,10 @@
 -- Fields of bits in a list of bytes. Document 01: "Fields are packed bits, most significant first." Past the end of the list every bit is 0.
 use Prim.Native.Nat.{ℕ, zero, suc, _+_, _-_, _*_, _/_, _%_, _^_, _≤_, _<_}
 use mathlib.Core.Path.{_≡_, refl, sym, ap, _∙_}
-use mathlib.Core.Bool.{Bool}
 use mathlib.Core.List.{List}
 use native.Mathlib.Nat.{add-suc, add-zero, pow-suc, pow-zero, mul-assoc, add-assoc, lt-of-lt-of-le, zero-div}
 use native.Mathlib.Numerals.{add-one}
 use native.Mathlib.Omega.{arith}
-use lib.Dec.{eqb}
 use lib.ListN.{length, getD, take, List·getD-eq-default}
 use lib.Seq.{getD-take}
 use lib.Pow.{pow-mono, mod-pow-add, shr-shr, shl-exact}

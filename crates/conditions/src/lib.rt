@@ -7,9 +7,7 @@ ghost use Rattle.layout.specs.Table.{field};
 ghost use Rattle.components.specs.Points.{isPlaced};
 ghost use Rattle.layout.specs.Records.{from, double, point};
 ghost use Rattle.layout.specs.Refusals.{absentSet, presentZero, seen, hasLine, lastStop};
-ghost use lib.ListN.{length};
 ghost use Rattle.layout.specs.Verdict.{pick};
-ghost use Rattle.conditions.specs.Ids.{among};
 use layout::Counts;
 use layout::line;
 use layout::record;
@@ -26,20 +24,6 @@ pub fn pick(b: bool, n: u32, rest: u32) -> u32
     ensures { λ r. ⌜ r ≡ pick b n rest ⌝ }
 {
     if b { n } else { rest }
-}
-
-// Whether a table has an id among its first n. Every one is looked at, so that several are compared at a time.
-pub fn among(ids: &[u32], n: u32, id: u32) -> bool
-    requires { ⌜ n ≤ length (now ids) ⌝ }
-    ensures { λ r. ⌜ r ≡ among (now (ids .entry)) n id ⌝ }
-{
-    let mut found = false;
-    let mut i: usize = 0;
-    while i < n as usize {
-        found = found | (ids[i] == id);
-        i += 1;
-    }
-    found
 }
 
 // Whether one of the first n records of a kind, len bits each from base, has this id in its first field.

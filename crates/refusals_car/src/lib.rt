@@ -81,7 +81,8 @@ fn bad_ids<'a>(s: &'a [u8], c: Counts, at: u32, id: u32, cars: &'a [u32]) -> boo
     let stop = bits::field32(s, at, car::STOP);
     let moving = phase_at(s, at).is_moving();
     let target = conditions::optional_at(s, at, car::HAS_TARGET);
-    let again = conditions::among(cars, c.cars, id);
+    let n = c.cars;
+    let again = fields::contains(cars, n as usize, id);
     (id == 0) | ((line == 0) | ((moving & (stop == 0)) | (target.zero | again)))
 }
 

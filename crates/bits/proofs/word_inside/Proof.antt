@@ -4,7 +4,6 @@ use Prim.Native.Nat.{ℕ, _≤_, _<_, _+_, _-_, _*_, _/_, _%_, _^_}
 use native.Mathlib.Omega.{arith}
 use borrow.Author.Needs.{needs}
 use lib.Bits.{bitAnd}
-use lib.ListN.{getD}
 use Rattle.bits.specs.Field.{fieldAt, field-64}
 use Rattle.bits.proofs.NineBytes.{swap-grows}
 use Rattle.bits.proofs.word_inside.Statement.{statement}

@@ -1,7 +1,7 @@
 -- sheet::take_record meets its contract.
 use Prim.Native.Nat.{ℕ}
 use Rattle.components.specs.declared.Kind.the-variants as kind
-use Rattle.conditions.specs.Ids.{among-seen}
+use Rattle.conditions.specs.Ids.{contains-seen}
 use Rattle.layout.specs.Offsets.{endOf}
 use Rattle.layout.specs.Table.{first}
 use Rattle.layout.specs.Records.{from, read}
@@ -112,7 +112,7 @@ asked-7 : tie.Need-record-refusal-requires-7
 asked-7 c κs =
     let p = c .before .before .before .before .before .before .before .before .before .before .pre in
     let t = p .1 .tables in
-    (p .0, p .1 .starts, p .1 .last-is, p .2, p .3, p .4, sym (c .before .before .before .enum-told7 .given .1) ∙ p .6, demand-by-number _ _ (p .1 .starts) (p .5) (among-seen _ _ _ _ _ _ (t .demand-ids)) (among-seen _ _ _ _ _ _ (t .stop-ids)) (c .one-a-stop .ensures))
+    (p .0, p .1 .starts, p .1 .last-is, p .2, p .3, p .4, sym (c .before .before .before .enum-told7 .given .1) ∙ p .6, demand-by-number _ _ (p .1 .starts) (p .5) (contains-seen _ _ _ _ _ _ (t .demand-ids)) (contains-seen _ _ _ _ _ _ (t .stop-ids)) (c .one-a-stop .ensures))
 
 demand-fits : tie.Need-keep-requires-3
 demand-fits c κs e =
@@ -129,7 +129,7 @@ asked-8 : tie.Need-record-refusal-requires-8
 asked-8 c κs =
     let p = c .before .before .before .before .before .before .before .before .before .before .pre in
     let t = p .1 .tables in
-    (p .0, p .1 .starts, p .1 .last-is, p .2, p .3, p .4, sym (c .before .before .before .enum-told8 .given .1) ∙ p .6, closed-by-number _ _ (p .1 .starts) (p .5) (among-seen _ _ _ _ _ _ (t .closed-ids)) (among-seen _ _ _ _ _ _ (t .stop-ids)) (c .one-a-stop2 .ensures))
+    (p .0, p .1 .starts, p .1 .last-is, p .2, p .3, p .4, sym (c .before .before .before .enum-told8 .given .1) ∙ p .6, closed-by-number _ _ (p .1 .starts) (p .5) (contains-seen _ _ _ _ _ _ (t .closed-ids)) (contains-seen _ _ _ _ _ _ (t .stop-ids)) (c .one-a-stop2 .ensures))
 
 closed-fits : tie.Need-keep-requires-4
 closed-fits c κs e =
