@@ -60,16 +60,6 @@ pub fn last_stop(s: &[u8], c: Counts) -> u32
     bits::field32(s, c.stop_start(n - 1), stop::ID)
 }
 
-// Whether a field of w bits is absent and has a one bit.
-pub fn absent_set(s: &[u8], at: u32, present: u32, value: u32, w: usize) -> bool
-    requires { ⌜ w ≤ 64 ⌝ }
-    ensures { λ r. ⌜ r ≡ absentSet (from (now (s .entry)) at) (field present 1) (field value w) ⌝ }
-{
-    let there = bits::flag(s, at, present);
-    let v = bits::field(s, at, value, w);
-    !there & (v != 0)
-}
-
 // What an optional id is refused for, its present bit and the id after it in one read: absent with a one bit (8), present and 0 (9).
 pub fn optional_at(s: &[u8], at: u32, present: u32) -> Optional
     ensures { λ r. ⌜ (r .unused ≡ absentSet (from (now (s .entry)) at) (field present 1) (field (present + 1) 32))
