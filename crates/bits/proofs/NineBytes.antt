@@ -1,12 +1,13 @@
 -- Laws of 64 bits read at once, across nine bytes. Assumes nothing.
 use Prim.Native.Nat.{ℕ, zero, suc, _+_, _-_, _*_, _/_, _%_, _^_, _≤_, _<_}
-use mathlib.Core.Path.{_≡_, refl, sym, ap, _∙_, subst}
+use mathlib.Core.Path.{_≡_, sym, ap, _∙_, subst}
 use mathlib.Core.List.{List}
 use native.Mathlib.Omega.{arith}
-use lib.ListN.{getD}
-use native.Mathlib.Nat.{add-mul, mul-assoc}
-use lib.Pow.{shl-lt, shl-shr, shr-shr, pow-mono, mod-pow-add, shr-mod, shl-exact, high, low, pow-add, mod-mod-pow}
-use Rattle.bits.specs.Field.{fieldAt, field-lt, field-split, field-byte, field-join}
+use lib.ListN.{getD, length, List·getD-eq-default}
+use native.Mathlib.Nat.{add-mul, mul-assoc, zero-div}
+use lib.Pow.{shl-lt, shl-shr, shr-shr, shr-mod, high, low, pow-add}
+use lib.Bits.{bitAnd, and-mask}
+use Rattle.bits.specs.Field.{fieldAt, lowFirst, field-lt, field-split, field-byte, field-join, field-past}
 
 -- a whole byte
 whole-byte : (s : List ℕ) (k : ℕ) → getD s k 0 < 256 → fieldAt s (8 * k) 8 ≡ getD s k 0
@@ -24,6 +25,51 @@ word-grows s k i h b =
     let f : 8 * i + 8 ≡ 8 * (i + 1) = omega arith in
     ap (λ (x : ℕ). fieldAt s (8 * k) (8 * i) * 2 ^ 8 % 2 ^ 64 + x) (sym (whole-byte s (k + i) b) ∙ ap (λ (x : ℕ). fieldAt s x 8) e)
     ∙ field-join s (8 * k) (8 * i) 8 (omega arith) ∙ ap (fieldAt s (8 * k)) f
+
+-- ---- a load, and its bytes swapped
+
+-- two bytes, then the rest
+pub two-more : (s : List ℕ) (k n : ℕ) → lowFirst s k (suc (suc n)) ≡ lowFirst s k 2 + 65536 * lowFirst s (k + 2) n
+unfolding lowFirst
+two-more s k n =
+    let e : lowFirst s (k + 1 + 1) n ≡ lowFirst s (k + 2) n = ap (λ (x : ℕ). lowFirst s x n) (omega arith) in
+    omega (arith, e)
+
+-- byte i of those loaded
+pub nth-byte : (s : List ℕ) (k n i : ℕ) → ((j : ℕ) → getD s j 0 < 256) → i < n → lowFirst s k n / 2 ^ (8 * i) % 256 ≡ getD s (k + i) 0
+unfolding lowFirst
+nth-byte s k zero i h l = absurd (omega (arith, l))
+nth-byte s k (suc n) zero h l =
+    let e : (getD s k 0 + 256 * lowFirst s (k + 1) n) / 1 % 256 ≡ getD s k 0 = omega (arith, h k) in
+    e ∙ ap (λ (x : ℕ). getD s x 0) (omega arith)
+nth-byte s k (suc n) (suc i) h l =
+    let rest = lowFirst s (k + 1) n in
+    let whole = getD s k 0 + 256 * rest in
+    let e : 8 * suc i ≡ 8 + 8 * i = omega arith in
+    let f : whole / 2 ^ 8 ≡ rest = omega (arith, h k) in
+    let g : k + 1 + i ≡ k + suc i = omega arith in
+    ap (λ (x : ℕ). whole / 2 ^ x % 256) e ∙ ap (λ (x : ℕ). x % 256) (sym (shr-shr whole 8 (8 * i)) ∙ ap (λ (x : ℕ). x / 2 ^ (8 * i)) f)
+    ∙ nth-byte s (k + 1) n i h (omega (arith, l)) ∙ ap (λ (x : ℕ). getD s x 0) g
+
+-- a byte more of the load, the next below
+pub swap-grows : (s : List ℕ) (k i : ℕ) → ((j : ℕ) → getD s j 0 < 256) → i < 8
+    → fieldAt s (8 * k) (8 * i) * 2 ^ 8 % 2 ^ 64 + bitAnd (lowFirst s k 8 / 2 ^ (8 * i)) 255 ≡ fieldAt s (8 * k) (8 * (i + 1))
+swap-grows s k i h l =
+    ap (λ (x : ℕ). fieldAt s (8 * k) (8 * i) * 2 ^ 8 % 2 ^ 64 + x) (and-mask (lowFirst s k 8 / 2 ^ (8 * i)) 8 ∙ nth-byte s k 8 i h l)
+    ∙ word-grows s k i l (h (k + i))
+
+-- ---- where not all of the bytes are there
+
+-- those up to the end, then zeros
+pub word-ends : (s : List ℕ) (k i : ℕ) → i ≤ 8 → k + i ≡ length s → fieldAt s (8 * k) (8 * i) * 2 ^ (8 * (k + 8 - length s)) % 2 ^ 64 ≡ fieldAt s (8 * k) 64
+word-ends s k i h e =
+    let m = 8 * (k + 8 - length s) in
+    let z : fieldAt s (8 * k + 8 * i) m ≡ 0 = field-past s (8 * k + 8 * i) m (omega (arith, e)) in
+    let f : 8 * i + m ≡ 64 = omega (arith, e, h) in
+    let g : fieldAt s (8 * k) (8 * i) * 2 ^ m % 2 ^ 64 ≡ fieldAt s (8 * k) (8 * i) * 2 ^ m % 2 ^ 64 + fieldAt s (8 * k + 8 * i) m = omega (arith, z) in
+    g ∙ field-join s (8 * k) (8 * i) m (omega (arith, f)) ∙ ap (fieldAt s (8 * k)) f
+
+-- ---- parts of a word
 
 -- the first w of 64 bits
 pub first-bits : (s : List ℕ) (p w : ℕ) → w ≤ 64 → fieldAt s p 64 / 2 ^ (64 - w) ≡ fieldAt s p w
@@ -83,3 +129,12 @@ window-is s p h =
     ap (λ (x : ℕ). x + getD s (k + 8) 0 / 2 ^ (8 - o)) (last-bits s (8 * k) o (omega arith) ∙ ap (λ (x : ℕ). fieldAt s x (64 - o) * 2 ^ o) e)
     ∙ ap (λ (x : ℕ). fieldAt s p (64 - o) * 2 ^ o + x) tail
     ∙ sym (ap (fieldAt s p) f ∙ field-split s p (64 - o) o)
+
+-- where the ninth byte lies past the end
+pub window-ends : (s : List ℕ) (p : ℕ) → length s ≤ p / 8 + 8 → fieldAt s (8 * (p / 8)) 64 * 2 ^ (p % 8) % 2 ^ 64 ≡ fieldAt s p 64
+window-ends s p h =
+    let z : getD s (p / 8 + 8) 0 ≡ 0 = List·getD-eq-default s 0 h in
+    let q : getD s (p / 8 + 8) 0 / 2 ^ (8 - p % 8) ≡ 0 = ap (λ (x : ℕ). x / 2 ^ (8 - p % 8)) z ∙ zero-div (2 ^ (8 - p % 8)) in
+    let g : fieldAt s (8 * (p / 8)) 64 * 2 ^ (p % 8) % 2 ^ 64 ≡ fieldAt s (8 * (p / 8)) 64 * 2 ^ (p % 8) % 2 ^ 64 + getD s (p / 8 + 8) 0 / 2 ^ (8 - p % 8) =
+    omega (arith, q) in
+    g ∙ window-is s p (omega (arith, z))

@@ -1,12 +1,10 @@
 -- Fields of bits in a list of bytes. Document 01: "Fields are packed bits, most significant first." Past the end of the list every bit is 0.
 use Prim.Native.Nat.{ℕ, zero, suc, _+_, _-_, _*_, _/_, _%_, _^_, _≤_, _<_}
 use mathlib.Core.Path.{_≡_, refl, sym, ap, _∙_}
-use mathlib.Core.Bool.{Bool}
 use mathlib.Core.List.{List}
 use native.Mathlib.Nat.{add-suc, add-zero, pow-suc, pow-zero, mul-assoc, add-assoc, lt-of-lt-of-le, zero-div}
 use native.Mathlib.Numerals.{add-one}
 use native.Mathlib.Omega.{arith}
-use lib.Dec.{eqb}
 use lib.ListN.{length, getD, take, List·getD-eq-default}
 use lib.Seq.{getD-take}
 use lib.Pow.{pow-mono, mod-pow-add, shr-shr, shl-exact}
@@ -19,6 +17,11 @@ bitAt s i = getD s (i / 8) 0 / 2 ^ (7 - i % 8) % 2
 unfoldable pub fieldAt : List ℕ → ℕ → ℕ → ℕ
 fieldAt s at zero = 0
 fieldAt s at (suc w) = fieldAt s at w * 2 + bitAt s (at + w)
+
+-- n bytes from byte k as one number, the first lowest: the order of a load
+unfoldable pub lowFirst : List ℕ → ℕ → ℕ → ℕ
+lowFirst s k zero = 0
+lowFirst s k (suc n) = getD s k 0 + 256 * lowFirst s (k + 1) n
 
 -- what `field` promises of its result; that it is small lets later sums and casts close
 pub record IsField (s : List ℕ) (at w r : ℕ) : Type 0 where

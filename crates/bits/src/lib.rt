@@ -3,7 +3,7 @@ ghost use mathlib.Core.Path.{_≡_};
 ghost use Prim.Native.Nat.{_+_, _-_, _*_, _/_, _%_, _^_, _<_, _≤_};
 ghost use lib.ListN.{getD, length};
 ghost use lib.Dec.{eqb};
-ghost use Rattle.bits.specs.Field.{fieldAt, IsField};
+ghost use Rattle.bits.specs.Field.{fieldAt, lowFirst, IsField};
 
 // Where a bit stands: its byte, and its place in that byte, 0 for the highest.
 struct BitPlace {
@@ -21,39 +21,70 @@ fn place(at: usize) -> BitPlace
     }
 }
 
+fn wide(x: u8) -> u64
+    ensures { λ r. ⌜ (r ≡ x) × (r < 256) ⌝ }
+{
+    x as u64
+}
+
 // Byte k, or 0 past the end.
 fn byte(s: &[u8], k: usize) -> u64
     ensures { λ r. ⌜ (r ≡ getD (now (s .entry)) k 0) × (r < 256) ⌝ }
 {
-    if k < s.len() { s[k] as u64 } else { 0 }
+    if k < s.len() { wide(s[k]) } else { 0 }
 }
 
-// The eight bytes from byte k, which all lie in the slice.
+// The two bytes from byte k, the first lowest.
+fn two_low_first(s: &[u8], k: usize) -> u64
+    requires { ⌜ k + 2 ≤ length (now s) ⌝ }
+    ensures { λ r. ⌜ (r ≡ lowFirst (now (s .entry)) k 2) × (r < 65536) ⌝ }
+{
+    wide(s[k]) + (wide(s[k + 1]) << 8)
+}
+
+// The eight bytes from byte k, the first lowest: a single load.
+fn low_first(s: &[u8], k: usize) -> u64
+    requires { ⌜ k + 8 ≤ length (now s) ⌝ }
+    ensures { λ r. ⌜ r ≡ lowFirst (now (s .entry)) k 8 ⌝ }
+{
+    let a = two_low_first(s, k);
+    let b = two_low_first(s, k + 2);
+    let c = two_low_first(s, k + 4);
+    let d = two_low_first(s, k + 6);
+    a + (b << 16) + (c << 32) + (d << 48)
+}
+
+// The eight bytes from byte k, which all lie in the slice: that load, its bytes swapped.
 fn word_inside(s: &[u8], k: usize) -> u64
     requires { ⌜ k + 8 ≤ length (now s) ⌝ }
     ensures { λ r. ⌜ r ≡ fieldAt (now (s .entry)) (8 * k) 64 ⌝ }
 {
+    let x = low_first(s, k);
     let mut r: u64 = 0;
     let mut i: usize = 0;
     while i < 8 {
-        r = (r << 8) + s[k + i] as u64;
+        r = (r << 8) + ((x >> (8 * i)) & 0xff);
         i += 1;
     }
     r
 }
 
-// The eight bytes from byte k, past the end 0.
+// The eight bytes from byte k, at most these to the end: past it 0. Met in the last bytes only, and kept small, so that reads are inlined.
 fn word_past(s: &[u8], k: usize) -> u64
-    requires { ⌜ k < 2 ^ 60 ⌝ }
+    requires { ⌜ (k < 2 ^ 60) × (length (now s) ≤ k + 8) ⌝ }
     ensures { λ r. ⌜ r ≡ fieldAt (now (s .entry)) (8 * k) 64 ⌝ }
 {
+    let n = s.len();
+    if n <= k {
+        return 0;
+    }
     let mut r: u64 = 0;
     let mut i: usize = 0;
-    while i < 8 {
-        r = (r << 8) + byte(s, k + i);
+    while k + i < n {
+        r = (r << 8) + wide(s[k + i]);
         i += 1;
     }
-    r
+    r << (8 * (k + 8 - n))
 }
 
 // The eight bytes from byte k; inside the slice a single load.
@@ -76,7 +107,10 @@ fn window(s: &[u8], at: usize) -> u64
     let p = place(at);
     let k = p.byte;
     let o = p.bit;
-    (word(s, k) << o) + (byte(s, k + 8) >> (8 - o))
+    if k + 9 <= s.len() {
+        return (word_inside(s, k) << o) + (wide(s[k + 8]) >> (8 - o));
+    }
+    word_past(s, k) << o
 }
 
 // The w bits from bit at, which lie in eight bytes.

@@ -1,21 +1,17 @@
 -- Tables of ids: of the stops, cars, demands and closed landings before a record, the first field of each, kept as it was read. Assumes nothing.
 use Prim.Native.Nat.{ℕ, _+_, _*_, _≤_, _<_}
 use mathlib.Core.Path.{_≡_, ap}
-use mathlib.Core.Bool.{Bool}
 use mathlib.Core.List.{List}
 use lib.Dec.{eqb}
 use lib.ListN.{getD, length}
-use Rattle.laws.specs.Folds.{any, any-cong}
+use Rattle.laws.specs.Folds.{any-cong}
 use Rattle.components.specs.declared.Kind.the-variants.{Stop, Car, Demand, Closed}
 use Rattle.layout.specs.declared.Counts.{Counts}
 use Rattle.layout.specs.Offsets.{recordLength, stopsFrom, carsFrom, demandsFrom, closuresFrom}
 use Rattle.layout.specs.Table.{first}
 use Rattle.layout.specs.Records.{from, read}
 use Rattle.layout.specs.Refusals.{seen}
-
--- an id is among the first n of a table
-unfoldable pub among : List ℕ → ℕ → ℕ → Bool
-among ids n id = any (λ i. eqb (getD ids i 0) id) n
+use Rattle.fields.specs.Named.{contains}
 
 -- a table starts with the ids of n records of a kind, len bits each from base
 pub record Ids (s : List ℕ) (base len n : ℕ) (ids : List ℕ) : Type 0 where
@@ -41,7 +37,7 @@ pub record Tables (s : List ℕ) (c : Counts) (stops cars demands closures : Lis
   pub demand-ids : DemandIds s c demands
   pub closed-ids : ClosedIds s c closures
 
--- what is among the ids was seen
-pub among-seen : (s : List ℕ) (base len n : ℕ) (ids : List ℕ) (id : ℕ) → Ids s base len n ids → among ids n id ≡ seen s base len n id
-unfolding among seen
-among-seen s base len n ids id h = any-cong _ _ n (λ i l. ap (λ (x : ℕ). eqb x id) (h .each i l))
+-- what the ids contain was seen
+pub contains-seen : (s : List ℕ) (base len n : ℕ) (ids : List ℕ) (id : ℕ) → Ids s base len n ids → contains ids n id ≡ seen s base len n id
+unfolding contains seen
+contains-seen s base len n ids id h = any-cong _ _ n (λ i l. ap (λ (x : ℕ). eqb x id) (h .each i l))

@@ -7,9 +7,7 @@ ghost use Rattle.layout.specs.Table.{field};
 ghost use Rattle.components.specs.Points.{isPlaced};
 ghost use Rattle.layout.specs.Records.{from, double, point};
 ghost use Rattle.layout.specs.Refusals.{absentSet, presentZero, seen, hasLine, lastStop};
-ghost use lib.ListN.{length};
 ghost use Rattle.layout.specs.Verdict.{pick};
-ghost use Rattle.conditions.specs.Ids.{among};
 use layout::Counts;
 use layout::line;
 use layout::record;
@@ -26,20 +24,6 @@ pub fn pick(b: bool, n: u32, rest: u32) -> u32
     ensures { λ r. ⌜ r ≡ pick b n rest ⌝ }
 {
     if b { n } else { rest }
-}
-
-// Whether a table has an id among its first n. Every one is looked at, so that several are compared at a time.
-pub fn among(ids: &[u32], n: u32, id: u32) -> bool
-    requires { ⌜ n ≤ length (now ids) ⌝ }
-    ensures { λ r. ⌜ r ≡ among (now (ids .entry)) n id ⌝ }
-{
-    let mut found = false;
-    let mut i: usize = 0;
-    while i < n as usize {
-        found = found | (ids[i] == id);
-        i += 1;
-    }
-    found
 }
 
 // Whether one of the first n records of a kind, len bits each from base, has this id in its first field.
@@ -74,16 +58,6 @@ pub fn last_stop(s: &[u8], c: Counts) -> u32
         return 0;
     }
     bits::field32(s, c.stop_start(n - 1), stop::ID)
-}
-
-// Whether a field of w bits is absent and has a one bit.
-pub fn absent_set(s: &[u8], at: u32, present: u32, value: u32, w: usize) -> bool
-    requires { ⌜ w ≤ 64 ⌝ }
-    ensures { λ r. ⌜ r ≡ absentSet (from (now (s .entry)) at) (field present 1) (field value w) ⌝ }
-{
-    let there = bits::flag(s, at, present);
-    let v = bits::field(s, at, value, w);
-    !there & (v != 0)
 }
 
 // What an optional id is refused for, its present bit and the id after it in one read: absent with a one bit (8), present and 0 (9).

@@ -68,19 +68,18 @@ pub fn fill_guarded(
     }
 }
 
-// Whether an id is among the first n of a column.
+// Whether an id is among the first n of a column. Every one is looked at, so that several are compared at a time.
 pub fn contains(ids: &[u32], n: usize, id: u32) -> bool
     requires { ⌜ n ≤ length (now ids) ⌝ }
     ensures { λ r. ⌜ r ≡ contains (now (ids .entry)) n id ⌝ }
 {
+    let mut found = false;
     let mut i: usize = 0;
     while i < n {
-        if ids[i] == id {
-            return true;
-        }
+        found = found | (ids[i] == id);
         i += 1;
     }
-    false
+    found
 }
 
 // Whether j is one of n stops and its name is among the first k ids.

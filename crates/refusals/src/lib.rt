@@ -6,18 +6,19 @@ ghost use Prim.Native.Nat.{_≤_};
 ghost use lib.ListN.{length};
 ghost use lib.Dec.{eqb};
 ghost use Rattle.components.specs.declared.Kind.the-variants.{Stop, Line, Aboard, Waiting};
-ghost use Rattle.conditions.specs.Ids.{among, StopIds, CarIds};
+ghost use Rattle.conditions.specs.Ids.{StopIds, CarIds};
+ghost use Rattle.fields.specs.Named.{contains};
 ghost use Rattle.layout.specs.Offsets.{Small, endOf};
 ghost use Rattle.layout.specs.Table.{first};
 ghost use Rattle.layout.specs.Records.{from, read};
 ghost use Rattle.layout.specs.Verdict.{pick, bodyRefusal};
-use conditions::among;
 use conditions::has_line;
 use conditions::last_stop;
 use conditions::mass_at;
 use conditions::optional_at;
 use conditions::pick;
 use conditions::placed_at;
+use fields::contains;
 use layout::Counts;
 use layout::aboard;
 use layout::line;
@@ -50,7 +51,8 @@ pub fn aboard_refusal<'a>(s: &'a [u8], c: Counts, at: u32, car: u32, cars: &'a [
     requires { ⌜ (at ≡ endOf c) × (car ≡ read (from (now s) at) (first 32)) × CarIds (now s) c (now cars) ⌝ }
     ensures { λ r. ⌜ r ≡ bodyRefusal (now (s .entry)) c Aboard (from (now (s .entry)) (endOf c)) ⌝ }
 {
-    let known = among(cars, c.cars, car);
+    let n = c.cars;
+    let known = contains(cars, n as usize, car);
     let destination = optional_at(s, at, aboard::HAS_DESTINATION);
     let late = pick((car == 0) | destination.zero, 9, pick(!known, 10, 0));
     pick(destination.unused, 8, late)
@@ -61,7 +63,8 @@ pub fn waiting_refusal<'a>(s: &'a [u8], c: Counts, at: u32, stop: u32, stops: &'
     requires { ⌜ (at ≡ endOf c) × (stop ≡ read (from (now s) at) (first 32)) × StopIds (now s) c (now stops) ⌝ }
     ensures { λ r. ⌜ r ≡ bodyRefusal (now (s .entry)) c Waiting (from (now (s .entry)) (endOf c)) ⌝ }
 {
-    let known = among(stops, c.stops, stop);
+    let n = c.stops;
+    let known = contains(stops, n as usize, stop);
     let line = optional_at(s, at, waiting::HAS_LINE);
     let destination = optional_at(s, at, waiting::HAS_DESTINATION);
     let light = mass_at(s, at, waiting::WEIGHT);
@@ -74,9 +77,9 @@ pub fn waiting_refusal<'a>(s: &'a [u8], c: Counts, at: u32, stop: u32, stops: &'
 // Kinds 7 and 8, of which a stop has one at most: 9 where the id is 0 or was named before, 10 where it has no stop record.
 pub fn one_a_stop<'a>(stop: u32, stops: &'a [u32], known: u32, named: &'a [u32], before: u32) -> u32
     requires { ⌜ (known ≤ length (now stops)) × (before ≤ length (now named)) ⌝ }
-    ensures { λ r. ⌜ r ≡ pick (eqb stop 0 || among (now (named .entry)) before stop) 9 (pick (not (among (now (stops .entry)) known stop)) 10 0) ⌝ }
+    ensures { λ r. ⌜ r ≡ pick (eqb stop 0 || contains (now (named .entry)) before stop) 9 (pick (not (contains (now (stops .entry)) known stop)) 10 0) ⌝ }
 {
-    let again = among(named, before, stop);
-    let listed = among(stops, known, stop);
+    let again = contains(named, before as usize, stop);
+    let listed = contains(stops, known as usize, stop);
     pick((stop == 0) | again, 9, pick(!listed, 10, 0))
 }

@@ -1,18 +1,19 @@
 -- The tables of ids, one record more. Assumes nothing.
-use Prim.Native.Nat.{ℕ, _+_, _*_, _≤_, _<_}
+use Prim.Native.Nat.{ℕ, _+_, _*_, _<_}
 use mathlib.Core.Path.{_≡_, refl, sym, ap, _∙_, subst}
-use mathlib.Core.Bool.{Bool, true, false, cond}
+use mathlib.Core.Bool.{Bool, true, false, _&&_, cond}
 use mathlib.Core.List.{List}
-use mathlib.Core.Logic.{⊎-elim, _≢_}
+use mathlib.Core.Logic.{⊎-elim}
 use native.Mathlib.Nat.{mul-zero}
 use native.Mathlib.Omega.{arith}
-use lib.Dec.{eqb}
+use lib.Dec.{eqb, ltb}
 use lib.ListN.{length, set, length-set}
 use lib.Seq.{getD-set-same, getD-set-other}
-use borrow.Author.Tests.{eq-eqb, ne-eqb, eqb-true, ltb-false}
+use borrow.Author.Tests.{lt-ltb, ltb-false}
 use Rattle.laws.specs.Bools.{never, neither-left, same?}
 use Rattle.components.specs.declared.Kind.the-variants.{Stop, Car, Demand, Closed}
-use Rattle.components.specs.Codes.{kindOf, by-kind}
+use Rattle.components.specs.declared.Kind.{Kind}
+use Rattle.components.specs.Codes.{kindOf, kindCode, by-kind}
 use Rattle.layout.specs.declared.Counts.{Counts}
 use Rattle.layout.specs.Offsets.{recordLength, next, stopsFrom, carsFrom, demandsFrom, endOf, lastKind}
 use Rattle.layout.specs.Table.{first}
@@ -20,11 +21,27 @@ use Rattle.layout.specs.Records.{from, read}
 use Rattle.layout.specs.Refusals.{kindAt, refusal4, refusal6}
 use Rattle.layout.specs.VerdictLaws.{Clean}
 use Rattle.accepted.specs.Accepted.{Records, Last, last, one-more, small, few-demands, few-closures}
-use Rattle.conditions.specs.Ids.{Ids, StopIds, CarIds, DemandIds, ClosedIds}
+use Rattle.conditions.specs.Ids.{Ids, StopIds, CarIds, DemandIds, ClosedIds, Tables}
 
--- a table after a record: where it is of the table's kind, its id at place n
+-- a table after a record: where it is kept, its id at place n
 unfoldable pub kept : Bool → ℕ → ℕ → List ℕ → List ℕ
 kept ours n id ids = cond ours (set ids n id) ids
+
+-- a record of a kind is kept in the table of the kind with this code, where it has no refusal
+abbrev pub keeps : Kind → ℕ → ℕ → Bool
+keeps k code number = eqb (kindCode k) code && eqb number 0
+
+-- what holds before each record: those counted were read, at is where the next one starts, last is the kind of the last one, and the tables have
+-- the ids
+pub record Before (s : List ℕ) (c : Counts) (at last : ℕ) (stops cars demands closures : List ℕ) : Type 0 where
+  pub read : Records s c
+  pub starts : at ≡ endOf c
+  pub last-is : last ≡ lastKind c
+  pub stop-places : length stops ≡ 64
+  pub car-places : length cars ≡ 32
+  pub demand-places : length demands ≡ 64
+  pub closed-places : length closures ≡ 64
+  pub tables : Tables s c stops cars demands closures
 
 pub kept-length : (ours : Bool) (n id : ℕ) (ids : List ℕ) → length (kept ours n id ids) ≡ length ids
 unfolding kept
@@ -78,107 +95,122 @@ car-at c m e q =
 demand-at : (c : Counts) (m : ℕ) → Last c m → m ≡ 7 → endOf c ≡ demandsFrom c + recordLength (c .across) Demand * c .demands
 demand-at c m e q = omega (arith, e .closures (omega (arith, q)))
 
--- a code that is another one
-is-not : (m a b : ℕ) → m ≡ a → a ≢ b → eqb m b ≡ false
-is-not m a b q n = ne-eqb m b (λ e. n (sym q ∙ e))
+-- of the kinds from the last on, one without a record, and one with one more
+skip : (x y a : ℕ) → a ≡ 0 → cond (ltb 0 a) x y ≡ y
+skip x y a e = rw e
+
+found : (x y a : ℕ) → cond (ltb 0 (a + 1)) x y ≡ x
+found x y a = rw (lt-ltb 0 (a + 1) (omega arith))
 
 module _ (s : List ℕ) (c : Counts) (f : Records s c) (h : Clean s c) where
   in-turn : Last c (kindAt s c)
   unfolding refusal6
   in-turn = last c (kindAt s c) (ltb-false (kindAt s c) (lastKind c) (neither-left _ _ (h .in-order)))
 
+  -- the record's kind is the last one then
+  pub last-next : lastKind (next c (kindOf (kindAt s c))) ≡ kindAt s c
+  unfolding lastKind
+  last-next =
+      by-kind (λ k. refusal4 k ≡ false → lastKind (next c k) ≡ kindAt s c) (kindAt s c)
+      (λ q _. skip _ _ (c .closures) (in-turn .closures (omega (arith, q))) ∙ skip _ _ (c .demands) (in-turn .demands (omega (arith, q))) ∙ skip _ _ (c .waits) (in-turn .waits (omega (arith, q))) ∙ skip _ _ (c .aboards) (in-turn .aboards (omega (arith, q))) ∙ skip _ _ (c .cars) (in-turn .cars (omega (arith, q))) ∙ skip _ _ (c .lines) (in-turn .lines (omega (arith, q))) ∙ skip _ _ (c .stops) (in-turn .stops (omega (arith, q))) ∙ found _ _ (c .policies) ∙ sym q)
+      (λ q _. skip _ _ (c .closures) (in-turn .closures (omega (arith, q))) ∙ skip _ _ (c .demands) (in-turn .demands (omega (arith, q))) ∙ skip _ _ (c .waits) (in-turn .waits (omega (arith, q))) ∙ skip _ _ (c .aboards) (in-turn .aboards (omega (arith, q))) ∙ skip _ _ (c .cars) (in-turn .cars (omega (arith, q))) ∙ skip _ _ (c .lines) (in-turn .lines (omega (arith, q))) ∙ found _ _ (c .stops) ∙ sym q)
+      (λ q _. skip _ _ (c .closures) (in-turn .closures (omega (arith, q))) ∙ skip _ _ (c .demands) (in-turn .demands (omega (arith, q))) ∙ skip _ _ (c .waits) (in-turn .waits (omega (arith, q))) ∙ skip _ _ (c .aboards) (in-turn .aboards (omega (arith, q))) ∙ skip _ _ (c .cars) (in-turn .cars (omega (arith, q))) ∙ found _ _ (c .lines) ∙ sym q)
+      (λ q _. skip _ _ (c .closures) (in-turn .closures (omega (arith, q))) ∙ skip _ _ (c .demands) (in-turn .demands (omega (arith, q))) ∙ skip _ _ (c .waits) (in-turn .waits (omega (arith, q))) ∙ skip _ _ (c .aboards) (in-turn .aboards (omega (arith, q))) ∙ found _ _ (c .cars) ∙ sym q)
+      (λ q _. skip _ _ (c .closures) (in-turn .closures (omega (arith, q))) ∙ skip _ _ (c .demands) (in-turn .demands (omega (arith, q))) ∙ skip _ _ (c .waits) (in-turn .waits (omega (arith, q))) ∙ found _ _ (c .aboards) ∙ sym q)
+      (λ q _. skip _ _ (c .closures) (in-turn .closures (omega (arith, q))) ∙ skip _ _ (c .demands) (in-turn .demands (omega (arith, q))) ∙ found _ _ (c .waits) ∙ sym q)
+      (λ q _. skip _ _ (c .closures) (in-turn .closures (omega (arith, q))) ∙ found _ _ (c .demands) ∙ sym q)
+      (λ q _. found _ _ (c .closures) ∙ sym q)
+      (λ u. never (sym u))
+      (h .known)
+
   -- the record is counted, so its kind has room: of stops and cars by 7, of demands and closed landings since there is one a stop at most
   counted : Records s (next c (kindOf (kindAt s c)))
   counted = one-more s c f h
 
-  pub stop-room : (ids : List ℕ) → length ids ≡ 64 → eqb (kindAt s c) 2 ≡ true → c .stops < length ids
-  unfolding kindOf
+  pub stop-room : (ids : List ℕ) → length ids ≡ 64 → kindOf (kindAt s c) ≡ Stop → c .stops < length ids
   stop-room ids n e =
-      let g = subst (λ (m : ℕ). Records s (next c (kindOf m))) (eqb-true (kindAt s c) 2 e) counted in
+      let g = subst (λ k. Records s (next c k)) e counted in
       omega (arith, n, small s (next c Stop) g .stops)
 
-  pub car-room : (ids : List ℕ) → length ids ≡ 32 → eqb (kindAt s c) 4 ≡ true → c .cars < length ids
-  unfolding kindOf
+  pub car-room : (ids : List ℕ) → length ids ≡ 32 → kindOf (kindAt s c) ≡ Car → c .cars < length ids
   car-room ids n e =
-      let g = subst (λ (m : ℕ). Records s (next c (kindOf m))) (eqb-true (kindAt s c) 4 e) counted in
+      let g = subst (λ k. Records s (next c k)) e counted in
       omega (arith, n, small s (next c Car) g .cars)
 
-  pub demand-room : (ids : List ℕ) → length ids ≡ 64 → eqb (kindAt s c) 7 ≡ true → c .demands < length ids
-  unfolding kindOf
+  pub demand-room : (ids : List ℕ) → length ids ≡ 64 → kindOf (kindAt s c) ≡ Demand → c .demands < length ids
   demand-room ids n e =
-      let g = subst (λ (m : ℕ). Records s (next c (kindOf m))) (eqb-true (kindAt s c) 7 e) counted in
+      let g = subst (λ k. Records s (next c k)) e counted in
       omega (arith, n, few-demands s (next c Demand) g, small s (next c Demand) g .stops)
 
-  pub closed-room : (ids : List ℕ) → length ids ≡ 64 → eqb (kindAt s c) 8 ≡ true → c .closures < length ids
-  unfolding kindOf
+  pub closed-room : (ids : List ℕ) → length ids ≡ 64 → kindOf (kindAt s c) ≡ Closed → c .closures < length ids
   closed-room ids n e =
-      let g = subst (λ (m : ℕ). Records s (next c (kindOf m))) (eqb-true (kindAt s c) 8 e) counted in
+      let g = subst (λ k. Records s (next c k)) e counted in
       omega (arith, n, few-closures s (next c Closed) g, small s (next c Closed) g .stops)
 
   pub stops-kept : {id : ℕ} → id ≡ read (from s (endOf c)) (first 32) → (ids : List ℕ) → length ids ≡ 64 → StopIds s c ids
-      → StopIds s (next c (kindOf (kindAt s c))) (kept (eqb (kindAt s c) 2) (c .stops) id ids)
+      → StopIds s (next c (kindOf (kindAt s c))) (kept (keeps (kindOf (kindAt s c)) 2 0) (c .stops) id ids)
+  unfolding kindOf
   stops-kept {id} id-is ids n g =
       let m = kindAt s c in
-      let r = eqb m 2 in
-      by-kind (λ k. refusal4 k ≡ false → StopIds s (next c k) (kept r (c .stops) id ids)) m
-      (λ q _. before s id _ _ _ _ _ r ids (is-not m 1 2 q (λ e. absurd (omega arith))) (in-turn .stops (omega (arith, q))) g)
-      (λ q _. let e = eq-eqb m 2 q in one s id (endOf c) _ _ _ r ids e id-is (stop-at c m in-turn q) (stop-room ids n e) g)
-      (λ q _. other s id _ _ _ r ids (is-not m 3 2 q (λ e. absurd (omega arith))) g)
-      (λ q _. other s id _ _ _ r ids (is-not m 4 2 q (λ e. absurd (omega arith))) g)
-      (λ q _. other s id _ _ _ r ids (is-not m 5 2 q (λ e. absurd (omega arith))) g)
-      (λ q _. other s id _ _ _ r ids (is-not m 6 2 q (λ e. absurd (omega arith))) g)
-      (λ q _. other s id _ _ _ r ids (is-not m 7 2 q (λ e. absurd (omega arith))) g)
-      (λ q _. other s id _ _ _ r ids (is-not m 8 2 q (λ e. absurd (omega arith))) g)
+      by-kind (λ k. refusal4 k ≡ false → StopIds s (next c k) (kept (keeps k 2 0) (c .stops) id ids)) m
+      (λ q _. before s id _ _ _ _ _ _ ids refl (in-turn .stops (omega (arith, q))) g)
+      (λ q _. one s id (endOf c) _ _ _ _ ids refl id-is (stop-at c m in-turn q) (stop-room ids n (ap kindOf q)) g)
+      (λ q _. other s id _ _ _ _ ids refl g)
+      (λ q _. other s id _ _ _ _ ids refl g)
+      (λ q _. other s id _ _ _ _ ids refl g)
+      (λ q _. other s id _ _ _ _ ids refl g)
+      (λ q _. other s id _ _ _ _ ids refl g)
+      (λ q _. other s id _ _ _ _ ids refl g)
       (λ u. never (sym u))
       (h .known)
 
   pub cars-kept : {id : ℕ} → id ≡ read (from s (endOf c)) (first 32) → (ids : List ℕ) → length ids ≡ 32 → CarIds s c ids
-      → CarIds s (next c (kindOf (kindAt s c))) (kept (eqb (kindAt s c) 4) (c .cars) id ids)
+      → CarIds s (next c (kindOf (kindAt s c))) (kept (keeps (kindOf (kindAt s c)) 4 0) (c .cars) id ids)
+  unfolding kindOf
   cars-kept {id} id-is ids n g =
       let m = kindAt s c in
-      let r = eqb m 4 in
-      by-kind (λ k. refusal4 k ≡ false → CarIds s (next c k) (kept r (c .cars) id ids)) m
-      (λ q _. before s id _ _ _ _ _ r ids (is-not m 1 4 q (λ e. absurd (omega arith))) (in-turn .cars (omega (arith, q))) g)
-      (λ q _. before s id _ _ _ _ _ r ids (is-not m 2 4 q (λ e. absurd (omega arith))) (in-turn .cars (omega (arith, q))) g)
-      (λ q _. before s id _ _ _ _ _ r ids (is-not m 3 4 q (λ e. absurd (omega arith))) (in-turn .cars (omega (arith, q))) g)
-      (λ q _. let e = eq-eqb m 4 q in one s id (endOf c) _ _ _ r ids e id-is (car-at c m in-turn q) (car-room ids n e) g)
-      (λ q _. other s id _ _ _ r ids (is-not m 5 4 q (λ e. absurd (omega arith))) g)
-      (λ q _. other s id _ _ _ r ids (is-not m 6 4 q (λ e. absurd (omega arith))) g)
-      (λ q _. other s id _ _ _ r ids (is-not m 7 4 q (λ e. absurd (omega arith))) g)
-      (λ q _. other s id _ _ _ r ids (is-not m 8 4 q (λ e. absurd (omega arith))) g)
+      by-kind (λ k. refusal4 k ≡ false → CarIds s (next c k) (kept (keeps k 4 0) (c .cars) id ids)) m
+      (λ q _. before s id _ _ _ _ _ _ ids refl (in-turn .cars (omega (arith, q))) g)
+      (λ q _. before s id _ _ _ _ _ _ ids refl (in-turn .cars (omega (arith, q))) g)
+      (λ q _. before s id _ _ _ _ _ _ ids refl (in-turn .cars (omega (arith, q))) g)
+      (λ q _. one s id (endOf c) _ _ _ _ ids refl id-is (car-at c m in-turn q) (car-room ids n (ap kindOf q)) g)
+      (λ q _. other s id _ _ _ _ ids refl g)
+      (λ q _. other s id _ _ _ _ ids refl g)
+      (λ q _. other s id _ _ _ _ ids refl g)
+      (λ q _. other s id _ _ _ _ ids refl g)
       (λ u. never (sym u))
       (h .known)
 
   pub demands-kept : {id : ℕ} → id ≡ read (from s (endOf c)) (first 32) → (ids : List ℕ) → length ids ≡ 64 → DemandIds s c ids
-      → DemandIds s (next c (kindOf (kindAt s c))) (kept (eqb (kindAt s c) 7) (c .demands) id ids)
+      → DemandIds s (next c (kindOf (kindAt s c))) (kept (keeps (kindOf (kindAt s c)) 7 0) (c .demands) id ids)
+  unfolding kindOf
   demands-kept {id} id-is ids n g =
       let m = kindAt s c in
-      let r = eqb m 7 in
-      by-kind (λ k. refusal4 k ≡ false → DemandIds s (next c k) (kept r (c .demands) id ids)) m
-      (λ q _. before s id _ _ _ _ _ r ids (is-not m 1 7 q (λ e. absurd (omega arith))) (in-turn .demands (omega (arith, q))) g)
-      (λ q _. before s id _ _ _ _ _ r ids (is-not m 2 7 q (λ e. absurd (omega arith))) (in-turn .demands (omega (arith, q))) g)
-      (λ q _. before s id _ _ _ _ _ r ids (is-not m 3 7 q (λ e. absurd (omega arith))) (in-turn .demands (omega (arith, q))) g)
-      (λ q _. before s id _ _ _ _ _ r ids (is-not m 4 7 q (λ e. absurd (omega arith))) (in-turn .demands (omega (arith, q))) g)
-      (λ q _. before s id _ _ _ _ _ r ids (is-not m 5 7 q (λ e. absurd (omega arith))) (in-turn .demands (omega (arith, q))) g)
-      (λ q _. before s id _ _ _ _ _ r ids (is-not m 6 7 q (λ e. absurd (omega arith))) (in-turn .demands (omega (arith, q))) g)
-      (λ q _. let e = eq-eqb m 7 q in one s id (endOf c) _ _ _ r ids e id-is (demand-at c m in-turn q) (demand-room ids n e) g)
-      (λ q _. other s id _ _ _ r ids (is-not m 8 7 q (λ e. absurd (omega arith))) g)
+      by-kind (λ k. refusal4 k ≡ false → DemandIds s (next c k) (kept (keeps k 7 0) (c .demands) id ids)) m
+      (λ q _. before s id _ _ _ _ _ _ ids refl (in-turn .demands (omega (arith, q))) g)
+      (λ q _. before s id _ _ _ _ _ _ ids refl (in-turn .demands (omega (arith, q))) g)
+      (λ q _. before s id _ _ _ _ _ _ ids refl (in-turn .demands (omega (arith, q))) g)
+      (λ q _. before s id _ _ _ _ _ _ ids refl (in-turn .demands (omega (arith, q))) g)
+      (λ q _. before s id _ _ _ _ _ _ ids refl (in-turn .demands (omega (arith, q))) g)
+      (λ q _. before s id _ _ _ _ _ _ ids refl (in-turn .demands (omega (arith, q))) g)
+      (λ q _. one s id (endOf c) _ _ _ _ ids refl id-is (demand-at c m in-turn q) (demand-room ids n (ap kindOf q)) g)
+      (λ q _. other s id _ _ _ _ ids refl g)
       (λ u. never (sym u))
       (h .known)
 
   pub closures-kept : {id : ℕ} → id ≡ read (from s (endOf c)) (first 32) → (ids : List ℕ) → length ids ≡ 64 → ClosedIds s c ids
-      → ClosedIds s (next c (kindOf (kindAt s c))) (kept (eqb (kindAt s c) 8) (c .closures) id ids)
+      → ClosedIds s (next c (kindOf (kindAt s c))) (kept (keeps (kindOf (kindAt s c)) 8 0) (c .closures) id ids)
+  unfolding kindOf
   closures-kept {id} id-is ids n g =
       let m = kindAt s c in
-      let r = eqb m 8 in
-      by-kind (λ k. refusal4 k ≡ false → ClosedIds s (next c k) (kept r (c .closures) id ids)) m
-      (λ q _. before s id _ _ _ _ _ r ids (is-not m 1 8 q (λ e. absurd (omega arith))) (in-turn .closures (omega (arith, q))) g)
-      (λ q _. before s id _ _ _ _ _ r ids (is-not m 2 8 q (λ e. absurd (omega arith))) (in-turn .closures (omega (arith, q))) g)
-      (λ q _. before s id _ _ _ _ _ r ids (is-not m 3 8 q (λ e. absurd (omega arith))) (in-turn .closures (omega (arith, q))) g)
-      (λ q _. before s id _ _ _ _ _ r ids (is-not m 4 8 q (λ e. absurd (omega arith))) (in-turn .closures (omega (arith, q))) g)
-      (λ q _. before s id _ _ _ _ _ r ids (is-not m 5 8 q (λ e. absurd (omega arith))) (in-turn .closures (omega (arith, q))) g)
-      (λ q _. before s id _ _ _ _ _ r ids (is-not m 6 8 q (λ e. absurd (omega arith))) (in-turn .closures (omega (arith, q))) g)
-      (λ q _. before s id _ _ _ _ _ r ids (is-not m 7 8 q (λ e. absurd (omega arith))) (in-turn .closures (omega (arith, q))) g)
-      (λ q _. let e = eq-eqb m 8 q in one s id (endOf c) _ _ _ r ids e id-is refl (closed-room ids n e) g)
+      by-kind (λ k. refusal4 k ≡ false → ClosedIds s (next c k) (kept (keeps k 8 0) (c .closures) id ids)) m
+      (λ q _. before s id _ _ _ _ _ _ ids refl (in-turn .closures (omega (arith, q))) g)
+      (λ q _. before s id _ _ _ _ _ _ ids refl (in-turn .closures (omega (arith, q))) g)
+      (λ q _. before s id _ _ _ _ _ _ ids refl (in-turn .closures (omega (arith, q))) g)
+      (λ q _. before s id _ _ _ _ _ _ ids refl (in-turn .closures (omega (arith, q))) g)
+      (λ q _. before s id _ _ _ _ _ _ ids refl (in-turn .closures (omega (arith, q))) g)
+      (λ q _. before s id _ _ _ _ _ _ ids refl (in-turn .closures (omega (arith, q))) g)
+      (λ q _. before s id _ _ _ _ _ _ ids refl (in-turn .closures (omega (arith, q))) g)
+      (λ q _. one s id (endOf c) _ _ _ _ ids refl id-is refl (closed-room ids n (ap kindOf q)) g)
       (λ u. never (sym u))
       (h .known)

@@ -4,14 +4,14 @@ ghost use mathlib.Core.Bool.{true};
 ghost use Prim.Native.Nat.{_+_, _<_};
 ghost use lib.ListN.{length};
 ghost use Rattle.bits.specs.Field.{fieldAt, IsField};
-ghost use Rattle.conditions.specs.Ids.{Tables};
 ghost use Rattle.layout.specs.declared.Reading.the-variants.{Accepted};
-ghost use Rattle.layout.specs.Offsets.{headLength, acrossBits, Small, none, endOf};
+ghost use Rattle.components.specs.Codes.{kindOf};
+ghost use Rattle.layout.specs.Offsets.{headLength, acrossBits, Small, none, endOf, lastKind};
 ghost use Rattle.layout.specs.Table.{first};
 ghost use Rattle.layout.specs.Records.{from, read, policyOf, sheetOf, limitOf};
 ghost use Rattle.layout.specs.Refusals.{edition, kindAt, lengthAt, pastEnd, refusal4, tailFits};
 ghost use Rattle.layout.specs.Verdict.{headRules, firstOf, given, bodyRefusal, recordRefusal, tailVerdict, recordsVerdict, verdict};
-ghost use Rattle.sheet.specs.Kept.{kept};
+ghost use Rattle.sheet.specs.Kept.{kept, keeps, Before};
 use components::Car;
 use components::Kind;
 use components::Line;
@@ -51,35 +51,6 @@ fn front_at(s: &[u8], at: u32) -> Front
     }
 }
 
-// The numbers from 8 on, by kind.
-fn body_refusal<'a>(
-    s: &'a [u8],
-    c: Counts,
-    at: u32,
-    id: u32,
-    kind: Kind,
-    stops: &'a [u32],
-    cars: &'a [u32],
-    demands: &'a [u32],
-    closures: &'a [u32],
-) -> u32
-    requires { ⌜ Small c × (at ≡ endOf c) × (id ≡ read (from (now s) at) (first 32))
-        × Tables (now s) c (now stops) (now cars) (now demands) (now closures) ⌝ }
-    ensures { λ r. ⌜ r ≡ bodyRefusal (now (s .entry)) c kind (from (now (s .entry)) (endOf c)) ⌝ }
-{
-    match kind {
-        Kind::Policy => refusals_policy::policy_refusal(s, c, at),
-        Kind::Stop => refusals::stop_refusal(s, c, at, id),
-        Kind::Line => refusals::line_refusal(s, c, at, id),
-        Kind::Car => refusals_car::car_refusal(s, c, at, id, cars),
-        Kind::Aboard => refusals::aboard_refusal(s, c, at, id, cars),
-        Kind::Waiting => refusals::waiting_refusal(s, c, at, id, stops),
-        Kind::Demand => refusals::one_a_stop(id, stops, c.stops, demands, c.demands),
-        Kind::Closed => refusals::one_a_stop(id, stops, c.stops, closures, c.closures),
-        Kind::Unknown => 0,
-    }
-}
-
 // 4: kind not 1 to 8.
 fn is_unknown(kind: Kind) -> bool
     ensures { λ r. ⌜ r ≡ refusal4 kind ⌝ }
@@ -97,33 +68,25 @@ fn is_unknown(kind: Kind) -> bool
     }
 }
 
-// The refusal of the record at bit at, after those counted: the first number whose condition holds, 0 where none does.
-fn record_refusal<'a>(
-    s: &'a [u8],
+// The refusal of the record at bit at, after those counted, where its kind and what its body is refused for are known: the first number whose
+// condition holds, 0 where none does.
+fn record_refusal(
+    s: &[u8],
     c: Counts,
+    last: u64,
     at: u32,
     front: Front,
-    stops: &'a [u32],
-    cars: &'a [u32],
-    demands: &'a [u32],
-    closures: &'a [u32],
+    kind: Kind,
+    body: u32,
 ) -> u32
-    requires { ⌜ Small c × (at ≡ endOf c) × (front .code ≡ kindAt (now s) c) × (front .length ≡ lengthAt (now s) c) × (front .length < 65536)
-        × (front .id ≡ read (from (now s) at) (first 32)) × Tables (now s) c (now stops) (now cars) (now demands) (now closures) ⌝ }
+    requires { ⌜ Small c × (at ≡ endOf c) × (last ≡ lastKind c) × (front .code ≡ kindAt (now s) c) × (front .length ≡ lengthAt (now s) c)
+        × (front .length < 65536) × (kind ≡ kindOf (kindAt (now s) c)) × (body ≡ bodyRefusal (now s) c kind (from (now s) (endOf c))) ⌝ }
     ensures { λ r. ⌜ r ≡ recordRefusal (now (s .entry)) c ⌝ }
 {
-    let kind = Kind::of_code(front.code);
     let short = past_end(s, at + record::BODY + front.length as u32);
     let wrong = front.length != layout::body_length(kind, c.across);
-    let late = pick(
-        c.out_of_order(front.code),
-        6,
-        pick(
-            c.is_full(kind),
-            7,
-            body_refusal(s, c, at, front.id, kind, stops, cars, demands, closures),
-        ),
-    );
+    let unordered = (front.code < last) | ((c.policies == 0) & (front.code != 1));
+    let late = pick(unordered, 6, pick(c.is_full(kind), 7, body));
     pick(short, 2, pick(is_unknown(kind), 4, pick(wrong, 5, late)))
 }
 
@@ -134,6 +97,74 @@ fn keep(ours: bool, n: u32, id: u32, ids: &mut [u32])
 {
     if ours {
         ids[n as usize] = id;
+    }
+}
+
+// The record at bit at, of a kind: its refusal; where it has none and its kind a table, its id is kept.
+fn take_record(
+    s: &[u8],
+    c: Counts,
+    last: u64,
+    at: u32,
+    front: Front,
+    kind: Kind,
+    stops: &mut [u32],
+    cars: &mut [u32],
+    demands: &mut [u32],
+    closures: &mut [u32],
+) -> u32
+    requires { ⌜ Small c × Before (now s) c at last (now stops) (now cars) (now demands) (now closures)
+        × (front .code ≡ kindAt (now s) c) × (front .length ≡ lengthAt (now s) c) × (front .length < 65536)
+        × (front .id ≡ read (from (now s) at) (first 32)) × (kind ≡ kindOf (kindAt (now s) c)) ⌝ }
+    ensures { λ r. ⌜ (r ≡ recordRefusal (now (s .entry)) c)
+        × (now (stops .exit) ≡ kept (keeps kind 2 r) (c .stops) (front .id) (now (stops .entry)))
+        × (now (cars .exit) ≡ kept (keeps kind 4 r) (c .cars) (front .id) (now (cars .entry)))
+        × (now (demands .exit) ≡ kept (keeps kind 7 r) (c .demands) (front .id) (now (demands .entry)))
+        × (now (closures .exit) ≡ kept (keeps kind 8 r) (c .closures) (front .id) (now (closures .entry))) ⌝ }
+{
+    let id = front.id;
+    match kind {
+        Kind::Policy => {
+            let body = refusals_policy::policy_refusal(s, c, at);
+            record_refusal(s, c, last, at, front, Kind::Policy, body)
+        }
+        Kind::Stop => {
+            let body = refusals::stop_refusal(s, c, at, id);
+            let number = record_refusal(s, c, last, at, front, Kind::Stop, body);
+            keep(number == 0, c.stops, id, stops);
+            number
+        }
+        Kind::Line => {
+            let body = refusals::line_refusal(s, c, at, id);
+            record_refusal(s, c, last, at, front, Kind::Line, body)
+        }
+        Kind::Car => {
+            let body = refusals_car::car_refusal(s, c, at, id, cars);
+            let number = record_refusal(s, c, last, at, front, Kind::Car, body);
+            keep(number == 0, c.cars, id, cars);
+            number
+        }
+        Kind::Aboard => {
+            let body = refusals::aboard_refusal(s, c, at, id, cars);
+            record_refusal(s, c, last, at, front, Kind::Aboard, body)
+        }
+        Kind::Waiting => {
+            let body = refusals::waiting_refusal(s, c, at, id, stops);
+            record_refusal(s, c, last, at, front, Kind::Waiting, body)
+        }
+        Kind::Demand => {
+            let body = refusals::one_a_stop(id, stops, c.stops, demands, c.demands);
+            let number = record_refusal(s, c, last, at, front, Kind::Demand, body);
+            keep(number == 0, c.demands, id, demands);
+            number
+        }
+        Kind::Closed => {
+            let body = refusals::one_a_stop(id, stops, c.stops, closures, c.closures);
+            let number = record_refusal(s, c, last, at, front, Kind::Closed, body);
+            keep(number == 0, c.closures, id, closures);
+            number
+        }
+        Kind::Unknown => record_refusal(s, c, last, at, front, Kind::Unknown, 0),
     }
 }
 
@@ -197,6 +228,7 @@ fn records(s: &[u8], across: u32, count: u32) -> Reading
 {
     let mut c = none(across);
     let mut at = head::BITS;
+    let mut last: u64 = 0;
     let mut stops = [0u32; 64];
     let mut cars = [0u32; 32];
     let mut demands = [0u32; 64];
@@ -204,19 +236,28 @@ fn records(s: &[u8], across: u32, count: u32) -> Reading
     let mut left = count;
     while 0 < left {
         let front = front_at(s, at);
-        let n = record_refusal(s, c, at, front, &stops, &cars, &demands, &closures);
+        let kind = Kind::of_code(front.code);
+        let n = take_record(
+            s,
+            c,
+            last,
+            at,
+            front,
+            kind,
+            &mut stops,
+            &mut cars,
+            &mut demands,
+            &mut closures,
+        );
         if n != 0 {
             return Reading::Refused {
                 number: n,
                 offset: at as u64,
             };
         }
-        keep(front.code == 2, c.stops, front.id, &mut stops);
-        keep(front.code == 4, c.cars, front.id, &mut cars);
-        keep(front.code == 7, c.demands, front.id, &mut demands);
-        keep(front.code == 8, c.closures, front.id, &mut closures);
-        c = c.next(Kind::of_code(front.code));
+        c = c.next(kind);
         at = at + record::BODY + front.length as u32;
+        last = front.code;
         left -= 1;
     }
     tail(s, c)

@@ -1,6 +1,6 @@
 -- refusals::aboard_refusal meets its contract.
 use Prim.Native.Nat.{ℕ}
-use Rattle.conditions.specs.Ids.{among-seen}
+use Rattle.conditions.specs.Ids.{contains-seen}
 use Rattle.layout.specs.Offsets.{endOf}
 use Rattle.layout.specs.Table.{aboard·car, aboard·hasDestination, aboard·destination}
 use Rattle.layout.specs.Records.{from, read}
@@ -37,11 +37,11 @@ returns c =
     let start = r .before .before .before .before in
     let a = start .args in
     by-number (a .s .now) (a .c) (start .pre .0) (start .pre .1)
-    (r .before .among .ensures ∙ among-seen _ _ _ _ _ _ (start .pre .2)) (r .optional-at .ensures .0) (r .optional-at .ensures .1)
+    (r .before .contains .ensures ∙ contains-seen _ _ _ _ _ _ (start .pre .2)) (r .optional-at .ensures .0) (r .optional-at .ensures .1)
     (c .before .before .pick .ensures) (c .before .pick2 .ensures) (c .pick3 .ensures)
 
 pub aboard-refusal-spec : {M : Type 1} → statement M
 aboard-refusal-spec =
     tie.close
-    (tie.spec (λ c κs. search needs) (λ c κs. search needs) (λ c κs. search needs) (λ c κs. search needs)
+    (tie.spec (λ c. search needs) (λ c κs. search needs) (λ c κs. search needs) (λ c κs. search needs) (λ c κs. search needs)
     (λ c κs. search needs) returns)

@@ -1,6 +1,6 @@
 -- refusals::waiting_refusal meets its contract.
 use Prim.Native.Nat.{ℕ}
-use Rattle.conditions.specs.Ids.{among-seen}
+use Rattle.conditions.specs.Ids.{contains-seen}
 use Rattle.fp.specs.Ranges.{isMass}
 use Rattle.layout.specs.Offsets.{endOf}
 use Rattle.layout.specs.Table.{waiting·stop, waiting·hasLine, waiting·line, waiting·hasDestination, waiting·destination, waiting·weight, waiting·wait}
@@ -61,13 +61,13 @@ returns c =
     let start = line .before .before .before .before in
     let a = start .args in
     by-number (a .s .now) (a .c) (start .pre .0) (start .pre .1)
-    (line .before .among .ensures ∙ among-seen _ _ _ _ _ _ (start .pre .2)) (line .optional-at .ensures .0) (line .optional-at .ensures .1)
+    (line .before .contains .ensures ∙ contains-seen _ _ _ _ _ _ (start .pre .2)) (line .optional-at .ensures .0) (line .optional-at .ensures .1)
     (r .before .before .optional-at2 .ensures .0) (r .before .before .optional-at2 .ensures .1) (r .before .mass-at .ensures) (r .field .ensures .is)
     (late .before .before .pick .ensures) (late .before .pick2 .ensures) (late .pick3 .ensures) (c .before .pick4 .ensures) (c .pick5 .ensures)
 
 pub waiting-refusal-spec : {M : Type 1} → statement M
 waiting-refusal-spec =
     tie.close
-    (tie.spec (λ c κs. search needs) (λ c κs. search needs) (λ c κs. search needs) (λ c κs. search needs)
+    (tie.spec (λ c. search needs) (λ c κs. search needs) (λ c κs. search needs) (λ c κs. search needs) (λ c κs. search needs)
     (λ c κs. search needs) (λ c κs. search needs) (λ c κs. search needs) (λ c κs. search needs) (λ c κs. search needs)
     (λ c κs. search needs) returns)

@@ -26,13 +26,13 @@ as-read s c at line-is known-is restricted-is restricted-past-is calls-is calls-
 
 returns : tie.Need-returns
 returns c =
-    let r = c .before .before .before .before .before .before in
-    let a = r .before .before .before .args in
-    as-read (a .s .now) (a .c) (a .at) (r .before .field32 .ensures) (r .has-line .ensures) (c .before .before .before .before .field .ensures .is)
-    (c .before .before .before .past-stops .ensures) (c .before .field2 .ensures .is) (c .past-stops2 .ensures)
+    let start = c .before .before .before .before .before .before .before .before in
+    let a = start .args in
+    as-read (a .s .now) (a .c) (a .at) (start .pre .1) (c .before .before .before .before .before .before .has-line .ensures) (c .before .before .before .before .field .ensures .is) (c .before .before .before .past-stops .ensures)
+    (c .before .field2 .ensures .is) (c .past-stops2 .ensures)
 
 pub unknown-records-spec : {M : Type 1} → statement M
 unknown-records-spec =
     tie.close
-    (tie.spec (λ c κs. search needs) (λ c κs. search needs) (λ c. search needs) (λ c. search needs) (λ c κs. search needs) (λ c κs. search needs)
-    (λ c. search needs) (λ c κs. search needs) (λ c κs. search needs) returns)
+    (tie.spec (λ c κs. search needs) (λ c. search needs) (λ c. search needs) (λ c κs. search needs) (λ c κs. search needs) (λ c. search needs)
+    (λ c κs. search needs) (λ c κs. search needs) returns)
