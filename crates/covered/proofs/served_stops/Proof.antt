@@ -38,9 +38,9 @@ loop-again c =
     c .before .target-at .ensures (a .c .across) ∙ ap (λ (x : ℕ). servedTarget (carOf (a .c .across) (from (a .s .now) x))) (c .before .before .car-start .ensures) in (
       omega arith,
       ⊎-elim
-      (λ w. rw (w .3) (target-next s (a .asked) (a .names .now) h (l .i) (l .m) (c .before .target-at .result) at (l .inv .1) (w .2 .ensures)))
-      (λ w. rw (w .1) (no-target s (a .asked) (a .names .now) h (l .i) (l .m) (c .before .target-at .result) at (l .inv .1) (w .0 .left)))
-      (c .if1 .came),
+          (λ w. rw (w .3) (target-next s (a .asked) (a .names .now) h (l .i) (l .m) (c .before .target-at .result) at (l .inv .1) (w .2 .ensures)))
+          (λ w. rw (w .1) (no-target s (a .asked) (a .names .now) h (l .i) (l .m) (c .before .target-at .result) at (l .inv .1) (w .0 .left)))
+          (c .if1 .came),
     )
 
 returns : tie.Need-returns Inv-loop μ-loop
