@@ -3,8 +3,8 @@
 --   served-only   of what is asked for, the served stops alone are looked at
 --   none-served   where there is none, none is covered
 use Prim.Native.Nat.{ℕ, _+_, _<_}
-use mathlib.Core.Path.{_≡_, refl, sym, ap, ap₂, _∙_}
-use mathlib.Core.Bool.{Bool, true, false, _&&_, cond, and-true, and-false, and-assoc}
+use mathlib.Core.Path.{_≡_, refl, sym, ap, _∙_}
+use mathlib.Core.Bool.{Bool, true, false, _&&_, and-true, and-false}
 use mathlib.Core.List.{List}
 use mathlib.Core.Logic.{⊎-elim}
 use native.Mathlib.Omega.{arith}
@@ -12,7 +12,7 @@ use lib.Dec.{eqb, ltb}
 use lib.ListN.{getD}
 use borrow.Author.Tests.{lt-ltb, ne-eqb}
 use Rattle.laws.specs.Bools.{which, kept-id, both-left}
-use Rattle.laws.specs.Folds.{any, every, any-none, none-any}
+use Rattle.laws.specs.Folds.{any, any-none, none-any}
 use Rattle.mask.specs.Mask.{has, built}
 use Rattle.mask.specs.MaskLaws.{built-cong, has-built, none-built, built-none}
 use Rattle.components.specs.Cars.{servicing}

@@ -8,7 +8,7 @@ use native.Mathlib.Nat.{zero-div}
 use native.Mathlib.Omega.{arith}
 use lib.Dec.{eqb, ltb}
 use lib.ListN.{getD}
-use borrow.Author.Tests.{ne-eqb, ltb-true, lt-ltb, le-ltb}
+use borrow.Author.Tests.{ltb-true, lt-ltb, le-ltb}
 use Rattle.laws.specs.Bools.{same?, less?, both-left, dropped-id}
 use Rattle.laws.specs.Folds.{any, any-cong, any-next, none-any}
 use Rattle.laws.specs.Tables.{tab}

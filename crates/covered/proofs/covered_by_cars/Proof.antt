@@ -2,7 +2,7 @@
 use Rattle.covered.specs.Served.{served-ids, served-only, none-served}
 use Rattle.layout.specs.Records.{sheetOf}
 use borrow.Author.Needs.{needs}
-use mathlib.Core.Path.{_≡_, _∙_}
+use mathlib.Core.Path.{_∙_}
 use Rattle.covered.proofs.covered_by_cars.Statement.{statement}
 use Rattle.covered.proofs.covered_by_cars.Tie as tie
 

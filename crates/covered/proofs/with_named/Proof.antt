@@ -1,13 +1,6 @@
 -- covered::with_named meets its contract.
-use mathlib.Core.Path.{_≡_, ap}
-use mathlib.Core.Bool.{cond, _||_}
-use Prim.Native.Nat.{ℕ}
-use lib.Dec.{eqb}
-use native.Mathlib.Omega.{arith}
 use borrow.Author.Needs.{needs}
 use borrow.Author.Tests.{lt-ltb, le-ltb}
-use Rattle.mask.specs.Mask.{has, built}
-use Rattle.manifest.specs.Stops.{stopIndex}
 use Rattle.covered.specs.Walk.{withNamed}
 use Rattle.covered.proofs.with_named.Statement.{statement}
 use Rattle.covered.proofs.with_named.Tie as tie

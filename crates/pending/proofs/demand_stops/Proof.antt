@@ -5,7 +5,7 @@ use Rattle.mask.specs.Mask.{has, built}
 use Rattle.pending.specs.Same.{demand-mask}
 use borrow.Author.Needs.{needs}
 use mathlib.Core.Bool.{_&&_, _||_}
-use mathlib.Core.Path.{_≡_, ap, _∙_}
+use mathlib.Core.Path.{ap, _∙_}
 use Rattle.pending.proofs.demand_stops.Statement.{statement}
 use Rattle.pending.proofs.demand_stops.Tie as tie
 

@@ -1,6 +1,6 @@
 -- pending::with_bound meets its contract.
 use Prim.Native.Nat.{ℕ}
-use mathlib.Core.Path.{_≡_, sym, ap, _∙_}
+use mathlib.Core.Path.{sym, ap, _∙_}
 use borrow.Author.Needs.{needs}
 use Rattle.fields.specs.Named.{contains}
 use Rattle.layout.specs.Records.{aboardOf}

@@ -1,11 +1,11 @@
 -- pending::with_demand meets its contract.
 use Prim.Native.Nat.{ℕ}
 use mathlib.Core.Bool.{Bool, cond}
-use mathlib.Core.Path.{_≡_, refl, sym, ap, _∙_}
+use mathlib.Core.Path.{_≡_, refl, ap, _∙_}
 use lib.Dec.{ltb}
 use borrow.Author.Needs.{needs}
 use Rattle.laws.specs.Bools.{neither-left, neither-right}
-use Rattle.layout.specs.Records.{demandOf, from, read}
+use Rattle.layout.specs.Records.{demandOf, from}
 use Rattle.manifest.specs.Stops.{stopIndex}
 use Rattle.covered.specs.Walk.{withNamed}
 use Rattle.pending.specs.Same.{with-index-named}

@@ -1,9 +1,6 @@
 -- pending::with_index meets its contract.
-use Prim.Native.Nat.{ℕ, _<_}
-use mathlib.Core.Path.{_≡_}
 use lib.Dec.{ltb}
 use native.Mathlib.Omega.{arith}
-use borrow.Author.Needs.{needs}
 use borrow.Author.Tests.{ltb-true}
 use Rattle.laws.specs.Bools.{both-right}
 use Rattle.pending.proofs.with_index.Statement.{statement}
