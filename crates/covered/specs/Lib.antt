@@ -1,2 +1,4 @@
 pub mod Columns
 pub mod Same
+pub mod Served
+pub mod Walk

@@ -4,7 +4,7 @@ use mathlib.Core.Path.{_≡_, ap, ap₂, _∙_}
 use mathlib.Core.Bool.{Bool, true, false, not, _&&_, _||_, cond}
 use mathlib.Core.List.{List}
 use mathlib.Core.Logic.{⊎-elim}
-use lib.Dec.{eqb, ltb}
+use lib.Dec.{eqb}
 use lib.ListN.{getD}
 use borrow.Author.Tests.{lt-ltb}
 use lib.Ieee.{Float, nan}
@@ -98,7 +98,8 @@ mask-same s targets lines rooms ids stops required weights asked names h k names
     (λ j. has asked j && coveredByCars s j) 64
     (λ j l. ⊎-elim
     (λ (t : has asked j ≡ true).
-    rw (t, names-held .held j l t) (covered-same s targets lines rooms ids stops required weights h k j (names-held .above-zero j l t)))
+    let r = names-held .recorded j l t in
+    rw (t, names-held .held j r) (covered-same s targets lines rooms ids stops required weights h k j (names-held .above-zero j r)))
     (λ (t : has asked j ≡ false). rw t)
     (which (has asked j)))
 
@@ -131,6 +132,6 @@ covered-either s asked cars closed names h ec ex =
     ap (λ (m : ℕ). has m j) ex ∙ has-built (λ k. any (λ x. eqb (s .closed x) (getD names k 0)) (s .closures)) j l in
     let b = has-built (λ k. has asked k && has closed k) j l in
     ⊎-elim
-    (λ (t : has asked j ≡ true). rw (b, c, x, t, h .held j l t))
+    (λ (t : has asked j ≡ true). rw (b, c, x, t, h .held j (h .recorded j l t)))
     (λ (t : has asked j ≡ false). rw (b, c, x, t))
     (which (has asked j)))

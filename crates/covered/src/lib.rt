@@ -9,16 +9,28 @@ ghost use Rattle.mask.specs.Mask.{has, built};
 ghost use Rattle.components.specs.Cars.{remaining};
 ghost use Rattle.layout.specs.Offsets.{Small};
 ghost use Rattle.layout.specs.Records.{from, carOf, sheetOf};
-ghost use Rattle.assignment.specs.Pending.{covered, coveredByCars};
+ghost use Rattle.assignment.specs.Pending.{serves, covered, coveredByCars};
 ghost use Rattle.coverage.specs.Coverage.{coveredBy};
 ghost use Rattle.covered.specs.Columns.{servedTarget, HoldsIds};
 ghost use Rattle.covered.specs.Same.{coveredIn, HoldsServing, closedIn};
+ghost use Rattle.covered.specs.Walk.{withNamed};
+ghost use Rattle.manifest.specs.Stops.{Ascending};
+ghost use Rattle.laws.specs.Folds.{any};
 use components::Phase;
 use layout::Counts;
 use layout::car;
 use layout::closed;
 use layout::line;
 use layout::waiting;
+
+// The mask with the stop that has the id, one of n with their names.
+pub fn with_named(m: u64, names: &[u32], n: usize, id: u32) -> u64
+    requires { ⌜ (n ≤ 64) × (n ≤ length (now names)) × Ascending (now names) n ⌝ }
+    ensures { λ r. ⌜ r ≡ withNamed (now (names .entry)) n m id ⌝ }
+{
+    let j = manifest::stop_index(names, n, id);
+    if j < n { mask::with(m, j) } else { m }
+}
 
 // The target of a car that serves it, else 0; it stands before a second coordinate of any bits.
 fn target_at(s: &[u8], at: u32) -> u32
@@ -247,8 +259,8 @@ fn covered_waits<'a>(
     )
 }
 
-// The stops of the mask that are covered by cars. The mask has stops with a record only, and names holds their ids.
-fn covered_by_cars<'a>(s: &'a [u8], c: Counts, asked: u64, names: &'a [u32]) -> u64
+// The stops of the mask that are covered by cars, by the columns of cars and lines.
+fn covered_by_columns<'a>(s: &'a [u8], c: Counts, asked: u64, names: &'a [u32]) -> u64
     requires { ⌜ Small c × (length (now names) ≡ 64) × HoldsIds (sheetOf (now s) c) asked (now names) ⌝ }
     ensures { λ r. ⌜ r ≡ built (λ j. has asked j && coveredByCars (sheetOf (now (s .entry)) c) j) 64 ⌝ }
 {
@@ -275,6 +287,37 @@ fn covered_by_cars<'a>(s: &'a [u8], c: Counts, asked: u64, names: &'a [u32]) -> 
         &mut ids,
     );
     covered_waits(s, c, &targets, &lines, &rooms, &ids, asked, names)
+}
+
+// The stops of the mask that a car serves.
+fn served_stops<'a>(s: &'a [u8], c: Counts, asked: u64, names: &'a [u32]) -> u64
+    requires { ⌜ Small c × (length (now names) ≡ 64) × HoldsIds (sheetOf (now s) c) asked (now names) ⌝ }
+    ensures { λ r. ⌜ r ≡ built (λ j. has asked j && any (serves (sheetOf (now (s .entry)) c) j) (c .cars)) 64 ⌝ }
+{
+    let n = c.cars;
+    let mut m: u64 = 0;
+    let mut i: u32 = 0;
+    while i < n {
+        let target = target_at(s, c.car_start(i));
+        if target != 0 {
+            m = with_named(m, names, c.stops as usize, target);
+        }
+        i += 1;
+    }
+    mask::both(asked, m)
+}
+
+// The stops of the mask that are covered by cars. The mask has stops with a record only, and names holds their ids. Few stops are served by a
+// car; the others are not looked at.
+fn covered_by_cars<'a>(s: &'a [u8], c: Counts, asked: u64, names: &'a [u32]) -> u64
+    requires { ⌜ Small c × (length (now names) ≡ 64) × HoldsIds (sheetOf (now s) c) asked (now names) ⌝ }
+    ensures { λ r. ⌜ r ≡ built (λ j. has asked j && coveredByCars (sheetOf (now (s .entry)) c) j) 64 ⌝ }
+{
+    let served = served_stops(s, c, asked, names);
+    if served == 0 {
+        return 0;
+    }
+    covered_by_columns(s, c, served, names)
 }
 
 // The places whose names are those of closed landings.

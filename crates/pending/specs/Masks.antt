@@ -1,6 +1,4 @@
 -- Masks of a sheet's stops, each of stops with a record only. Assumes nothing.
-use Rattle.layout.specs.Records.{from, read}
-use Rattle.layout.specs.Table.{aboard·car, aboard·destination}
 use Prim.Native.Nat.{ℕ, _<_}
 use mathlib.Core.Path.{_≡_, ap}
 use mathlib.Core.Bool.{Bool, _&&_, _||_, cond}
@@ -11,11 +9,14 @@ use lib.ListN.{getD}
 use Rattle.laws.specs.Folds.{any}
 use Rattle.fields.specs.Named.{contains}
 use Rattle.mask.specs.Mask.{has, built}
+use Rattle.components.specs.declared.Aboard.{Aboard}
+use Rattle.components.specs.declared.Demand.{Demand}
 use Rattle.components.specs.Sheet.{Sheet}
 use Rattle.manifest.specs.World.{stopId}
 use Rattle.manifest.specs.Stops.{Ascending}
 use Rattle.manifest.specs.Manifest.{riderlessCall, demandStop}
-use Rattle.assignment.specs.Pending.{pending}
+use Rattle.assignment.specs.Pending.{idle, pending}
+use Rattle.covered.specs.Walk.{withNamed}
 use Rattle.pending.specs.declared.StopMasks.{StopMasks}
 
 -- the stops with a record that pass
@@ -49,9 +50,20 @@ pub record HoldsNames (s : Sheet) (names : List ℕ) : Type 0 where
 pub names-rise : {s : Sheet} {names : List ℕ} → HoldsNames s names → Ascending names (s .stops)
 names-rise h = record { rising = λ a b l lb. omega (arith, h .rising a b l lb, h .held a (omega arith), h .held b lb) }
 
--- the destination of the aboard record at a bit, where its car is among the first n ids, else 0
-unfoldable pub boundId : List ℕ → List ℕ → ℕ → ℕ → ℕ
-boundId b idle n at = cond (contains idle n (read (from b at) aboard·car)) (read (from b at) aboard·destination) 0
+-- a mask with the stop of a demand record: where its call has no rider, and where someone rides to it
+abbrev pub withCall : List ℕ → ℕ → ℕ → Demand → ℕ
+withCall names n m d = cond (d .call) (withNamed names n m (d .stop)) m
+
+abbrev pub withRiding : List ℕ → ℕ → ℕ → Demand → ℕ
+withRiding names n m d = cond (ltb 0 (d .riding)) (withNamed names n m (d .stop)) m
+
+-- a mask with the destination of a rider aboard, where its car is among the first k ids
+abbrev pub withBound : List ℕ → ℕ → ℕ → List ℕ → ℕ → Aboard → ℕ
+withBound names n m idle k a = cond (contains idle k (a .car)) (withNamed names n m (a .destination)) m
+
+-- a list holds the ids of the idle cars
+pub record HoldsIdle (s : Sheet) (ids : List ℕ) : Type 0 where
+  pub held : (x : ℕ) → 0 < x → contains ids (s .cars) x ≡ any (λ i. idle s i && eqb (s .car i .id) x) (s .cars)
 
 -- every aboard rider names a car
 pub record Boarded (s : Sheet) : Type 0 where

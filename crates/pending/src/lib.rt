@@ -1,24 +1,16 @@
 // The pending stops of a sheet: pending_stops_minus_covered of assignment.rs.
-ghost use Rattle.components.specs.declared.Kind.the-variants.{Aboard};
 ghost use mathlib.Core.Path.{_≡_};
-ghost use mathlib.Core.Bool.{cond, _||_};
-ghost use Prim.Native.Nat.{_<_, _≤_};
-ghost use lib.Dec.{eqb};
-ghost use Rattle.layout.specs.Offsets.{Small, recordLength};
-ghost use Rattle.layout.specs.Records.{sheetOf};
-ghost use Rattle.mask.specs.Mask.{built};
-ghost use Rattle.pending.specs.Masks.{lineStop};
-ghost use Rattle.pending.specs.Walk.{withNamed};
-ghost use Rattle.fields.specs.Named.{named};
-ghost use Rattle.manifest.specs.Stops.{Ascending};
+ghost use mathlib.Core.Bool.{cond, _&&_, _||_};
+ghost use Prim.Native.Nat.{_≤_};
+ghost use lib.Dec.{eqb, ltb};
 ghost use lib.ListN.{length};
+ghost use Rattle.layout.specs.Offsets.{Small};
+ghost use Rattle.layout.specs.Records.{from, aboardOf, demandOf, sheetOf};
+ghost use Rattle.mask.specs.Mask.{has, built};
+ghost use Rattle.manifest.specs.Stops.{Ascending};
 ghost use Rattle.manifest.specs.Manifest.{someoneWaits, riderlessCall, riddenTo, demandStop};
 ghost use Rattle.assignment.specs.Pending.{idleBound, pending};
-ghost use mathlib.Core.List.{_++_};
-ghost use lib.ListN.{drop};
-ghost use Prim.Native.Nat.{_+_, _*_, _^_};
-ghost use Rattle.laws.specs.Tables.{tab};
-ghost use Rattle.pending.specs.Masks.{stopMask, masksOf, HoldsNames, boundId, Boarded};
+ghost use Rattle.pending.specs.Masks.{stopMask, masksOf, lineStop, HoldsNames, HoldsIdle, Boarded, withCall, withRiding, withBound};
 use components::Line;
 use layout::Counts;
 use layout::aboard;
@@ -52,67 +44,56 @@ pub fn line_stops(s: &[u8], c: Counts, every: bool, id: u32) -> u64
     m
 }
 
-// The mask with the stop that has the id.
-fn with_named(m: u64, names: &[u32], n: usize, id: u32) -> u64
-    requires { ⌜ (n ≤ 64) × (n ≤ length (now names)) × Ascending (now names) n ⌝ }
-    ensures { λ r. ⌜ r ≡ withNamed (now (names .entry)) n m id ⌝ }
+// The mask with stop j where b holds, if j is one of n.
+fn with_index(m: u64, b: bool, j: usize, n: usize) -> u64
+    requires { ⌜ n ≤ 64 ⌝ }
+    ensures { λ r. ⌜ r ≡ cond (b && ltb j n) (built (λ k. has m k || eqb k j) 64) m ⌝ }
 {
-    let j = manifest::stop_index(names, n, id);
-    if j < n { mask::with(m, j) } else { m }
+    if b & (j < n) { mask::with(m, j) } else { m }
 }
 
-// The stops, n of them with their names, that are among the first k ids.
-fn named_stops<'a>(ids: &'a [u32], k: usize, names: &'a [u32], n: usize) -> u64
-    requires { ⌜ (k ≤ length (now ids)) × (n ≤ 64) × (n ≤ length (now names)) × Ascending (now names) n ⌝ }
-    ensures { λ r. ⌜ r ≡ built (named (now (ids .entry)) k (now (names .entry)) n) 64 ⌝ }
+// The stops where a hall call has no rider, and those that someone rides to.
+struct DemandMasks {
+    calls: u64,
+    ridden: u64,
+}
+
+// The masks with the stop of the demand record at a bit.
+fn with_demand<'a>(m: DemandMasks, s: &'a [u8], at: u32, names: &'a [u32], n: usize) -> DemandMasks
+    requires { ⌜ (n ≤ 64) × (n ≤ length (now names)) × Ascending (now names) n ⌝ }
+    ensures { λ r. ⌜ (r .calls ≡ withCall (now (names .entry)) n (m .calls) (demandOf (from (now (s .entry)) at)))
+        × (r .ridden ≡ withRiding (now (names .entry)) n (m .ridden) (demandOf (from (now (s .entry)) at))) ⌝ }
 {
-    let mut m: u64 = 0;
-    let mut i: usize = 0;
-    while i < k {
-        m = with_named(m, names, n, ids[i]);
-        i += 1;
+    let call = bits::flag(s, at, demand::CALL);
+    let riding = bits::field(s, at, demand::RIDING, 16) > 0;
+    if call | riding {
+        let j = manifest::stop_index(names, n, bits::field32(s, at, demand::STOP));
+        return DemandMasks {
+            calls: with_index(m.calls, call, j, n),
+            ridden: with_index(m.ridden, riding, j, n),
+        };
     }
     m
 }
 
-// The stops where a hall call has no rider.
-fn call_stops<'a>(s: &'a [u8], c: Counts, names: &'a [u32]) -> u64
+// The masks of the demand records.
+fn demand_masks<'a>(s: &'a [u8], c: Counts, names: &'a [u32]) -> DemandMasks
     requires { ⌜ Small c × (c .demands ≤ 64) × (length (now names) ≡ 64) × HoldsNames (sheetOf (now s) c) (now names) ⌝ }
-    ensures { λ r. ⌜ r ≡ stopMask (sheetOf (now (s .entry)) c) (riderlessCall (sheetOf (now (s .entry)) c)) ⌝ }
+    ensures { λ r. ⌜ (r .calls ≡ stopMask (sheetOf (now (s .entry)) c) (riderlessCall (sheetOf (now (s .entry)) c)))
+        × (r .ridden ≡ stopMask (sheetOf (now (s .entry)) c) (riddenTo (sheetOf (now (s .entry)) c))) ⌝ }
 {
-    let mut ids = [0u32; 64];
-    let n = c.demands as usize;
-    fields::fill_guarded(
-        s,
-        c.demands_from(),
-        demand::BITS,
-        demand::STOP,
-        demand::CALL,
-        1,
-        n,
-        &mut ids,
-    );
-    named_stops(&ids, n, names, c.stops as usize)
-}
-
-// The stops that someone rides to.
-fn ridden_stops<'a>(s: &'a [u8], c: Counts, names: &'a [u32]) -> u64
-    requires { ⌜ Small c × (c .demands ≤ 64) × (length (now names) ≡ 64) × HoldsNames (sheetOf (now s) c) (now names) ⌝ }
-    ensures { λ r. ⌜ r ≡ stopMask (sheetOf (now (s .entry)) c) (riddenTo (sheetOf (now (s .entry)) c)) ⌝ }
-{
-    let mut ids = [0u32; 64];
-    let n = c.demands as usize;
-    fields::fill_guarded(
-        s,
-        c.demands_from(),
-        demand::BITS,
-        demand::STOP,
-        demand::RIDING,
-        16,
-        n,
-        &mut ids,
-    );
-    named_stops(&ids, n, names, c.stops as usize)
+    let n = c.demands;
+    let base = c.demands_from();
+    let mut m = DemandMasks {
+        calls: 0,
+        ridden: 0,
+    };
+    let mut d: u32 = 0;
+    while d < n {
+        m = with_demand(m, s, base + demand::BITS * d, names, c.stops as usize);
+        d += 1;
+    }
+    m
 }
 
 // The stops where someone waits.
@@ -120,47 +101,74 @@ fn waited_stops<'a>(s: &'a [u8], c: Counts, names: &'a [u32]) -> u64
     requires { ⌜ Small c × (length (now names) ≡ 64) × HoldsNames (sheetOf (now s) c) (now names) ⌝ }
     ensures { λ r. ⌜ r ≡ stopMask (sheetOf (now (s .entry)) c) (someoneWaits (sheetOf (now (s .entry)) c)) ⌝ }
 {
-    let mut ids = [0u32; 512];
-    let n = c.waits as usize;
-    fields::fill32(s, c.waits_from(), waiting::BITS, waiting::STOP, n, &mut ids);
-    named_stops(&ids, n, names, c.stops as usize)
+    let n = c.waits;
+    let base = c.waits_from();
+    let mut m: u64 = 0;
+    let mut w: u32 = 0;
+    while w < n {
+        let id = bits::field32(s, base + waiting::BITS * w, waiting::STOP);
+        m = covered::with_named(m, names, c.stops as usize, id);
+        w += 1;
+    }
+    m
 }
 
 // The demand stops of the group.
-fn demand_stops<'a>(s: &'a [u8], c: Counts, calls: u64, names: &'a [u32]) -> u64
-    requires { ⌜ Small c × (c .demands ≤ 64) × (length (now names) ≡ 64) × HoldsNames (sheetOf (now s) c) (now names) ⌝ }
-    requires { ⌜ calls ≡ stopMask (sheetOf (now s) c) (riderlessCall (sheetOf (now s) c)) ⌝ }
+fn demand_stops<'a>(s: &'a [u8], c: Counts, m: DemandMasks, names: &'a [u32]) -> u64
+    requires { ⌜ Small c × (length (now names) ≡ 64) × HoldsNames (sheetOf (now s) c) (now names) ⌝ }
+    requires { ⌜ (m .calls ≡ stopMask (sheetOf (now s) c) (riderlessCall (sheetOf (now s) c)))
+        × (m .ridden ≡ stopMask (sheetOf (now s) c) (riddenTo (sheetOf (now s) c))) ⌝ }
     ensures { λ r. ⌜ r ≡ stopMask (sheetOf (now (s .entry)) c) (demandStop (sheetOf (now (s .entry)) c)) ⌝ }
 {
     let group = line_stops(s, c, true, 0);
     let waited = waited_stops(s, c, names);
-    let ridden = ridden_stops(s, c, names);
-    mask::both(group, mask::either(waited, mask::either(ridden, calls)))
+    mask::both(group, mask::either(waited, mask::either(m.ridden, m.calls)))
 }
 
-// The destination of a rider in one of the idle cars, else 0.
-fn bound_at<'a>(s: &'a [u8], at: u32, idle: &'a [u32], n: usize) -> u32
-    requires { ⌜ n ≤ length (now idle) ⌝ }
-    ensures { λ r. ⌜ r ≡ boundId (now (s .entry)) (now (idle .entry)) n at ⌝ }
+// The mask with the destination of the rider at a bit, if its car is one of the idle ones.
+fn with_bound<'a>(
+    m: u64,
+    s: &'a [u8],
+    at: u32,
+    idle: &'a [u32],
+    k: usize,
+    names: &'a [u32],
+    n: usize,
+) -> u64
+    requires { ⌜ (k ≤ length (now idle)) × (n ≤ 64) × (n ≤ length (now names)) × Ascending (now names) n ⌝ }
+    ensures { λ r. ⌜ r ≡ withBound (now (names .entry)) n m (now (idle .entry)) k (aboardOf (from (now (s .entry)) at)) ⌝ }
 {
-    if fields::contains(idle, n, bits::field32(s, at, aboard::CAR)) {
-        bits::field32(s, at, aboard::DESTINATION)
+    if fields::contains(idle, k, bits::field32(s, at, aboard::CAR)) {
+        let id = bits::field32(s, at, aboard::DESTINATION);
+        covered::with_named(m, names, n, id)
     } else {
-        0
+        m
     }
 }
 
-fn fill_bound<'a>(s: &'a [u8], base: u32, k: usize, idle: &'a [u32], n: usize, out: &mut [u32])
-    requires { ⌜ (base < 2 ^ 31) × (k ≤ 512) × (length (now out) ≡ 512) × (n ≤ length (now idle)) ⌝ }
-    ensures { λ _. ⌜ (length (now (out .exit)) ≡ length (now (out .entry)))
-        × (now (out .exit) ≡ tab (λ a. boundId (now (s .entry)) (now (idle .entry)) n (base + recordLength 0 Aboard * a)) k ++ drop k
-        (now (out .entry))) ⌝ }
+// The stops that a rider of an idle car is bound for; the ids of the idle cars are at hand.
+fn riders_bound<'a>(s: &'a [u8], c: Counts, idle: &'a [u32], names: &'a [u32]) -> u64
+    requires { ⌜ Small c × (length (now idle) ≡ 32) × (length (now names) ≡ 64) × HoldsNames (sheetOf (now s) c) (now names)
+        × Boarded (sheetOf (now s) c) × HoldsIdle (sheetOf (now s) c) (now idle) ⌝ }
+    ensures { λ r. ⌜ r ≡ stopMask (sheetOf (now (s .entry)) c) (idleBound (sheetOf (now (s .entry)) c)) ⌝ }
 {
-    let mut a: usize = 0;
-    while a < k {
-        out[a] = bound_at(s, base + aboard::BITS * (a as u32), idle, n);
+    let n = c.aboards;
+    let base = c.aboards_from();
+    let mut m: u64 = 0;
+    let mut a: u32 = 0;
+    while a < n {
+        m = with_bound(
+            m,
+            s,
+            base + aboard::BITS * a,
+            idle,
+            c.cars as usize,
+            names,
+            c.stops as usize,
+        );
         a += 1;
     }
+    m
 }
 
 // The stops that a rider of an idle car is bound for.
@@ -169,9 +177,6 @@ fn bound_stops<'a>(s: &'a [u8], c: Counts, names: &'a [u32]) -> u64
     ensures { λ r. ⌜ r ≡ stopMask (sheetOf (now (s .entry)) c) (idleBound (sheetOf (now (s .entry)) c)) ⌝ }
 {
     let mut idle = [0u32; 32];
-    let mut ids = [0u32; 512];
-    let n = c.cars as usize;
-    let k = c.aboards as usize;
     fields::fill_guarded(
         s,
         c.cars_from(),
@@ -179,23 +184,25 @@ fn bound_stops<'a>(s: &'a [u8], c: Counts, names: &'a [u32]) -> u64
         car::ID,
         car::LISTED,
         1,
-        n,
+        c.cars as usize,
         &mut idle,
     );
-    fill_bound(s, c.aboards_from(), k, &idle, n, &mut ids);
-    named_stops(&ids, k, names, c.stops as usize)
+    riders_bound(s, c, &idle, names)
 }
 
-// The pending stops.
+// The pending stops. Who is bound for a stop counts only where one is covered.
 fn pending_stops<'a>(s: &'a [u8], c: Counts, demand: u64, names: &'a [u32]) -> u64
     requires { ⌜ Small c × (c .closures ≤ 64) × (length (now names) ≡ 64) × HoldsNames (sheetOf (now s) c) (now names) × Boarded (sheetOf (now s) c) ⌝ }
     requires { ⌜ demand ≡ stopMask (sheetOf (now s) c) (demandStop (sheetOf (now s) c)) ⌝ }
     ensures { λ r. ⌜ r ≡ stopMask (sheetOf (now (s .entry)) c) (pending (sheetOf (now (s .entry)) c)) ⌝ }
 {
-    let bound = bound_stops(s, c, names);
     let closed = covered::closed_stops(s, c, names);
-    let covered = covered::covered_stops(s, c, demand, closed, names);
-    mask::without(mask::without(demand, closed), mask::without(covered, bound))
+    let kept = mask::without(demand, closed);
+    let covered = covered::covered_stops(s, c, kept, closed, names);
+    if covered == 0 {
+        return kept;
+    }
+    mask::without(kept, mask::without(covered, bound_stops(s, c, names)))
 }
 
 // The masks of a sheet's stops: those with a call without a rider, those with demand, the pending ones.
@@ -211,11 +218,11 @@ pub fn stop_masks<'a>(s: &'a [u8], c: Counts, names: &'a [u32]) -> StopMasks
         × Boarded (sheetOf (now s) c) ⌝ }
     ensures { λ r. ⌜ r ≡ masksOf (sheetOf (now (s .entry)) c) ⌝ }
 {
-    let calls = call_stops(s, c, names);
-    let demand = demand_stops(s, c, calls, names);
+    let m = demand_masks(s, c, names);
+    let demand = demand_stops(s, c, m, names);
     let pending = pending_stops(s, c, demand, names);
     StopMasks {
-        calls,
+        calls: m.calls,
         demand,
         pending,
     }

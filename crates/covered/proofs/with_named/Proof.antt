@@ -1,16 +1,9 @@
--- pending::with_named meets its contract.
-use mathlib.Core.Path.{_≡_, ap}
-use mathlib.Core.Bool.{cond, _||_}
-use Prim.Native.Nat.{ℕ}
-use lib.Dec.{eqb}
-use native.Mathlib.Omega.{arith}
+-- covered::with_named meets its contract.
 use borrow.Author.Needs.{needs}
 use borrow.Author.Tests.{lt-ltb, le-ltb}
-use Rattle.mask.specs.Mask.{has, built}
-use Rattle.manifest.specs.Stops.{stopIndex}
-use Rattle.pending.specs.Walk.{withNamed}
-use Rattle.pending.proofs.with_named.Statement.{statement}
-use Rattle.pending.proofs.with_named.Tie as tie
+use Rattle.covered.specs.Walk.{withNamed}
+use Rattle.covered.proofs.with_named.Statement.{statement}
+use Rattle.covered.proofs.with_named.Tie as tie
 
 returns : tie.Need-returns
 unfolding withNamed
