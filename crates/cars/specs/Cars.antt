@@ -55,31 +55,31 @@ abbrev pub blank : Car
 blank = emptyCar zero
 
 -- the listed cars from one on, at most four, then blank ones
-unfoldable pub fourOf : Sheet → Ones → ℕ → List Car
-fourOf s idle first = tab (λ k. s .car (getD (idle .at) (first + k) 0)) (min (idle .count - first) 4) ++ drop (min (idle .count - first) 4) (replicate 4 blank)
+unfoldable pub fourFrom : Sheet → Ones → ℕ → List Car
+fourFrom s idle first = tab (λ k. s .car (getD (idle .at) (first + k) 0)) (min (idle .count - first) 4) ++ drop (min (idle .count - first) 4) (replicate 4 blank)
 
 -- of the fours that the listed cars fall into, a list has the one with car r
 pub record HoldsFour (s : Sheet) (idle : Ones) (r : ℕ) (cars : List Car) : Type 0 where
   pub each : (k : ℕ) → k / 4 ≡ r / 4 → k < idle .count → getD cars (k % 4) noCar ≡ s .car (getD (idle .at) k 0)
 
 module _ (s : Sheet) (idle : Ones) where
-  four-held : (first : ℕ) → first % 4 ≡ 0 → HoldsFour s idle first (fourOf s idle first)
-  unfolding fourOf
+  four-held : (first : ℕ) → first % 4 ≡ 0 → HoldsFour s idle first (fourFrom s idle first)
+  unfolding fourFrom
   four-held first e =
       record {
         each = λ k same l.
             let place : first + k % 4 ≡ k = omega arith in
             held (λ i. s .car (getD (idle .at) (first + i) 0)) (min (idle .count - first) 4) (drop (min (idle .count - first) 4) (replicate 4 blank))
-            (fourOf s idle first) refl noCar (k % 4) (omega arith)
+            (fourFrom s idle first) refl noCar (k % 4) (omega arith)
             ∙ ap (λ (i : ℕ). s .car (getD (idle .at) i 0)) place;
       }
 
   -- as four_at leaves them
-  pub held-at : (r : ℕ) (cars : List Car) {a : List Car} → a ≡ cond (eqb (r % 4) 0) (fourOf s idle r) cars
+  pub held-at : (r : ℕ) (cars : List Car) {a : List Car} → a ≡ cond (eqb (r % 4) 0) (fourFrom s idle r) cars
       → (r % 4 ≢ 0 → HoldsFour s idle r cars) → HoldsFour s idle r a
   held-at r cars {a} e h =
       ⊎-elim
-      (λ (z : r % 4 ≡ 0). let same : a ≡ fourOf s idle r = e ∙ rw (eq-eqb (r % 4) 0 z) refl in rw same (four-held r z))
+      (λ (z : r % 4 ≡ 0). let same : a ≡ fourFrom s idle r = e ∙ rw (eq-eqb (r % 4) 0 z) refl in rw same (four-held r z))
       (λ z. let same : a ≡ cars = e ∙ rw (ne-eqb (r % 4) 0 z) refl in rw same (h z))
       (same? (r % 4) 0)
 
@@ -90,8 +90,8 @@ module _ (s : Sheet) (idle : Ones) where
       within : (k q : ℕ) → (q + 1) % 4 ≢ 0 → k / 4 ≡ (q + 1) / 4 → k / 4 ≡ q / 4
       within k q m same = ⊎-elim (λ (z : (q + 1) % 4 ≡ 0). absurd (m z)) (λ z. omega arith) (same? ((q + 1) % 4) 0)
 
-  pub four-size : (r : ℕ) (cars : List Car) {a : List Car} → a ≡ cond (eqb (r % 4) 0) (fourOf s idle r) cars → length cars ≡ 4 → length a ≡ 4
-  unfolding fourOf
+  pub four-size : (r : ℕ) (cars : List Car) {a : List Car} → a ≡ cond (eqb (r % 4) 0) (fourFrom s idle r) cars → length cars ≡ 4 → length a ≡ 4
+  unfolding fourFrom
   four-size r cars {a} e l =
       ⊎-elim
       (λ (z : r % 4 ≡ 0). front-length (tab (λ k. s .car (getD (idle .at) (r + k) 0)) (min (idle .count - r) 4)) (replicate 4 blank) a (min (idle .count - r) 4)

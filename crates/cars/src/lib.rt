@@ -6,7 +6,7 @@ ghost use lib.Dec.{eqb};
 ghost use lib.ListN.{getD};
 ghost use Rattle.layout.specs.Offsets.{Small};
 ghost use Rattle.layout.specs.Records.{sheetOf};
-ghost use Rattle.cars.specs.Cars.{blank, fourOf};
+ghost use Rattle.cars.specs.Cars.{blank, fourFrom};
 use components::Car;
 use components::Direction;
 use components::Mode;
@@ -54,9 +54,9 @@ fn few(n: usize) -> usize
 }
 
 // The listed cars from one on, at most four, then blank ones.
-fn four_of(s: &[u8], c: Counts, idle: Ones, first: usize) -> [Car; 4]
+fn four_from(s: &[u8], c: Counts, idle: Ones, first: usize) -> [Car; 4]
     requires { ⌜ Small c × (idle .count ≤ 64) × (first ≤ idle .count) × ((k : ℕ) → k < idle .count → getD (idle .at) k 0 < c .cars) ⌝ }
-    ensures { λ r. ⌜ r ≡ fourOf (sheetOf (now (s .entry)) c) idle first ⌝ }
+    ensures { λ r. ⌜ r ≡ fourFrom (sheetOf (now (s .entry)) c) idle first ⌝ }
 {
     let mut cars = [blank(); 4];
     let n = few(idle.count - first);
@@ -72,10 +72,10 @@ fn four_of(s: &[u8], c: Counts, idle: Ones, first: usize) -> [Car; 4]
 // The four of which the listed car r is one: at every fourth car they are decoded, at the others they are at hand.
 pub fn four_at(s: &[u8], c: Counts, idle: Ones, r: usize, cars: [Car; 4]) -> [Car; 4]
     requires { ⌜ Small c × (idle .count ≤ 64) × (r ≤ idle .count) × ((k : ℕ) → k < idle .count → getD (idle .at) k 0 < c .cars) ⌝ }
-    ensures { λ a. ⌜ a ≡ cond (eqb (r % 4) 0) (fourOf (sheetOf (now (s .entry)) c) idle r) cars ⌝ }
+    ensures { λ a. ⌜ a ≡ cond (eqb (r % 4) 0) (fourFrom (sheetOf (now (s .entry)) c) idle r) cars ⌝ }
 {
     if r % 4 == 0 {
-        four_of(s, c, idle, r)
+        four_from(s, c, idle, r)
     } else {
         cars
     }

@@ -7,7 +7,7 @@ use Rattle.cars.proofs.four_at.Statement.{statement}
 use Rattle.cars.proofs.four_at.Tie as tie
 
 returns : tie.Need-returns
-returns c = rw (c .before .if1 .taken) (c .four-of .ensures)
+returns c = rw (c .before .if1 .taken) (c .four-from .ensures)
 
 returns-2 : tie.Need-returns-2
 returns-2 c = rw (ne-eqb (c .before .before .args .r % 4) 0 (c .if1 .left)) refl

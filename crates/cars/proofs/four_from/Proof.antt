@@ -1,6 +1,6 @@
--- cars::four_of meets its contract.
+-- cars::four_from meets its contract.
 use Prim.Native.Nat.{ℕ, _+_, _≤_, _-_, min}
-use Rattle.cars.specs.Cars.{blank, fourOf}
+use Rattle.cars.specs.Cars.{blank, fourFrom}
 use Rattle.laws.specs.Tables.{tab, tab-next}
 use Rattle.layout.specs.Records.{sheetOf}
 use borrow.Author.Needs.{needs}
@@ -8,8 +8,8 @@ use lib.ListN.{length, getD, drop, replicate, length-set}
 use mathlib.Core.List.{_++_}
 use mathlib.Core.Path.{_≡_, refl, ap, _∙_}
 use native.Mathlib.Omega.{arith}
-use Rattle.cars.proofs.four_of.Statement.{statement}
-use Rattle.cars.proofs.four_of.Tie as tie
+use Rattle.cars.proofs.four_from.Statement.{statement}
+use Rattle.cars.proofs.four_from.Tie as tie
 
 abbrev Inv-loop : tie.InvT-loop
 Inv-loop s c first idle cars₀ n k₀ cars k =
@@ -64,15 +64,15 @@ loop-again c =
     )
 
 returns : tie.Need-returns Inv-loop μ-loop
-unfolding sheetOf fourOf
+unfolding sheetOf fourFrom
 returns c =
     let l = c .before .loop in
     let a = c .before .before .before .before .before .args in
     let e : l .k ≡ min (a .t3 .count - a .first) 4 = omega (arith, l .inv .0, c .loop-test .left, c .before .before .few .ensures) in
     l .inv .2 ∙ ap (λ (k : ℕ). tab (λ i. sheetOf (a .s .now) (a .c) .car (getD (a .t3 .at) (a .first + i) 0)) k ++ drop k (replicate 4 blank)) e
 
-pub four-of-spec : {M : Type 1} → statement M
-four-of-spec =
+pub four-from-spec : {M : Type 1} → statement M
+four-from-spec =
     tie.close
     (tie.spec Inv-loop μ-loop (λ c κs. search needs) sub-few (λ c κs. search needs) loop-holds add-i mul-i element-copy-out-i cast-car-at
     car-at-requires mul-cars array-set-from-cars add-k (λ c. search needs) loop-again returns)
