@@ -27,7 +27,6 @@ use Rattle.accepted.specs.Accepted.{accepted}
 use Rattle.fp.specs.Order.{finite-real}
 use Rattle.fp.specs.Inside.{mass-finite}
 use Rattle.fp.specs.Apart.{room-finite}
-use Rattle.manifest.specs.declared.Waiters.{Waiters}
 use Rattle.manifest.specs.World.{stopId, stopAt}
 use Rattle.manifest.specs.Holds.{HoldsAboard}
 use Rattle.manifest.specs.Stops.{HoldsStops}
@@ -38,7 +37,7 @@ use Rattle.pending.specs.Masks.{masksOf}
 use Rattle.mask.specs.declared.Ones.{Ones}
 use Rattle.mask.specs.Ones.{onesOf}
 use Rattle.rows.specs.HeldLaws.{Held}
-use Rattle.rows.specs.Gathered.{gatheredOf, gathered-held}
+use Rattle.rows.specs.Gathered.{waitersAt, Gathered, gathered-held}
 use Rattle.rows.specs.MatrixLaws.{Ready, Rows, listed-number, listed-at, listed-below}
 use Rattle.cells.specs.Ids.{rising-of}
 
@@ -154,8 +153,9 @@ pub ready : (bytes : List ℕ) (c : Counts) → verdict bytes ≡ Accepted c
     → (ids : List ℕ) (xs : List Float) (masks : StopMasks) (stops idle : Ones)
     → Survey (sheetOf bytes c) ids xs masks stops idle → (acar adest : List ℕ)
     → HoldsAboard (sheetOf bytes c) acar adest (sheetOf bytes c .aboards)
-    → (waiters : List Waiters) → waiters ≡ gatheredOf (sheetOf bytes c) → Ready (sheetOf bytes c) ids xs acar adest masks waiters stops
-ready bytes c e ids xs masks stops idle h acar adest ha waiters hw =
+    → (someone : ℕ) (entry sums : List Float) → Gathered (sheetOf bytes c) (masks .calls) someone entry sums
+    → Ready (sheetOf bytes c) ids xs acar adest masks (waitersAt someone (masks .calls) sums) stops
+ready bytes c e ids xs masks stops idle h acar adest ha someone entry sums hw =
     let sound = accepted bytes c e .sheet in
     record {
       held = record {
@@ -165,7 +165,7 @@ ready bytes c e ids xs masks stops idle h acar adest ha waiters hw =
         few = sound .most-stops;
         masks-are = h .seen .masks-are;
       };
-      waiting = gathered-held (sheetOf bytes c) waiters hw;
+      waiting = gathered-held (sheetOf bytes c) (masks .calls) someone entry sums hw;
       weighed = weighed-of (sheetOf bytes c) sound;
       listed = h .listed;
     }

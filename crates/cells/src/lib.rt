@@ -12,13 +12,12 @@ ghost use Rattle.layout.specs.Verdict.{verdict};
 ghost use Rattle.manifest.specs.World.{stopId, stopAt};
 ghost use Rattle.manifest.specs.Rising.{Rising};
 ghost use Rattle.manifest.specs.Stops.{HoldsStops, Ascending, positionIn};
-ghost use Rattle.manifest.specs.Waiters.{nobody, withRider};
+ghost use Rattle.manifest.specs.Waiters.{withRider};
 ghost use Rattle.manifest.specs.Manifest.{riderlessCall};
-ghost use Rattle.mask.specs.Mask.{has};
 ghost use Rattle.mask.specs.Ones.{onesOf};
 ghost use Rattle.pending.specs.Masks.{stopMask, masksOf};
 ghost use Rattle.rows.specs.MatrixLaws.{FilledRows};
-ghost use Rattle.rows.specs.Gathered.{gathered, gatheredOf};
+ghost use Rattle.rows.specs.Gathered.{putAt, Cleared, Gathered};
 ghost use Rattle.ranking.specs.RankingLaws.{HoldsRow};
 ghost use Rattle.cells.specs.Survey.{SeenStops, Survey, coordinates, idleMask};
 use layout::Counts;
@@ -78,18 +77,29 @@ pub fn fill_aboard(s: &[u8], c: Counts, acar: &mut [u32], adest: &mut [u32])
     fields::fill32(s, at, aboard::BITS, aboard::DESTINATION, n, adest);
 }
 
-// Nobody waits at any stop; at each of the first n a hall call may have no rider.
-fn riderless(calls: u64, n: usize) -> [Waiters; 64]
-    requires { ⌜ n ≤ 64 ⌝ }
-    ensures { λ r. ⌜ r ≡ gathered (λ j. nobody (has calls j)) n ⌝ }
+// What waits at stop j, into its five places.
+fn put_waiters(v: Waiters, j: usize, sums: &mut [f64])
+    requires { ⌜ (j < 64) × (length (now sums) ≡ 320) ⌝ }
+    ensures { λ _. ⌜ now (sums .exit) ≡ putAt (now (sums .entry)) j v ⌝ }
 {
-    let mut all = [Waiters::none(false); 64];
+    let at = j * 5;
+    sums[at] = v.waitsum;
+    sums[at + 1] = v.squares;
+    sums[at + 2] = v.up;
+    sums[at + 3] = v.down;
+    sums[at + 4] = v.level;
+}
+
+// Nobody waits at the first n stops.
+fn clear_waiters(n: usize, sums: &mut [f64])
+    requires { ⌜ (n ≤ 64) × (length (now sums) ≡ 320) ⌝ }
+    ensures { λ _. ⌜ Cleared n (now (sums .entry)) (now (sums .exit)) ⌝ }
+{
     let mut j: usize = 0;
     while j < n {
-        all[j] = Waiters::none(mask::has(calls, j));
+        put_waiters(Waiters::none(false), j, sums);
         j += 1;
     }
-    all
 }
 
 // The rider of the record at a bit of the sheet is met at stop j.
@@ -113,32 +123,35 @@ fn met<'a>(
     v.meet(ids, xs, n, j, dest, weight, wait)
 }
 
-// What waits at each stop: each rider is met once, at the stop whose id it names.
+// What waits at each stop, five places of sums a stop, and where someone does: each rider is met once, at the stop whose id it names.
 pub fn waiting<'a>(
     s: &'a [u8],
     c: Counts,
     ids: &'a [u32],
     xs: &'a [f64],
     calls: u64,
-) -> [Waiters; 64]
+    sums: &mut [f64],
+) -> u64
     requires { ⌜ Small c × (length (now ids) ≡ 64) × (length (now xs) ≡ 128) × HoldsStops (sheetOf (now s) c) (now ids) (now xs) (c .stops)
-        × Rising (sheetOf (now s) c) × (calls ≡ stopMask (sheetOf (now s) c) (riderlessCall (sheetOf (now s) c))) ⌝ }
-    ensures { λ r. ⌜ r ≡ gatheredOf (sheetOf (now (s .entry)) c) ⌝ }
+        × Rising (sheetOf (now s) c) × (calls ≡ stopMask (sheetOf (now s) c) (riderlessCall (sheetOf (now s) c))) × (length (now sums) ≡ 320) ⌝ }
+    ensures { λ r. ⌜ Gathered (sheetOf (now (s .entry)) c) calls r (now (sums .entry)) (now (sums .exit)) ⌝ }
 {
     let n = c.stops as usize;
     let first = c.waits_from();
-    let mut all = riderless(calls, n);
+    clear_waiters(n, sums);
+    let mut someone: u64 = 0;
     let mut w: u32 = 0;
     while w < c.waits {
         let at = first + waiting::BITS * w;
         let j = manifest::stop_index(ids, n, bits::field32(s, at, waiting::STOP));
         if j < n {
-            let v = all[j];
-            all[j] = met(v, s, at, ids, xs, n, j);
+            let v = rows::waiters_at(someone, calls, sums, j);
+            put_waiters(met(v, s, at, ids, xs, n, j), j, sums);
+            someone = mask::with(someone, j);
         }
         w += 1;
     }
-    all
+    someone
 }
 
 // The row of car i under a limit, where the stops and their masks are at hand; the known destinations of its riders are left in dests and sides.
@@ -224,7 +237,8 @@ pub fn fill_matrix<'a>(
     let mut acar = [0u32; 512];
     let mut adest = [0u32; 512];
     fill_aboard(s, c, &mut acar, &mut adest);
-    let waiters = waiting(s, c, ids, xs, masks.calls);
+    let mut sums = [0.0f64; 320];
+    let someone = waiting(s, c, ids, xs, masks.calls, &mut sums);
     rows::fill_rows(
         s,
         c,
@@ -234,7 +248,8 @@ pub fn fill_matrix<'a>(
         &acar,
         &adest,
         masks,
-        waiters,
+        someone,
+        &sums,
         stops,
         idle,
         columns,

@@ -45,8 +45,9 @@ use Rattle.ranking.specs.Ranking.{sweepBy}
 use Rattle.ranking.specs.RankingLaws.{HoldsRow, cell-is, held-is}
 use Rattle.rows.specs.declared.Counted.{Counted}
 use Rattle.rows.specs.KeptLaws.{keptNumber}
+use Rattle.rows.specs.Gathered.{waitersAt}
 use Rattle.rows.specs.HeldLaws.{Held, row-held}
-use Rattle.rows.specs.RowLaws.{noWaiters, rowCell, rowHeld, padded}
+use Rattle.rows.specs.RowLaws.{rowCell, rowHeld, padded}
 
 -- ---- the pending stops, listed from their mask, are the columns'; the idle cars, the rows'
 
@@ -98,8 +99,8 @@ module _ (s : Sheet) (few : s .stops ≤ 64) (mask : ℕ) (e : mask ≡ stopMask
   -- ---- the cells
 
   pub cells-are : (ids : List ℕ) (xs : List Float) → HoldsStops s ids xs (s .stops) → (r limit : ℕ) → Weighed s (rowCar s r)
-      → (row : Row) (dests sides : List Float) → HoldsRow s (rowCar s r) limit row dests sides → (waiters : List Waiters)
-      → ((j : ℕ) → j < s .stops → HoldsWaiters s j (getD waiters j noWaiters)) → (k : ℕ)
+      → (row : Row) (dests sides : List Float) → HoldsRow s (rowCar s r) limit row dests sides → (waiters : ℕ → Waiters)
+      → ((j : ℕ) → j < s .stops → HoldsWaiters s j (waiters j)) → (k : ℕ)
       → padded (rowCell row dests sides waiters xs (s .stops) stops) (stops .count) k ≡ matrix s limit r k
   unfolding padded rowCell matrix
   cells-are ids xs hs r limit weighed row dests sides hr waiters hw k =
@@ -108,14 +109,14 @@ module _ (s : Sheet) (few : s .stops ≤ 64) (mask : ℕ) (e : mask ≡ stopMask
       (λ (l : k < stops .count).
       let b = column-below k l in
       rw (lt-ltb k (stops .count) l, lt-ltb k (pendingStops s) (omega arith), listed-stop k l)
-      (cell-is s ids xs hs (rowCar s r) limit weighed row dests sides hr (columnStop s k) (getD waiters (columnStop s k) noWaiters)
+      (cell-is s ids xs hs (rowCar s r) limit weighed row dests sides hr (columnStop s k) (waiters (columnStop s k))
       (hw (columnStop s k) b) b))
       (λ (l : stops .count ≤ k). rw (le-ltb k (stops .count) l, le-ltb k (pendingStops s) (omega arith)))
       (less? k (stops .count))
 
   pub row-is : (ids : List ℕ) (xs : List Float) → HoldsStops s ids xs (s .stops) → (r limit : ℕ) → Weighed s (rowCar s r)
-      → (row : Row) (dests sides : List Float) → HoldsRow s (rowCar s r) limit row dests sides → (waiters : List Waiters)
-      → ((j : ℕ) → j < s .stops → HoldsWaiters s j (getD waiters j noWaiters)) → (n : ℕ)
+      → (row : Row) (dests sides : List Float) → HoldsRow s (rowCar s r) limit row dests sides → (waiters : ℕ → Waiters)
+      → ((j : ℕ) → j < s .stops → HoldsWaiters s j (waiters j)) → (n : ℕ)
       → tab (padded (rowCell row dests sides waiters xs (s .stops) stops) (stops .count)) n ≡ tab (matrix s limit r) n
   row-is ids xs hs r limit weighed row dests sides hr waiters hw n =
       tab-cong (padded (rowCell row dests sides waiters xs (s .stops) stops) (stops .count)) (matrix s limit r) n
@@ -123,8 +124,8 @@ module _ (s : Sheet) (few : s .stops ≤ 64) (mask : ℕ) (e : mask ≡ stopMask
 
   -- so many are held
   pub held-are : (ids : List ℕ) (xs : List Float) → HoldsStops s ids xs (s .stops) → (r limit : ℕ) → Weighed s (rowCar s r)
-      → (row : Row) (dests sides : List Float) → HoldsRow s (rowCar s r) limit row dests sides → (waiters : List Waiters)
-      → ((j : ℕ) → j < s .stops → HoldsWaiters s j (getD waiters j noWaiters))
+      → (row : Row) (dests sides : List Float) → HoldsRow s (rowCar s r) limit row dests sides → (waiters : ℕ → Waiters)
+      → ((j : ℕ) → j < s .stops → HoldsWaiters s j (waiters j))
       → count (rowHeld row dests sides waiters xs (s .stops) stops) (stops .count) ≡ heldInRow s limit r
   unfolding rowHeld
   held-are ids xs hs r limit weighed row dests sides hr waiters hw =
@@ -132,7 +133,7 @@ module _ (s : Sheet) (few : s .stops ≤ 64) (mask : ℕ) (e : mask ≡ stopMask
       (λ k l.
       let b = column-below k l in
       rw (listed-stop k l)
-      (held-is s ids xs hs (rowCar s r) limit weighed row dests sides hr (columnStop s k) (getD waiters (columnStop s k) noWaiters)
+      (held-is s ids xs hs (rowCar s r) limit weighed row dests sides hr (columnStop s k) (waiters (columnStop s k))
       (hw (columnStop s k) b) b))
       ∙ ap (count (λ c. heldCell s limit (rowCar s r) (columnStop s c))) listed-count ∙ sym (held-in-row s limit r)
 
@@ -195,14 +196,14 @@ pub record FilledRow (s : Sheet) (limit i n held : ℕ) (exit : List ℕ) : Type
 
 -- ---- what the pass has at hand when it fills rows
 
-pub record Ready (s : Sheet) (ids : List ℕ) (xs : List Float) (acar adest : List ℕ) (masks : StopMasks) (waiters : List Waiters)
+pub record Ready (s : Sheet) (ids : List ℕ) (xs : List Float) (acar adest : List ℕ) (masks : StopMasks) (waiters : ℕ → Waiters)
     (stops : Ones) : Type 0 where
   pub held : Held s ids xs acar adest masks
-  pub waiting : (j : ℕ) → j < s .stops → HoldsWaiters s j (getD waiters j noWaiters)
+  pub waiting : (j : ℕ) → j < s .stops → HoldsWaiters s j (waiters j)
   pub weighed : (i : ℕ) → i < s .cars → Weighed s i
   pub listed : stops ≡ onesOf (masks .pending)
 
-module _ (s : Sheet) (ids : List ℕ) (xs : List Float) (acar adest : List ℕ) (masks : StopMasks) (waiters : List Waiters) (stops : Ones)
+module _ (s : Sheet) (ids : List ℕ) (xs : List Float) (acar adest : List ℕ) (masks : StopMasks) (waiters : ℕ → Waiters) (stops : Ones)
     (h : Ready s ids xs acar adest masks waiters stops) where
   pub ready-few : stops .count ≤ 64
   ready-few = let few = count-le (has (masks .pending)) 64 in omega (arith, ones-count (masks .pending) (h .listed))
@@ -229,20 +230,21 @@ module _ (s : Sheet) (ids : List ℕ) (xs : List Float) (acar adest : List ℕ) 
       (rw e hr) waiters (h .waiting)
 
 -- what rows need, each in a buffer of some cells
-pub record RowsNeed (b : List ℕ) (c : Counts) (ids : List ℕ) (xs : List Float) (acar adest : List ℕ) (masks : StopMasks) (waiters : List Waiters)
-    (stops : Ones) (cells : ℕ) : Type 0 where
+pub record RowsNeed (b : List ℕ) (c : Counts) (ids : List ℕ) (xs : List Float) (acar adest : List ℕ) (masks : StopMasks) (someone : ℕ)
+    (sums : List Float) (stops : Ones) (cells : ℕ) : Type 0 where
   pub small : Small c
   pub ids-size : length ids ≡ 64
   pub xs-size : length xs ≡ 128
   pub acar-size : length acar ≡ 512
   pub adest-size : length adest ≡ 512
+  pub sums-size : length sums ≡ 320
   pub fits : stops .count ≤ cells
-  pub ready : Ready (sheetOf b c) ids xs acar adest masks waiters stops
+  pub ready : Ready (sheetOf b c) ids xs acar adest masks (waitersAt someone (masks .calls) sums) stops
 
 -- what the row of a car needs: these, the policy, and under ETD the counts of the stops
 pub record CarNeeds (b : List ℕ) (c : Counts) (policy : Policy) (ids : List ℕ) (xs : List Float) (acar adest : List ℕ) (masks : StopMasks)
-    (waiters : List Waiters) (stops : Ones) (table : List ℕ) (cells : ℕ) : Type 0 where
-  pub rows : RowsNeed b c ids xs acar adest masks waiters stops cells
+    (someone : ℕ) (sums : List Float) (stops : Ones) (table : List ℕ) (cells : ℕ) : Type 0 where
+  pub rows : RowsNeed b c ids xs acar adest masks someone sums stops cells
   pub policy-is : policy ≡ sheetOf b c .policy
   pub counted : policy .strategy ≡ Etd → HoldsCounts (masks .demand) xs (c .stops) table
 
@@ -253,7 +255,7 @@ destsFor s ids xs acar adest car buffer =
 
 -- n cells hold the row of a car by value, so many of its pairs are ranked, and so many of its cells are held; the known destinations of its riders
 -- stood in two buffers
-pub record FilledCar (s : Sheet) (ids : List ℕ) (xs : List Float) (acar adest : List ℕ) (masks : StopMasks) (waiters : List Waiters) (stops : Ones)
+pub record FilledCar (s : Sheet) (ids : List ℕ) (xs : List Float) (acar adest : List ℕ) (masks : StopMasks) (waiters : ℕ → Waiters) (stops : Ones)
     (limit : ℕ) (car : Car) (n : ℕ) (counted : Counted) (exit : List ℕ) : Type 0 where
   pub buffer : List Float
   pub aside : List Float
@@ -264,7 +266,7 @@ pub record FilledCar (s : Sheet) (ids : List ℕ) (xs : List Float) (acar adest 
       (destsFor s ids (sidesOf xs) acar adest car aside) waiters xs (s .stops) stops) (stops .count)
 
 -- the row of a car that is record i
-pub filled-at : (s : Sheet) (ids : List ℕ) (xs : List Float) (acar adest : List ℕ) (masks : StopMasks) (waiters : List Waiters) (stops : Ones)
+pub filled-at : (s : Sheet) (ids : List ℕ) (xs : List Float) (acar adest : List ℕ) (masks : StopMasks) (waiters : ℕ → Waiters) (stops : Ones)
     → Ready s ids xs acar adest masks waiters stops → (limit i n : ℕ) (counted : Counted) (car : Car) (exit : List ℕ) → car ≡ s .car i
     → i < s .cars → FilledCar s ids xs acar adest masks waiters stops limit car n counted exit
     → FilledRow s limit i n (counted .held) exit × (counted .ranked ≡ keptNumber s limit i)

@@ -23,17 +23,13 @@ use Rattle.assignment.specs.Cells.{byStrategy}
 use Rattle.etd.specs.Pairs.{haltsAt}
 use Rattle.etd.specs.Halts.{stopCounts, HoldsCounts, counts-held}
 
--- what is read past the last stop
-abbrev pub noWaiters : Waiters
-noWaiters = record { someone = false; call = false; waitsum = nan; squares = nan; up = nan; down = nan; level = nan }
-
 -- the cell of column k, whose stop is listed
-unfoldable pub rowCell : Row → List Float → List Float → List Waiters → List Float → ℕ → Ones → ℕ → ℕ
-rowCell row dests sides waiters xs n stops k = cellBy row dests sides (getD waiters (getD (stops .at) k 0) noWaiters) xs n (getD (stops .at) k 0)
+unfoldable pub rowCell : Row → List Float → List Float → (ℕ → Waiters) → List Float → ℕ → Ones → ℕ → ℕ
+rowCell row dests sides waiters xs n stops k = cellBy row dests sides (waiters (getD (stops .at) k 0)) xs n (getD (stops .at) k 0)
 
 -- whether it is held
-unfoldable pub rowHeld : Row → List Float → List Float → List Waiters → List Float → ℕ → Ones → ℕ → Bool
-rowHeld row dests sides waiters xs n stops k = heldBy row dests sides (getD waiters (getD (stops .at) k 0) noWaiters) xs n (getD (stops .at) k 0)
+unfoldable pub rowHeld : Row → List Float → List Float → (ℕ → Waiters) → List Float → ℕ → Ones → ℕ → Bool
+rowHeld row dests sides waiters xs n stops k = heldBy row dests sides (waiters (getD (stops .at) k 0)) xs n (getD (stops .at) k 0)
 
 -- ---- what ETD asks for, in buffers that no other strategy writes to
 

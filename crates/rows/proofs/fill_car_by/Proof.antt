@@ -4,6 +4,7 @@ use Rattle.components.specs.declared.Policy.{Policy}
 use Rattle.components.specs.declared.Strategy.{Strategy}
 use Rattle.layout.specs.Records.{sheetOf}
 use Rattle.rows.specs.MatrixLaws.{CarNeeds, FilledCar, destsFor, rowFor, kept-size, ready-few, ready-below}
+use Rattle.rows.specs.Gathered.{waitersAt}
 use Rattle.rows.specs.RowLaws.{haltsFor, halts-held}
 use borrow.Author.Needs.{needs}
 use lib.Ieee.{Float}
@@ -17,13 +18,13 @@ use Rattle.rows.proofs.fill_car_by.Tie as tie
 row-for-requires : tie.Need-row-for-requires
 unfolding sheetOf
 row-for-requires c κs =
-    let (p, d, e) = c .before .before .before .before .before .before .before .before .before .before .before .pre in
+    let (p, d, e) = c .before .before .before .before .before .before .before .before .before .before .before .before .pre in
     let q = p .rows in
     ((q .small, q .ids-size, q .xs-size, q .acar-size, q .adest-size, d, e), (p .policy-is, q .ready .held))
 
 fill-halts-requires : tie.Need-fill-halts-requires
 fill-halts-requires c κs =
-    let p = c .before .before .before .before .before .before .before .before .before .before .before .before .before .before .before .before .before .before .before .pre .0 in
+    let p = c .before .before .before .before .before .before .before .before .before .before .before .before .before .before .before .before .before .before .before .before .pre .0 in
     let few = p .rows .small .stops in (
       few,
       omega (arith, few, p .rows .xs-size),
@@ -34,12 +35,12 @@ fill-halts-requires c κs =
 car-row-requires : tie.Need-car-row-requires
 unfolding sheetOf rowFor
 car-row-requires c κs =
-    let a = c .before .before .before .before .before .before .before .before .before .before .before .before .before .before .before .before .before .before .before .before .before .before .before .before .before .args in
-    let p = c .before .before .before .before .before .before .before .before .before .before .before .before .before .before .before .before .before .before .before .before .before .before .before .before .before .pre .0 in
+    let a = c .before .before .before .before .before .before .before .before .before .before .before .before .before .before .before .before .before .before .before .before .before .before .before .before .before .before .args in
+    let p = c .before .before .before .before .before .before .before .before .before .before .before .before .before .before .before .before .before .before .before .before .before .before .before .before .before .before .pre .0 in
     let q = p .rows in
     let of = c .before .before .before .before .before .before .before .before .before .before .before .before .before .row-for .ensures in
     let row = c .before .before .before .before .before .before .before .before .before .before .before .before .before .row-for .result in
-    let few = ready-few (sheetOf (a .s .now) (a .c)) (a .ids .now) (a .xs .now) (a .acar .now) (a .adest .now) (a .masks) (a .waiters) (a .stops) (q .ready) in
+    let few = ready-few (sheetOf (a .s .now) (a .c)) (a .ids .now) (a .xs .now) (a .acar .now) (a .adest .now) (a .masks) (waitersAt (a .someone) (a .masks .calls) (a .sums .now)) (a .stops) (q .ready) in
     let governed : a .policy .strategy ≡ row .policy .strategy =
     ap (λ (y : Policy). y .strategy) (p .policy-is) ∙ sym (ap (λ (r : Row). r .policy .strategy) (of .0)) in (
       of .1 .0 .1,
@@ -48,12 +49,13 @@ car-row-requires c κs =
       omega (arith, q .small .stops, q .xs-size),
       q .fits,
       few,
-      ready-below (sheetOf (a .s .now) (a .c)) (a .ids .now) (a .xs .now) (a .acar .now) (a .adest .now) (a .masks) (a .waiters) (a .stops) (q .ready),
+      ready-below (sheetOf (a .s .now) (a .c)) (a .ids .now) (a .xs .now) (a .acar .now) (a .adest .now) (a .masks) (waitersAt (a .someone) (a .masks .calls) (a .sums .now)) (a .stops) (q .ready),
       halts-held row (a .car .position .along) (a .masks .demand) (a .xs .now) (a .c .stops) (replicate 64 0)
           (omega (arith, q .small .stops, length-replicate {A = ℕ} 64 0))
           (ap (λ (r : Row). r .car .position .along) (of .0)) (ap (λ (r : Row). r .demand) (of .0))
           (c .before .before .before .before .before .fill-halts .ensures
           ∙ ap (λ (z : Strategy). haltsFor z (a .car .position .along) (a .masks .demand) (a .xs .now) (a .c .stops) (replicate 64 0)) governed),
+      q .sums-size,
     )
 
 row-kept : tie.Need-same-length
@@ -68,8 +70,8 @@ sides-kept c = c .before .before .before .before .before .before .before .before
 returns : tie.Need-returns
 unfolding sheetOf destsFor rowFor
 returns c =
-    let a = c .before .before .before .before .before .before .before .before .before .before .before .before .before .before .before .before .before .before .before .before .before .before .before .before .before .before .before .before .before .args in
-    let p = c .before .before .before .before .before .before .before .before .before .before .before .before .before .before .before .before .before .before .before .before .before .before .before .before .before .before .before .before .before .pre .0 in
+    let a = c .before .before .before .before .before .before .before .before .before .before .before .before .before .before .before .before .before .before .before .before .before .before .before .before .before .before .before .before .before .before .args in
+    let p = c .before .before .before .before .before .before .before .before .before .before .before .before .before .before .before .before .before .before .before .before .before .before .before .before .before .before .before .before .before .before .pre .0 in
     let of = c .before .before .before .before .before .before .before .before .before .before .before .before .before .before .before .before .before .row-for in
     let filled = c .before .before .before .car-row .ensures in
     let s = sheetOf (a .s .now) (a .c) in
