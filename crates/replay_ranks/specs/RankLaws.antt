@@ -21,8 +21,7 @@ use Rattle.assignment.specs.Cells.{rank}
 use Rattle.ranking.specs.declared.Row.{Row}
 use Rattle.ranking.specs.Ranking.{rankBy}
 use Rattle.ranking.specs.RankingLaws.{HoldsRow, rank-is}
-use Rattle.rows.specs.RowLaws.{noWaiters}
-use Rattle.rows.specs.Gathered.{gatheredOf, gathered-held}
+use Rattle.rows.specs.Gathered.{waitersAt, Gathered, gathered-held}
 use Rattle.cells.specs.Survey.{weighed-of}
 use Rattle.replay_ranks.specs.declared.Answer.{Answer}
 use Rattle.replay_ranks.specs.declared.Pair.{Pair}
@@ -67,8 +66,9 @@ module _ (bytes : List ℕ) (c : Counts) (e : verdict bytes ≡ Accepted c) (ids
     (hs : HoldsStops (sheetOf bytes c) ids xs (sheetOf bytes c .stops)) where
   pub ranked : (i j limit : ℕ) → i < sheetOf bytes c .cars → j < sheetOf bytes c .stops → (row : Row) {dests sides : List Float}
       → HoldsRow (sheetOf bytes c) i limit row dests sides
-      → (waiters : List Waiters) → waiters ≡ gatheredOf (sheetOf bytes c)
-      → rankBy row dests sides (getD waiters j noWaiters) xs (sheetOf bytes c .stops) j ≡ rank (sheetOf bytes c) i j
-  ranked i j limit li lj row {dests} {sides} hr waiters hw =
+      → (calls someone : ℕ) (entry sums : List Float) {v : Waiters}
+      → Gathered (sheetOf bytes c) calls someone entry sums → v ≡ waitersAt someone calls sums j
+      → rankBy row dests sides v xs (sheetOf bytes c .stops) j ≡ rank (sheetOf bytes c) i j
+  ranked i j limit li lj row {dests} {sides} hr calls someone entry sums {v} hw ev =
       rank-is (sheetOf bytes c) ids xs hs i limit (weighed-of (sheetOf bytes c) (accepted bytes c e .sheet) i li) row dests sides hr j
-      (getD waiters j noWaiters) (gathered-held (sheetOf bytes c) waiters hw j lj) lj
+      v (rw ev (gathered-held (sheetOf bytes c) calls someone entry sums hw j lj)) lj

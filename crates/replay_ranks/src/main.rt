@@ -114,8 +114,9 @@ fn rank_by<'a>(
     let mut dests = [0.0f64; 512];
     let mut sides = [0.0f64; 512];
     let row = cells::row_of(s, c, i, 65535, ids, xs, masks, &mut dests, &mut sides);
-    let waiters = cells::waiting(s, c, ids, xs, masks.calls);
-    let v = waiters[j];
+    let mut sums = [0.0f64; 320];
+    let someone = cells::waiting(s, c, ids, xs, masks.calls, &mut sums);
+    let v = rows::waiters_at(someone, masks.calls, &sums, j);
     let n = c.stops as usize;
     let x = row.car.position.along;
     let halts = etd::intervening_stops(x, xs[j], row.demand, xs, n);

@@ -43,8 +43,7 @@ use Rattle.assignment.specs.Cells.{byStrategy, rank}
 use Rattle.pending.specs.declared.StopMasks.{StopMasks}
 use Rattle.pending.specs.Masks.{stopMask, lineStop, pending-are}
 use Rattle.rows.specs.HeldLaws.{below-has}
-use Rattle.rows.specs.RowLaws.{noWaiters}
-use Rattle.rows.specs.Gathered.{gatheredOf, gathered-held}
+use Rattle.rows.specs.Gathered.{waitersAt, Gathered, gathered-held}
 use Rattle.cells.specs.Survey.{SeenStops, weighed-of}
 use Rattle.ranking.specs.declared.Row.{Row}
 use Rattle.ranking.specs.Ranking.{haltsBy}
@@ -127,14 +126,15 @@ module _ (s : Sheet) (ids : List ℕ) (xs : List Float) (hs : HoldsStops s ids x
 module _ (bytes : List ℕ) (c : Counts) (e : verdict bytes ≡ Accepted c) (ids : List ℕ) (xs : List Float) (masks : StopMasks)
     (seen : SeenStops (sheetOf bytes c) ids xs masks) where
   pub told : (i j : ℕ) → i < sheetOf bytes c .cars → j < sheetOf bytes c .stops → (row : Row) {dests sides : List Float} {limit : ℕ}
-      → limit ≡ limitOf bytes → HoldsRow (sheetOf bytes c) i limit row dests sides → (waiters : List Waiters) → waiters ≡ gatheredOf (sheetOf bytes c)
+      → limit ≡ limitOf bytes → HoldsRow (sheetOf bytes c) i limit row dests sides → (someone : ℕ) (entry sums : List Float) {v : Waiters}
+      → Gathered (sheetOf bytes c) (masks .calls) someone entry sums → v ≡ waitersAt someone (masks .calls) sums j
       → (m : ℕ) {waits served : Bool} → m ≡ built (lineStop (sheetOf bytes c) false (row .car .line) (sheetOf bytes c .lines)) 64
       → served ≡ has m j → waits ≡ has (masks .pending) j
-      → whyBy (reasonBy row dests sides (getD waiters j noWaiters) xs (sheetOf bytes c .stops) j waits served)
-      (termsBy row dests sides (getD waiters j noWaiters) xs (sheetOf bytes c .stops) j) ≡ whyAt (sheetOf bytes c) (limitOf bytes) i j
-  told i j li lj row {dests} {sides} {limit} el hr waiters hw m em es ew =
+      → whyBy (reasonBy row dests sides v xs (sheetOf bytes c .stops) j waits served)
+      (termsBy row dests sides v xs (sheetOf bytes c .stops) j) ≡ whyAt (sheetOf bytes c) (limitOf bytes) i j
+  told i j li lj row {dests} {sides} {limit} el hr someone entry sums {v} hw ev m em es ew =
       let sound = accepted bytes c e .sheet in
       pair-is (sheetOf bytes c) ids xs (seen .stops-held) i limit (weighed-of (sheetOf bytes c) sound i li) row dests sides hr j
-      (getD waiters j noWaiters) (gathered-held (sheetOf bytes c) waiters hw j lj) lj (masks .pending) m (sound .most-stops)
+      v (rw ev (gathered-held (sheetOf bytes c) (masks .calls) someone entry sums hw j lj)) lj (masks .pending) m (sound .most-stops)
       (pending-are (sheetOf bytes c) (seen .masks-are)) ew em es
       ∙ ap (λ (z : ℕ). whyAt (sheetOf bytes c) z i j) el

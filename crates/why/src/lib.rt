@@ -253,8 +253,9 @@ fn of_records<'a>(
     let n = c.stops as usize;
     let most = sheet::limit(s) as u32;
     let row = cells::row_of(s, c, i, most, ids, xs, masks, &mut dests, &mut sides);
-    let waiters = cells::waiting(s, c, ids, xs, masks.calls);
-    let v = waiters[j];
+    let mut sums = [0.0f64; 320];
+    let someone = cells::waiting(s, c, ids, xs, masks.calls, &mut sums);
+    let v = rows::waiters_at(someone, masks.calls, &sums, j);
     let line = row.car.line;
     let served = mask::has(pending::line_stops(s, c, false, line), j);
     let waits = mask::has(masks.pending, j);

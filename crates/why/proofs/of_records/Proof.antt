@@ -23,63 +23,57 @@ row-of-requires c κs =
 waiting-requires : tie.Need-waiting-requires
 unfolding sheetOf
 waiting-requires c κs =
-    let a = c .before .before .before .before .before .before .before .before .before .before .args in
-    let p = c .before .before .before .before .before .before .before .before .before .before .pre in
-    (accepted (a .s .now) (a .c) (p .0 .0) .small, p .0 .3, p .0 .4, p .1 .stops-held, rising-of (a .s .now) (a .c) (p .0 .0), calls-are (sheetOf (a .s .now) (a .c)) (p .1 .masks-are))
-
-mul-v : tie.Need-mul-v
-mul-v c =
     let a = c .before .before .before .before .before .before .before .before .before .before .before .args in
     let p = c .before .before .before .before .before .before .before .before .before .before .before .pre in
-    omega (arith, accepted (a .s .now) (a .c) (p .0 .0) .small .stops, p .0 .2)
+    (accepted (a .s .now) (a .c) (p .0 .0) .small, p .0 .3, p .0 .4, p .1 .stops-held, rising-of (a .s .now) (a .c) (p .0 .0), calls-are (sheetOf (a .s .now) (a .c)) (p .1 .masks-are), refl)
 
-array-copy-out-v : tie.Need-array-copy-out-v
-array-copy-out-v c =
-    let a = c .before .before .before .before .before .before .before .before .before .before .before .args in
-    let p = c .before .before .before .before .before .before .before .before .before .before .before .pre in
-    omega (arith, accepted (a .s .now) (a .c) (p .0 .0) .small .stops, p .0 .2)
+waiters-at-requires : tie.Need-waiters-at-requires
+waiters-at-requires c κs =
+    let a = c .before .before .before .before .before .before .before .before .before .before .before .before .before .before .args in
+    let p = c .before .before .before .before .before .before .before .before .before .before .before .before .before .before .pre in
+    (omega (arith, accepted (a .s .now) (a .c) (p .0 .0) .small .stops, p .0 .2), c .before .before .waiting .ensures .size)
 
 line-stops-requires : tie.Need-line-stops-requires
 line-stops-requires c κs =
-    let a = c .before .before .before .before .before .before .before .before .before .before .before .before .args in
-    let p = c .before .before .before .before .before .before .before .before .before .before .before .before .pre in
+    let a = c .before .before .before .before .before .before .before .before .before .before .before .before .before .before .before .args in
+    let p = c .before .before .before .before .before .before .before .before .before .before .before .before .before .before .before .pre in
     accepted (a .s .now) (a .c) (p .0 .0) .small
 
 has-requires : tie.Need-has-requires
 has-requires c κs =
-    let a = c .before .before .before .before .before .before .before .before .before .before .before .before .before .args in
-    let p = c .before .before .before .before .before .before .before .before .before .before .before .before .before .pre in
+    let a = c .before .before .before .before .before .before .before .before .before .before .before .before .before .before .before .before .args in
+    let p = c .before .before .before .before .before .before .before .before .before .before .before .before .before .before .before .before .pre in
     omega (arith, accepted (a .s .now) (a .c) (p .0 .0) .small .stops, p .0 .2)
 
 has-requires-2 : tie.Need-has-requires-2
 has-requires-2 c κs =
-    let a = c .before .before .before .before .before .before .before .before .before .before .before .before .before .before .args in
-    let p = c .before .before .before .before .before .before .before .before .before .before .before .before .before .before .pre in
+    let a = c .before .before .before .before .before .before .before .before .before .before .before .before .before .before .before .before .before .args in
+    let p = c .before .before .before .before .before .before .before .before .before .before .before .before .before .before .before .before .before .pre in
     omega (arith, accepted (a .s .now) (a .c) (p .0 .0) .small .stops, p .0 .2)
 
 of-row-requires : tie.Need-of-row-requires
 of-row-requires c κs =
-    let a = c .before .before .before .before .before .before .before .before .before .before .before .before .before .before .before .before .before .args in
-    let p = c .before .before .before .before .before .before .before .before .before .before .before .before .before .before .before .before .before .pre in
+    let a = c .before .before .before .before .before .before .before .before .before .before .before .before .before .before .before .before .before .before .before .before .args in
+    let p = c .before .before .before .before .before .before .before .before .before .before .before .before .before .before .before .before .before .before .before .before .pre in
     let small = accepted (a .s .now) (a .c) (p .0 .0) .small .stops in
-    let row = c .before .before .before .before .before .before .before .before .before .row-of .ensures in
+    let row = c .before .before .before .before .before .before .before .before .before .before .before .before .row-of .ensures in
     (row .1, row .2, small, omega (arith, small, p .0 .4), p .0 .2)
 
 returns : tie.Need-returns
 unfolding sheetOf
 returns c =
-    let a = c .before .before .before .before .before .before .before .before .before .before .before .before .before .before .before .before .before .before .args in
-    let p = c .before .before .before .before .before .before .before .before .before .before .before .before .before .before .before .before .before .before .pre in
-    let row = c .before .before .before .before .before .before .before .before .before .before .row-of in
-    let waiters = c .before .before .before .before .before .before .before .waiting in
+    let a = c .before .before .before .before .before .before .before .before .before .before .before .before .before .before .before .before .before .before .before .before .before .args in
+    let p = c .before .before .before .before .before .before .before .before .before .before .before .before .before .before .before .before .before .before .before .before .before .pre in
+    let row = c .before .before .before .before .before .before .before .before .before .before .before .before .before .row-of in
+    let waiters = c .before .before .before .before .before .before .before .before .before .waiting in
     let lines = c .before .before .before .before .before .line-stops in
     c .of-row .ensures
     ∙ told (a .s .now) (a .c) (p .0 .0) (a .ids .now) (a .xs .now) (a .masks) (p .1) (a .i) (a .j) (p .0 .1) (p .0 .2) (row .result)
-    (c .before .before .before .before .before .before .before .before .before .before .before .before .before .limit .ensures) (row .ensures .0) (waiters .result) (waiters .ensures) (lines .result) (lines .ensures)
+    (c .before .before .before .before .before .before .before .before .before .before .before .before .before .before .before .before .limit .ensures) (row .ensures .0) (waiters .result) _ _ (waiters .ensures) (c .before .before .before .before .before .before .waiters-at .ensures) (lines .result) (lines .ensures)
     (c .before .before .before .before .has .ensures) (c .before .before .before .has2 .ensures)
 
 pub of-records-spec : {M : Type 1} → statement M
 of-records-spec =
     tie.close
-    (tie.spec (λ c. search needs) (λ c κs. search needs) cast-most (λ c. search needs) (λ c. search needs) row-of-requires waiting-requires mul-v
-    array-copy-out-v line-stops-requires has-requires has-requires-2 (λ c. search needs) (λ c. search needs) of-row-requires returns)
+    (tie.spec (λ c. search needs) (λ c κs. search needs) cast-most (λ c. search needs) (λ c. search needs) row-of-requires (λ c. search needs) waiting-requires (λ c. search needs) waiters-at-requires
+    line-stops-requires has-requires has-requires-2 (λ c. search needs) (λ c. search needs) of-row-requires returns)
