@@ -74,7 +74,7 @@ pub fn four_at(s: &[u8], c: Counts, idle: Ones, r: usize, cars: [Car; 4]) -> [Ca
     requires { ⌜ Small c × (idle .count ≤ 64) × (r ≤ idle .count) × ((k : ℕ) → k < idle .count → getD (idle .at) k 0 < c .cars) ⌝ }
     ensures { λ a. ⌜ a ≡ cond (eqb (r % 4) 0) (fourFrom (sheetOf (now (s .entry)) c) idle r) cars ⌝ }
 {
-    if r % 4 == 0 {
+    if (r & 3) == 0 {
         four_from(s, c, idle, r)
     } else {
         cars
