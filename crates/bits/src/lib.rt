@@ -1,4 +1,6 @@
 // Fields of bits in a slice of bytes, most significant bit first. Past the end of the slice every bit is 0.
+#![tactic(auto)]
+
 ghost use Rattle.std.specs.Prelude.{◌≡◌, ◌+◌, ◌-◌, ◌*◌, ◌/◌, ◌%◌, ◌^◌, ◌<◌, ◌≤◌, get_or, length, eqb};
 ghost use Rattle.bits.specs.Field.{field_at, low_first, IsField};
 

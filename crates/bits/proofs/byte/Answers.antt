@@ -1,0 +1,8 @@
+-- bits::byte meets its contract.
+use mathlib.Core.Path.{sym}
+use borrow.Author.Rules.{rules}
+use lib.ListN.{get_or-eq_default}
+use Rattle.bits.proofs.byte.Goals as goal
+
+pub returns-else-k-s : goal.returns-else-k-s
+returns-else-k-s c = (sym (get_or-eq_default c.args.s.now 0 c.if-k-s.false), search rules)

@@ -1,0 +1,15 @@
+-- bits::word_past meets its contract.
+use mathlib.Core.Path.{◌≡◌, sym, subst}
+use Prim.Native.Nat.{ℕ, ◌≤◌, ◌<◌, ◌+◌, ◌-◌, ◌*◌, ◌%◌, ◌^◌}
+use native.Mathlib.Omega.{arith}
+use borrow.Author.Rules.{rules}
+use lib.ListN.{get_or, length}
+use Rattle.bits.specs.Field.{field_at, field_64, field_past}
+use Rattle.bits.proofs.NineBytes.{word_grows, word_ends}
+use Rattle.bits.proofs.word_past.Given as goal
+
+abbrev pub invariant-loop-i : goal.invariant-loop-i
+invariant-loop-i l = (l.k + l.i ≤ length l.s) × (l.r ≡ field_at l.s (8 * l.k) (8 * l.i))
+
+abbrev pub decreases-loop-i : goal.decreases-loop-i
+decreases-loop-i l = length l.s - l.i
