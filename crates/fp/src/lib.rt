@@ -1,4 +1,6 @@
 // Doubles: fp.rs, and what units.rs, the costs and the sheet's ranges need of floats.
+#![tactic(auto)]
+
 ghost use Rattle.std.specs.Prelude.{◌≡◌, from_bits};
 ghost use Rattle.std.specs.Float.{binary64};
 ghost use Rattle.fp.specs.Num.{abs, max_zero, finite, fma, lesser, natural, apart};

@@ -1,4 +1,6 @@
 // Puts a field of bits into a slice of bytes, most significant bit first: the inverse of bits::field. What lies past the end is not written.
+#![tactic(auto)]
+
 ghost use Rattle.std.specs.Prelude.{◌≡◌, ◌+◌, ◌-◌, ◌/◌, ◌%◌, ◌^◌, ◌<◌, ◌≤◌, get_or, set};
 ghost use Rattle.put.specs.Put.{inserted, put_at};
 

@@ -6,20 +6,16 @@ use native.Mathlib.Omega.{arith}
 use lib.Bits.{and_mask}
 use lib.Pow.{shl_exact, pow_pos}
 use borrow.Author.Rules.{rules}
-use Rattle.put.proofs.last_bits.Statement.{statement}
-use Rattle.put.proofs.last_bits.Tie as tie
+use Rattle.put.proofs.last_bits.Goals as goal
 
 one : (n : ℕ) → n ≤ 8 → (1 * 2 ^ n) % 2 ^ 64 ≡ 2 ^ n
 one n h = shl_exact 1 n 64 (omega arith) (omega arith) ∙ one-mul (2 ^ n)
 
-sub-result : tie.Need-overflow-sub-result
-sub-result c = rw (one c.args.n c.requires) (pow_pos c.args.n)
+pub overflow_sub-result : goal.overflow_sub-result
+overflow_sub-result c = rw (one c.args.n c.requires) (pow_pos c.args.n)
 
-returns : tie.Need-returns
+pub returns : goal.returns
 returns c =
     let n = c.args.n in
     let v = c.args.v in
     rw (one n c.requires, and_mask v n) (refl, mod-lt v (pow_pos n))
-
-pub last_bits_spec : {M : Type 1} → statement M
-last_bits_spec = tie.close (tie.spec (λ c. search rules) sub-result returns)

@@ -1,0 +1,6 @@
+-- fp::natural meets its contract.
+use Rattle.std.proofs.Common.{rules}
+use Rattle.fp.proofs.natural.Goals as goal
+
+pub returns : goal.returns
+returns c = c.nearest_u64_to_f64.ensures
