@@ -1,4 +1,6 @@
 // A mask of 64 stops: the highest bit is the first stop record.
+#![tactic(auto)]
+
 ghost use Rattle.std.specs.Prelude.{◌≡◌, ◌&&◌, ◌||◌, not, ◌<◌, ◌+◌, ◌*◌, ◌^◌, eqb};
 ghost use Rattle.laws.specs.Bools.{bit};
 ghost use Rattle.laws.specs.Folds.{count};

@@ -7,16 +7,12 @@ use native.Mathlib.Omega.{arith}
 use lib.Bits.{bit_or}
 use lib.Pow.{pow-lt}
 use Rattle.mask.specs.MaskLaws.{with_has}
-use Rattle.mask.proofs.with.Statement.{statement}
-use Rattle.mask.proofs.with.Tie as tie
+use Rattle.mask.proofs.with.Goals as goal
 
 one_shifted : (k : ℕ) → k < 64 → (1 * 2 ^ k) % 2 ^ 64 ≡ 2 ^ k
 one_shifted k h = ap (λ (x : ℕ). x % 2 ^ 64) (one-mul (2 ^ k)) ∙ mod-eq_of_lt (pow-lt h)
 
-returns : tie.Need-returns
+pub returns : goal.returns
 returns c =
     ap (bit_or c.args.mask) (one_shifted (63 - c.args.j) (omega arith))
     ∙ with_has c.args.mask c.args.j c.ranges.mask.fits c.requires
-
-pub with_spec : {M : Type 1} → statement M
-with_spec = tie.close (tie.spec (λ c. search rules) (λ c. search rules) returns)

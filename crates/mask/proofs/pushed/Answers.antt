@@ -1,0 +1,10 @@
+-- mask::pushed meets its contract.
+use borrow.Author.Rules.{rules}
+use native.Mathlib.Omega.{arith}
+use Rattle.mask.proofs.pushed.Goals as goal
+
+pub returns-then-b : goal.returns-then-b
+returns-then-b c = rw c.if-b.true
+
+pub returns-else-b : goal.returns-else-b
+returns-else-b c = rw c.if-b.false (omega arith)
