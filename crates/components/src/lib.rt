@@ -1,5 +1,7 @@
 // The records of a sheet, by value: of elevator.rs, rider.rs, route.rs, stop.rs and line.rs the fields that the sheet holds. A code becomes
 // an enum by a match whose last range takes the codes that stand for nothing. An id of 0 is none: no accepted sheet has a record with id 0.
+#![tactic(auto)]
+
 ghost use Rattle.std.specs.Prelude.{◌≡◌};
 ghost use Rattle.components.specs.Codes.{HasCode, kind_of, kind_code, strategy_of, strategy_code, traffic_of, traffic_code, phase_of, phase_code};
 ghost use Rattle.components.specs.Codes.{direction_of, direction_code, mode_of, mode_code};
