@@ -5,7 +5,7 @@ ghost use Rattle.std.specs.Prelude.{◌≡◌, ◌+◌, ◌-◌, ◌*◌, ◌/�
 ghost use Rattle.bits.specs.Field.{field_at, low_first, IsField};
 
 // Where a bit stands: its byte, and its place in that byte, 0 for the highest.
-#[derive(Drop)]
+#[derive(Clone, Copy)]
 struct BitPlace {
     byte: usize,
     bit: usize,

@@ -10,7 +10,7 @@ ghost use Rattle.components.specs.Cars.{is_moving, is_idle, servicing, remaining
 ghost use Rattle.components.specs.Points.{distance};
 
 // The kinds of records.
-#[derive(Drop)]
+#[derive(Clone, Copy)]
 pub enum Kind {
     Policy,
     Stop,
@@ -23,7 +23,7 @@ pub enum Kind {
     Unknown,
 }
 
-#[derive(Drop)]
+#[derive(Clone, Copy)]
 pub enum Strategy {
     Etd,
     Rsr,
@@ -32,7 +32,7 @@ pub enum Strategy {
 }
 
 // TrafficMode of traffic_detector.rs.
-#[derive(Drop)]
+#[derive(Clone, Copy)]
 pub enum Traffic {
     Idle,
     UpPeak,
@@ -41,7 +41,7 @@ pub enum Traffic {
 }
 
 // ElevatorPhase; the moving phases hold the stop's id.
-#[derive(Drop)]
+#[derive(Clone, Copy)]
 pub enum Phase {
     Idle,
     MovingToStop(u32),
@@ -54,48 +54,48 @@ pub enum Phase {
 }
 
 // SweepDirection and SweepMode of sweep.rs.
-#[derive(Drop)]
+#[derive(Clone, Copy)]
 pub enum Direction {
     Up,
     Down,
 }
 
-#[derive(Drop)]
+#[derive(Clone, Copy)]
 pub enum Mode {
     Strict,
     Lenient,
 }
 
 // bypass_load_up_pct and bypass_load_down_pct.
-#[derive(Drop)]
+#[derive(Clone, Copy)]
 pub enum Threshold {
     Absent,
     At(f64),
 }
 
 // Where a stop or a car stands: its position in the shaft, and of a shuttle that also runs sideways how far across it is.
-#[derive(Drop)]
+#[derive(Clone, Copy)]
 pub struct Point {
     pub along: f64,
     pub across: f64,
 }
 
 // Where a stop stands, by its id: stop_position of world.rs. An id without a record stands nowhere.
-#[derive(Drop)]
+#[derive(Clone, Copy)]
 pub enum Place {
     Nowhere,
     At(Point),
 }
 
 // What a strategy's rank answers of a pair: a cost, or none.
-#[derive(Drop)]
+#[derive(Clone, Copy)]
 pub enum Rank {
     Never,
     Cost(f64),
 }
 
 // The six weights by their slots. ETD: wait, delay, door, wait squared, age. RSR: eta, wrong direction, coincident call, load, age, peak multiplier.
-#[derive(Drop)]
+#[derive(Clone, Copy)]
 pub struct Policy {
     pub strategy: Strategy,
     pub rate: f64,
@@ -108,13 +108,13 @@ pub struct Policy {
     pub w5: f64,
 }
 
-#[derive(Drop)]
+#[derive(Clone, Copy)]
 pub struct Stop {
     pub id: u32,
     pub position: Point,
 }
 
-#[derive(Drop)]
+#[derive(Clone, Copy)]
 pub struct Line {
     pub id: u32,
     pub serves: u64,
@@ -123,7 +123,7 @@ pub struct Line {
 // Elevator. The Rust's names, where they differ: target target_stop, up going_up, down going_down, speed max_speed, capacity weight_capacity,
 // load current_load, bypassup and bypassdown bypass_load_up_pct and bypass_load_down_pct, transition door_transition_ticks, dwell
 // door_open_ticks, restricted restricted_stops. calls are the stops of its car calls; listed says that the car is among the idle ones.
-#[derive(Drop)]
+#[derive(Clone, Copy)]
 pub struct Car {
     pub id: u32,
     pub line: u32,
@@ -147,14 +147,14 @@ pub struct Car {
 }
 
 // A rider in a car, with the destination of its route.
-#[derive(Drop)]
+#[derive(Clone, Copy)]
 pub struct Aboard {
     pub car: u32,
     pub destination: u32,
 }
 
 // A rider at a stop: line is the one its route requires, wait its wait_ticks.
-#[derive(Drop)]
+#[derive(Clone, Copy)]
 pub struct Waiting {
     pub stop: u32,
     pub line: u32,
@@ -164,7 +164,7 @@ pub struct Waiting {
 }
 
 // What the manifest says of a stop beside its waiting riders: riding_to_stop, and whether a hall call there has no pending rider.
-#[derive(Drop)]
+#[derive(Clone, Copy)]
 pub struct Demand {
     pub stop: u32,
     pub riding: u16,

@@ -11,7 +11,7 @@ ghost use Rattle.layout.specs.Verdict.{pick};
 use layout::{Counts, line, record, stop};
 
 // What is wrong with an optional id.
-#[derive(Drop)]
+#[derive(Clone, Copy)]
 pub struct Optional {
     pub unused: bool,
     pub zero: bool,

@@ -13,7 +13,7 @@ use riders::Riders;
 
 // What a cost is made of: the seconds to the stop, those that riders aboard lose, those of halts between, and the bonus; their weighted sum; what was
 // waited at the stop, squared and plain; and the cost.
-#[derive(Drop)]
+#[derive(Clone, Copy)]
 pub struct Terms {
     pub travel: f64,
     pub delay: f64,

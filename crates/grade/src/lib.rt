@@ -16,7 +16,7 @@ const WRONG_COLUMNS: u32 = 19;
 const WRONG_PRICES: u32 = 20;
 
 // What the grader answers.
-#[derive(Drop)]
+#[derive(Clone, Copy)]
 pub enum Graded {
     Least,
     NotShown,

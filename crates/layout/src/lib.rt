@@ -1,5 +1,6 @@
 // The sheet's format: how many records of each kind there are, and what reading finds. The definitions of document 01's records and refusals are
 // in specs/.
+#![tactic(auto)]
 
 ghost use Rattle.std.specs.Prelude.{◌≡◌, ◌<◌, ◌+◌};
 ghost use Rattle.components.specs.declared.Kind.TheVariants.{Stop, Car};
@@ -22,7 +23,7 @@ pub mod stop;
 pub mod waiting;
 
 // How many records of each kind, and how long they are: the bits of a stop's and of a car's second coordinate, 64 in edition 2, else none.
-#[derive(Drop)]
+#[derive(Clone, Copy)]
 pub struct Counts {
     pub across: u32,
     pub policies: u32,
@@ -36,7 +37,7 @@ pub struct Counts {
 }
 
 // What reading a sheet finds: a refusal with its number and the bit offset where the record starts, or the counts of an accepted sheet.
-#[derive(Drop)]
+#[derive(Clone, Copy)]
 pub enum Reading {
     Refused { number: u32, offset: u64 },
     Accepted(Counts),

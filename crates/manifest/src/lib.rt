@@ -87,7 +87,7 @@ pub fn goal(ids: &[u32], xs: &[f64], n: usize, phase: Phase) -> Place
 
 // What waits at a stop: whether anyone does, whether a hall call has no rider, the sums of the wait ticks and of their squares, and the least
 // weight among those who go up, who go down, and who do neither. It depends on no car.
-#[derive(Drop)]
+#[derive(Clone, Copy)]
 pub struct Waiters {
     pub someone: bool,
     pub call: bool,

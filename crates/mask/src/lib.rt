@@ -75,7 +75,7 @@ pub fn past_stops(mask: u64, n: usize) -> bool
 }
 
 // The places of a mask's ones in order, with zeros past them, and how many they are.
-#[derive(Drop)]
+#[derive(Clone, Copy)]
 pub struct Ones {
     pub at: [usize; 64],
     pub count: usize,

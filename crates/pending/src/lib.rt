@@ -46,7 +46,7 @@ fn with_index(m: u64, b: bool, j: usize, n: usize) -> u64
 }
 
 // The stops where a hall call has no rider, and those that someone rides to.
-#[derive(Drop)]
+#[derive(Clone, Copy)]
 struct DemandMasks {
     calls: u64,
     ridden: u64,
@@ -200,7 +200,7 @@ fn pending_stops<'a>(s: &'a [u8], c: Counts, demand: u64, names: &'a [u32]) -> u
 }
 
 // The masks of a sheet's stops: those with a call without a rider, those with demand, the pending ones.
-#[derive(Drop)]
+#[derive(Clone, Copy)]
 pub struct StopMasks {
     pub calls: u64,
     pub demand: u64,

@@ -11,7 +11,7 @@ use scale::Scaled;
 use sweep::Sweep;
 
 // What a row's cells share: the policy, the car with its sweep, where it moves to, its riders, the demand stops, and the stops that it is ranked for.
-#[derive(Drop)]
+#[derive(Clone, Copy)]
 pub struct Row {
     pub policy: Policy,
     pub car: Car,

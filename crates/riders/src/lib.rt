@@ -4,7 +4,7 @@ ghost use Rattle.manifest.specs.Stops.{Ascending};
 ghost use Rattle.riders.specs.Riders.{Seated, Seats};
 
 // The riders of a car: how many destinations have a position, the stops they are bound for, and whether any has a route. It depends on no stop.
-#[derive(Drop)]
+#[derive(Clone, Copy)]
 pub struct Riders {
     pub count: usize,
     pub exits: u64,

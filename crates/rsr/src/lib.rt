@@ -10,7 +10,7 @@ use riders::Riders;
 
 // What a cost is made of: the seconds to the stop; the running cost by them, then after the wrong direction, the call, the load and the ticks waited at
 // the stop; and the cost.
-#[derive(Drop)]
+#[derive(Clone, Copy)]
 pub struct Terms {
     pub travel: f64,
     pub eta: f64,

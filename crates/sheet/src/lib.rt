@@ -15,7 +15,7 @@ use conditions::pick;
 use layout::{Counts, Reading, head, line, policy, record};
 
 // How a record starts: the code of its kind, the stated length, and of every kind but the policy the first field, an id.
-#[derive(Drop)]
+#[derive(Clone, Copy)]
 struct Front {
     code: u64,
     length: u64,

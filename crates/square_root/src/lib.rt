@@ -10,14 +10,14 @@ ghost use Rattle.square_root.specs.SquareRoot.{nearest_root, square_root};
 ghost use Rattle.square_root.specs.Steps.{Evened, Rooted};
 
 // digits * 4^half
-#[derive(Drop)]
+#[derive(Clone, Copy)]
 struct Parts {
     digits: u64,
     half: u64,
 }
 
 // A whole root, and what its square leaves.
-#[derive(Drop)]
+#[derive(Clone, Copy)]
 struct Root {
     whole: u64,
     rest: u64,

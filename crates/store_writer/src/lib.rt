@@ -8,7 +8,7 @@ use put::put;
 
 // What putting a record finds: it was written, with the number of records from then on; or nothing was written, since the buffer ends before the
 // record does, or a store has no more.
-#[derive(Drop)]
+#[derive(Clone, Copy)]
 pub enum Stored {
     Written(u16),
     NoRoom,

@@ -5,7 +5,7 @@ ghost use Rattle.sweep.specs.Sweeps.{sweep_of, reversed, turned_round, strictly_
 
 use components::{Car, Direction, Mode, Point, Rank};
 
-#[derive(Drop)]
+#[derive(Clone, Copy)]
 pub struct Sweep {
     pub direction: Direction,
     pub mode: Mode,

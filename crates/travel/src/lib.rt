@@ -6,7 +6,7 @@ ghost use Rattle.travel.specs.Domain.{is_sized, is_rate, in_domain};
 ghost use Rattle.travel.specs.Answers.{travel_time_of};
 
 // The seconds, or refusal 21.
-#[derive(Drop)]
+#[derive(Clone, Copy)]
 pub enum TravelTime {
     Seconds(f64),
     Refused,

@@ -5,7 +5,7 @@ ghost use Rattle.weights.specs.Answers.{used_by};
 use components::Strategy;
 
 // The six weights in slot order.
-#[derive(Drop)]
+#[derive(Clone, Copy)]
 pub struct SixWeights {
     pub w0: f64,
     pub w1: f64,
@@ -16,7 +16,7 @@ pub struct SixWeights {
 }
 
 // The six, or a refusal with its number and the record's bit offset; 18 has the slot in the offset's stead.
-#[derive(Drop)]
+#[derive(Clone, Copy)]
 pub enum Weights {
     Found(SixWeights),
     Refused { number: u32, offset: u64 },

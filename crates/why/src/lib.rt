@@ -23,7 +23,7 @@ const SHORT_BUFFER: u32 = 1;
 //   ETD: travel, delay, doors, bonus, their weighted sum, the ticks waited squared, the ticks waited
 //   RSR: travel; the running cost by it, then after wrong direction, call and load; the ticks waited; the running cost after them
 //   SCAN: the distance, and none
-#[derive(Drop)]
+#[derive(Clone, Copy)]
 pub struct Terms {
     pub t0: f64,
     pub t1: f64,
@@ -35,7 +35,7 @@ pub struct Terms {
     pub t7: f64,
 }
 
-#[derive(Drop)]
+#[derive(Clone, Copy)]
 pub enum Why {
     Ranked(Terms),
     Unranked(u32),

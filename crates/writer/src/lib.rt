@@ -14,7 +14,7 @@ use layout::{Counts, head};
 use put::put;
 
 // The editions of the format.
-#[derive(Drop)]
+#[derive(Clone, Copy)]
 pub enum Edition {
     First,
     Second,
@@ -22,7 +22,7 @@ pub enum Edition {
 
 // What putting a record finds: it was written, with the counts from then on; or nothing was written, since the buffer ends before the record does,
 // its kind may not follow the last one, or there are as many records as there may be.
-#[derive(Drop)]
+#[derive(Clone, Copy)]
 pub enum Put {
     Written(Counts),
     NoRoom,

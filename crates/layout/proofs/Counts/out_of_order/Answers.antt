@@ -7,8 +7,7 @@ use borrow.Author.Rules.{rules}
 use lib.Dec.{eqb, ltb}
 use mathlib.Core.Bool.{not, ◌&&◌, ◌||◌}
 use mathlib.Core.Path.{◌≡◌}
-use Rattle.layout.proofs.Counts.out_of_order.Statement.{statement}
-use Rattle.layout.proofs.Counts.out_of_order.Tie as tie
+use Rattle.layout.proofs.Counts.out_of_order.Goals as goal
 
 as_counted : (c : Counts) (kind : ℕ) {last : ℕ} →
     last ≡ last_kind c →
@@ -16,8 +15,5 @@ as_counted : (c : Counts) (kind : ℕ) {last : ℕ} →
 unfolding refusal6
 as_counted c kind last_is = rw last_is
 
-returns : tie.Need-returns
-returns c = let a = c.before.before.args in as_counted a.self a.kind c.before.last-kind.ensures
-
-pub out_of_order_spec : {M : Type 1} → statement M
-out_of_order_spec = tie.close (tie.spec (λ c κs. search rules) returns)
+pub returns : goal.returns
+returns c = let a = c.args in as_counted a.self a.kind c.last_kind.ensures
