@@ -1,1 +1,2 @@
 // What an accepted sheet says: see specs/. There is no code here.
+#![tactic(auto)]
