@@ -7,8 +7,7 @@ use borrow.Author.Tests.{eq-eqb, ne_eqb}
 use mathlib.Core.List.{List}
 use mathlib.Core.Logic.{◌≢◌}
 use mathlib.Core.Path.{◌≡◌}
-use Rattle.fields.proofs.guarded_at.Statement.{statement}
-use Rattle.fields.proofs.guarded_at.Tie as tie
+use Rattle.fields.proofs.guarded_at.Goals as goal
 
 hidden : (s : List ℕ) (at off guard w : ℕ) {guarding : ℕ} →
     guarding ≡ field_at s (at + guard) w →
@@ -25,16 +24,13 @@ shown : (s : List ℕ) (at off guard w : ℕ) {guarding id : ℕ} →
 unfolding guarded
 shown s at off guard w guarding-is some id-is = rw (← guarding-is, ne_eqb _ _ some) id-is
 
-returns : tie.Need-returns
+pub returns-then-field-eq0 : goal.returns-then-field-eq0
+returns-then-field-eq0 c =
+    let a = c.args in
+    hidden a.s.now a.at a.off a.guard a.w c.field.ensures.is c.if-field-eq0.true
+
+pub returns : goal.returns
 returns c =
-    let a = c.before.before.before.args in
-    hidden a.s.now a.at a.off a.guard a.w c.before.field.ensures.is c.if1.true
-
-returns-2 : tie.Need-returns-2
-returns-2 c =
-    let a = c.before.before.before.before.args in
-    shown a.s.now a.at a.off a.guard a.w c.before.before.field.ensures.is c.before.if1.false
+    let a = c.args in
+    shown a.s.now a.at a.off a.guard a.w c.field.ensures.is c.if-field-eq0.false
     c.field32.ensures
-
-pub guarded_at_spec : {M : Type 1} → statement M
-guarded_at_spec = tie.close (tie.spec (λ c κs. search rules) returns (λ c κs. search rules) returns-2)

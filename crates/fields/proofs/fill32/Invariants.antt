@@ -1,0 +1,17 @@
+-- fields::fill32 meets its contract.
+use Prim.Native.Nat.{ℕ, ◌≤◌, ◌-◌, ◌+◌, ◌*◌}
+use Rattle.bits.specs.Field.{field_at}
+use Rattle.fields.proofs.Offset.{offset_small}
+use Rattle.laws.specs.Tables.{tab, tab_next, tab-length}
+use borrow.Author.Rules.{rules}
+use lib.ListN.{length, drop, length-set}
+use mathlib.Core.List.{List, ◌++◌}
+use mathlib.Core.Path.{◌≡◌, refl, ap, ◌∙◌}
+use native.Mathlib.Omega.{arith}
+use Rattle.fields.proofs.fill32.Given as goal
+
+abbrev pub invariant-loop-i : goal.invariant-loop-i
+invariant-loop-i l = (l.i ≤ l.n) × (length l.out ≡ length l.initial.out) × (l.out ≡ tab (λ k. field_at (l.s) (l.base + l.len * k + l.off) 32) l.i ++ drop l.i l.initial.out)
+
+abbrev pub decreases-loop-i : goal.decreases-loop-i
+decreases-loop-i l = l.n - l.i

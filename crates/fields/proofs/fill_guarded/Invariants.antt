@@ -1,0 +1,17 @@
+-- fields::fill_guarded meets its contract.
+use Prim.Native.Nat.{ℕ, ◌≤◌, ◌-◌, ◌+◌, ◌*◌}
+use Rattle.fields.proofs.Offset.{offset_small}
+use Rattle.fields.specs.Named.{guarded}
+use Rattle.laws.specs.Tables.{tab, tab_next}
+use borrow.Author.Rules.{rules}
+use lib.ListN.{length, drop, length-set}
+use mathlib.Core.List.{List, ◌++◌}
+use mathlib.Core.Path.{◌≡◌, refl, sym, ap, ◌∙◌}
+use native.Mathlib.Omega.{arith}
+use Rattle.fields.proofs.fill_guarded.Given as goal
+
+abbrev pub invariant-loop-i : goal.invariant-loop-i
+invariant-loop-i l = (l.i ≤ l.n) × (length l.out ≡ length l.initial.out) × (l.out ≡ tab (λ k. guarded (l.s) (l.base + l.len * k) (l.off) (l.guard) (l.w)) l.i ++ drop l.i l.initial.out)
+
+abbrev pub decreases-loop-i : goal.decreases-loop-i
+decreases-loop-i l = l.n - l.i

@@ -1,0 +1,16 @@
+-- fields::named_stops meets its contract.
+use Prim.Native.Nat.{ℕ, ◌≤◌, ◌-◌, ◌+◌, ◌*◌}
+use Rattle.fields.specs.Named.{named}
+use Rattle.laws.specs.Folds.{ended}
+use Rattle.mask.specs.Mask.{built}
+use Rattle.mask.specs.MaskLaws.{built_room, built_next}
+use borrow.Author.Rules.{rules}
+use mathlib.Core.Path.{◌≡◌, refl, sym, ap, ◌∙◌}
+use native.Mathlib.Omega.{arith}
+use Rattle.fields.proofs.named_stops.Given as goal
+
+abbrev pub invariant-loop-j : goal.invariant-loop-j
+invariant-loop-j l = (l.j ≤ 64) × (l.m ≡ built (named l.ids l.k l.names l.n) l.j)
+
+abbrev pub decreases-loop-j : goal.decreases-loop-j
+decreases-loop-j l = 64 - l.j
