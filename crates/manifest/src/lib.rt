@@ -1,5 +1,7 @@
 // What waits where: manifest.rs, and the look-ups of world.rs and the group that the costs share. Stops are two lists, of ids and
 // of coordinates: 64 first ones, then 64 second ones.
+#![tactic(auto)]
+
 ghost use Rattle.std.specs.Prelude.{◌≡◌, cond, ltb, ◌+◌, ◌≤◌, ◌<◌, length, get_or};
 ghost use Rattle.std.specs.Float.{nan};
 ghost use Rattle.manifest.specs.World.{goal_of};

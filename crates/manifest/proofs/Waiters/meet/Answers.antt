@@ -1,0 +1,6 @@
+-- manifest::Waiters::meet meets its contract.
+use borrow.Author.Rules.{rules}
+use Rattle.manifest.proofs.Waiters.meet.Goals as goal
+
+pub returns : goal.returns
+returns c = rw c.stop_position-place.ensures at c.with_rider.ensures

@@ -1,0 +1,12 @@
+-- manifest::stop_index meets its contract.
+use Rattle.manifest.specs.Stops.{Narrowed, index_at, search_start, search_on, search_none}
+use borrow.Author.Rules.{rules}
+use mathlib.Core.Path.{sym}
+use native.Mathlib.Omega.{arith}
+use Rattle.manifest.proofs.stop_index.Given as goal
+
+abbrev pub invariant-loop-size : goal.invariant-loop-size
+invariant-loop-size l = Narrowed l.ids l.n l.id l.base l.size
+
+abbrev pub decreases-loop-size : goal.decreases-loop-size
+decreases-loop-size l = l.size
