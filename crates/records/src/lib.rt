@@ -1,4 +1,6 @@
 // The records of a sheet, each decoded in place from the bit where it starts.
+#![tactic(auto)]
+
 ghost use Rattle.std.specs.Prelude.{◌≡◌, ◌≤◌};
 ghost use Rattle.layout.specs.Table.{field};
 ghost use Rattle.layout.specs.Records.{from, double, optional, point, policy_of, line_of, car_of};

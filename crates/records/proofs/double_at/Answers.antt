@@ -1,0 +1,6 @@
+-- records::double_at meets its contract.
+use borrow.Author.Rules.{rules}
+use Rattle.records.proofs.double_at.Goals as goal
+
+pub returns : goal.returns
+returns c = cc

@@ -1,0 +1,6 @@
+-- records::point_at meets its contract.
+use borrow.Author.Rules.{rules}
+use Rattle.records.proofs.point_at.Goals as goal
+
+pub returns : goal.returns
+returns c = cc
