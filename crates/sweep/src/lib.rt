@@ -1,4 +1,6 @@
 // A car's sweep: sweep.rs. A struct by value; each method hands the next state back.
+#![tactic(auto)]
+
 ghost use Rattle.std.specs.Prelude.{◌≡◌};
 ghost use Rattle.components.specs.declared.Mode.TheVariants.{Lenient};
 ghost use Rattle.sweep.specs.Sweeps.{sweep_of, reversed, turned_round, strictly_ahead, prepared, accepts, sweep_rank, sweep_code};

@@ -8,8 +8,7 @@ use borrow.Author.Rules.{rules}
 use lib.Ieee.{Float}
 use mathlib.Core.Bool.{Bool, true, false}
 use mathlib.Core.Path.{◌≡◌}
-use Rattle.sweep.proofs.Sweep.rank.Statement.{statement}
-use Rattle.sweep.proofs.Sweep.rank.Tie as tie
+use Rattle.sweep.proofs.Sweep.rank.Goals as goal
 
 accepted : (w : Sweep) (x p : Point) {taken : Bool} {cost : Float} →
     taken ≡ accepts w.mode w.direction x.along p.along →
@@ -26,14 +25,11 @@ passed_over : (w : Sweep) (x p : Point) {taken : Bool} →
 unfolding sweep_rank
 passed_over w x p taken_is is = rw (← taken_is, is)
 
-returns : tie.Need-returns
-returns c =
-    let a = c.before.before.before.args in
-    accepted a.self a.x a.p c.before.before.accepts.ensures c.before.if1.true c.distance.ensures
+pub returns-then-accepts : goal.returns-then-accepts
+returns-then-accepts c =
+    let a = c.args in
+    accepted a.self a.x a.p c.accepts.ensures c.if-accepts.true c.distance.ensures
 
-returns-2 : tie.Need-returns-2
-returns-2 c =
-    let a = c.before.before.args in passed_over a.self a.x a.p c.before.accepts.ensures c.if1.false
-
-pub rank_spec : {M : Type 1} → statement M
-rank_spec = tie.close (tie.spec (λ c κs. search rules) (λ c κs. search rules) returns returns-2)
+pub returns-else-accepts : goal.returns-else-accepts
+returns-else-accepts c =
+    let a = c.args in passed_over a.self a.x a.p c.accepts.ensures c.if-accepts.false
