@@ -1,4 +1,6 @@
 // The riders of a car: world.rs's riders of an elevator, and the destinations of their routes.
+#![tactic(auto)]
+
 ghost use Rattle.std.specs.Prelude.{◌+◌, ◌≤◌, ◌<◌, length};
 ghost use Rattle.manifest.specs.Stops.{Ascending};
 ghost use Rattle.riders.specs.Riders.{Seated, Seats};
