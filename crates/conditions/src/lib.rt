@@ -1,4 +1,6 @@
 // What the refusals ask: an id among earlier records, absent fields, ranges; and which of several conditions is given. Reads past the end give 0.
+#![tactic(auto)]
+
 ghost use Rattle.std.specs.Prelude.{◌≡◌, ◌+◌, ◌<◌, ◌≤◌, ◌^◌};
 ghost use Rattle.fp.specs.Ranges.{is_mass};
 ghost use Rattle.layout.specs.Offsets.{Small};

@@ -13,9 +13,9 @@ use mathlib.Core.List.{List}
 use mathlib.Core.Logic.{⊎_elim}
 use mathlib.Core.Path.{◌≡◌, ap, ◌∙◌}
 use native.Mathlib.Omega.{arith}
-use Rattle.conditions.proofs.optional_at.Statement.{statement}
-use Rattle.conditions.proofs.optional_at.Tie as tie
+use Rattle.conditions.proofs.optional_at.Goals as goal
 
+-- conditions::optional_at meets its contract.
 -- a bit p and 32 bits v after it, as one number
 module _ {both p v : ℕ} (e : both ≡ p * 4294967296 + v) (l : p < 2) (few : v < 4294967296) where
   absent : (not (eqb both 0) && ltb both 4294967296) ≡ (not (eqb p 1) && not (eqb v 0))
@@ -49,8 +49,5 @@ as_read s at present {both} e =
     let l = field_lt s (at + present) 1 in
     let few = field_lt s (at + (present + 1)) 32 in (absent whole l few, zero whole l few)
 
-returns : tie.Need-returns
-returns c = let a = c.before.before.args in as_read a.s.now a.at a.present c.field.ensures.is
-
-pub optional_at_spec : {M : Type 1} → statement M
-optional_at_spec = tie.close (tie.spec (λ c κs. search rules) returns)
+pub returns : goal.returns
+returns c = let a = c.args in as_read a.s.now a.at a.present c.field-both.ensures.is
