@@ -5,9 +5,9 @@ use mathlib.Core.Bool.{Bool, true, false}
 use lib.Ieee.{Float, lt}
 use Rattle.fp.specs.Num.{zero, million, times, finite}
 use Rattle.scale.specs.Scale.{sentinel, whole, scale_cost, above_ceiling, held_down}
-use Rattle.scale.proofs.scale_cost.Statement.{statement}
-use Rattle.scale.proofs.scale_cost.Tie as tie
+use Rattle.scale.proofs.scale_cost.Goals as goal
 
+-- scale::scale_cost meets its contract.
 module _ (x : Float) {cell : ℕ} {held : Bool} where
   no_number : finite x ≡ false → (cell ≡ sentinel) × (held ≡ false) → (cell ≡ scale_cost x) × (held ≡ held_down x)
   unfolding scale_cost held_down
@@ -22,16 +22,13 @@ module _ (x : Float) {cell : ℕ} {held : Bool} where
   unfolding scale_cost held_down
   a_cost f n e = (rw (f, n) e.0, rw (f, n) e.1)
 
-returns : tie.Need-returns
-returns c =
-    below_zero c.before.before.before.before.args.cost (sym c.before.before.before.finite.ensures ∙ c.before.before.if1.true) c.before.if2.true c.no-rank.ensures
+pub returns-then-cost : goal.returns-then-cost
+returns-then-cost c =
+    below_zero c.args.cost (sym c.finite.ensures ∙ c.if-finite.true) c.if-cost.true c.no_rank.ensures
 
-returns-2 : tie.Need-returns-2
-returns-2 c =
-    a_cost c.before.before.before.before.args.cost (sym c.before.before.before.finite.ensures ∙ c.before.before.if1.true) c.before.if2.false c.whole.ensures
+pub returns-else-cost : goal.returns-else-cost
+returns-else-cost c =
+    a_cost c.args.cost (sym c.finite.ensures ∙ c.if-finite.true) c.if-cost.false c.whole.ensures
 
-returns-3 : tie.Need-returns-3
-returns-3 c = no_number c.before.before.before.args.cost (sym c.before.before.finite.ensures ∙ c.before.if1.false) c.no-rank2.ensures
-
-pub scale_cost_spec : {M : Type 1} → statement M
-scale_cost_spec = tie.close (tie.spec (λ c κs. tt) (λ c κs. tt) (λ c κs. tt) (λ c κs. tt) returns returns-2 returns-3)
+pub returns-else-finite : goal.returns-else-finite
+returns-else-finite c = no_number c.args.cost (sym c.finite.ensures ∙ c.if-finite.false) c.no_rank-else-finite.ensures
