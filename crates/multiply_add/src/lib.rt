@@ -1,6 +1,8 @@
 // a × b + c with one rounding, from the bits: IEEE 754's fusedMultiplyAdd, to nearest and ties to even. The product stands in two words (words).
 // Both terms are brought to one place and added exactly (sum). The leading zeros of that sum say how many digits a double keeps, and those are
 // rounded and packed (pack). Subnormal results need no case of their own.
+#![tactic(auto)]
+
 mod pack;
 mod sum;
 mod words;

@@ -1,5 +1,7 @@
 // Rounding once, to the nearest double, in whole numbers: see specs/. The code takes a double apart: a finite one is significand * 2^exponent least
 // doubles, of 2^-1074.
+#![tactic(auto)]
+
 ghost use Rattle.std.specs.Prelude.{◌≡◌};
 ghost use Rattle.rounding.specs.Unpack.{significand_of, exponent_of};
 

@@ -1,4 +1,6 @@
 // assignment.rs's scale_cost: a cost as a cell of the matrix.
+#![tactic(auto)]
+
 ghost use Rattle.std.specs.Prelude.{◌≡◌, min, false, ltb};
 ghost use Rattle.laws.specs.Bools.{bit};
 ghost use Rattle.scale.specs.Scale.{sentinel, ceiling, whole, scale_cost, above_ceiling, held_down};

@@ -1,4 +1,6 @@
 // The time of a run with ramps: `travel_time` of eta.rs, a function a term, in its order of operations. The run starts at a speed and ends at rest.
+#![tactic(auto)]
+
 ghost use Rattle.std.specs.Prelude.{◌≡◌};
 ghost use Rattle.travel.specs.Ramps.{clamp_speed, no_run, brake_distance, brake_time, peak_speed, triangle_time, ramp_distance, cruise_distance};
 ghost use Rattle.travel.specs.Ramps.{trapezoid_time, run_time, seconds};
