@@ -5,12 +5,8 @@ use lib.IntN.{ℤ, pos}
 use lib.Signed.{le_z}
 use mir.Facts.{to_z-of_z}
 use Rattle.prices.specs.Price.{is_zero}
-use Rattle.prices.proofs.is_zero.Statement.{statement}
-use Rattle.prices.proofs.is_zero.Tie as tie
+use Rattle.prices.proofs.is_zero.Goals as goal
 
-returns : tie.Need-returns
+pub returns : goal.returns
 unfolding is_zero
 returns c = ap (λ (z : ℤ). le_z z (pos 0) && le_z (pos 0) z) (to_z-of_z c.ranges.x)
-
-pub is_zero_spec : {M : Type 1} → statement M
-is_zero_spec = tie.close (tie.spec returns)

@@ -6,12 +6,8 @@ use lib.Signed.{le_z}
 use mir.Facts.{to_z-of_z}
 use Rattle.prices.specs.PriceLaws.{range_tests}
 use borrow.Author.Rules.{rules}
-use Rattle.prices.proofs.in_range.Statement.{statement}
-use Rattle.prices.proofs.in_range.Tie as tie
+use Rattle.prices.proofs.in_range.Goals as goal
 
-returns : tie.Need-returns
+pub returns : goal.returns
 returns c =
     ap (λ (z : ℤ). le_z (negsuc 18_014_398_509_481_983) z && le_z z (pos 18_014_398_509_481_984)) (to_z-of_z c.ranges.x) ∙ range_tests c.args.x
-
-pub in_range_spec : {M : Type 1} → statement M
-in_range_spec = tie.close (tie.spec (λ c. search rules) returns)
