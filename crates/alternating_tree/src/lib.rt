@@ -1,1 +1,2 @@
 // The alternating tree over lists: see specs/. There is no code here.
+#![tactic(auto)]

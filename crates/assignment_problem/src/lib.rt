@@ -1,1 +1,2 @@
 // The assignment problem: see specs/. There is no code here.
+#![tactic(auto)]

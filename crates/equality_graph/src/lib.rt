@@ -1,1 +1,2 @@
 // Searches of the equality graph: see specs/. There is no code here.
+#![tactic(auto)]

@@ -28,6 +28,10 @@ Best out n dist row best least j =
     ((least ≡ 18446744073709551615) × ((k : ℕ) → k < j → out k → ⊥))
     ⊎ ((best < j) × out best × Rank n (at dist best) (at row best) least × ((k : ℕ) → k < j → out k → AtMost n (at dist k) (at row k) least))
 
+-- any column is out of a tree that has none
+abbrev pub AllOut : ℕ → Type 0
+AllOut k = k ≡ k
+
 module _ (out : ℕ → Type 0) (n : ℕ) (dist dist' row : List ℕ) (best least j : ℕ) (bs : Best out n dist row best least j)
     (same : (k : ℕ) → k < j → at dist' k ≡ at dist k) where
   pub best_here : (x : ℕ) → out j → Rank n (at dist' j) (at row j) x → x < least → Best out n dist' row j x (j + 1)

@@ -1,6 +1,8 @@
 // The choice of an n × cols matrix by the Hungarian method: first a choice with the least total and its prices (least), then among the least
 // choices the one with the lowest columns (lowest), both over alternating trees (tree). Prices and trees are the method's own: they stand in
 // the arrays of `choose`, and no answer depends on them.
+#![tactic(auto)]
+
 mod least;
 mod lowest;
 mod tree;

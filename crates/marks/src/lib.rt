@@ -1,4 +1,6 @@
 // Cells with their marks, for the matcher: 64 for each unit of a cell, and 1 more for a car that is left standing.
+#![tactic(auto)]
+
 ghost use Rattle.std.specs.Prelude.{◌≡◌, ◌++◌, ℕ, ◌≤◌, length, get_or, drop};
 ghost use Rattle.laws.specs.Tables.{tab};
 ghost use Rattle.assignment_problem.specs.Choice.{sentinel};

@@ -1,4 +1,6 @@
 // The matcher: one distinct column a car, the least total, among these most cars sent, and among these the lowest columns, first car first.
+#![tactic(auto)]
+
 ghost use Rattle.std.specs.Prelude.{◌≡◌, ◌++◌, ◌<◌, ◌≤◌, length, drop};
 ghost use Rattle.laws.specs.Folds.{any};
 ghost use Rattle.assignment_problem.specs.Choice.{cell_at, sentinel};

@@ -1,4 +1,6 @@
 // Prices, whole numbers of either sign (document 02, F-8).
+#![tactic(auto)]
+
 ghost use Rattle.std.specs.Prelude.{◌≡◌, true, ◌≤◌, ℤ};
 ghost use Rattle.prices.specs.Price.{in_range, within, equals, zero_or_less, is_zero};
 

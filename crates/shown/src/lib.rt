@@ -1,4 +1,6 @@
 // Whether prices show that a choice is least (document 02, F-8): u are the prices of cars, v those of columns.
+#![tactic(auto)]
+
 ghost use Rattle.std.specs.Prelude.{◌≡◌, true, ℕ, ◌<◌, ◌≤◌, eqb, length, get_or};
 ghost use Rattle.laws.specs.Folds.{any, every};
 ghost use Rattle.prices.specs.Price.{in_range, within};

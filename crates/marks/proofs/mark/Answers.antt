@@ -1,0 +1,7 @@
+-- marks::mark meets its contract.
+use borrow.Author.Rules.{rules}
+use Rattle.marks.specs.Marks.{by_quotient}
+use Rattle.marks.proofs.mark.Goals as goal
+
+pub returns : goal.returns
+returns c = by_quotient c.args.cell c.requires

@@ -1,0 +1,17 @@
+-- marks::mark_cells meets its contract.
+use Prim.Native.Nat.{ℕ, ◌≤◌, ◌-◌}
+use Rattle.laws.specs.Folds.{ended}
+use Rattle.laws.specs.Tables.{tab, tab_next}
+use Rattle.marks.specs.Marks.{mark_at}
+use borrow.Author.Rules.{rules}
+use lib.ListN.{length, drop, length-set}
+use mathlib.Core.List.{◌++◌}
+use mathlib.Core.Path.{◌≡◌, refl}
+use native.Mathlib.Omega.{arith}
+use Rattle.marks.proofs.mark_cells.Given as goal
+
+abbrev pub invariant-loop-k : goal.invariant-loop-k
+invariant-loop-k l = (l.k ≤ length l.cells) × (length l.marks ≡ length l.initial.marks) × (l.marks ≡ tab (mark_at l.cells) l.k ++ drop l.k l.initial.marks)
+
+abbrev pub decreases-loop-k : goal.decreases-loop-k
+decreases-loop-k l = length l.cells - l.k

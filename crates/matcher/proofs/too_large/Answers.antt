@@ -1,0 +1,59 @@
+-- matcher::too_large meets its contract.
+use borrow.Author.Rules.{rules}
+use native.Mathlib.Omega.{arith}
+use Prim.Native.Nat.{ℕ, ◌+◌, ◌<◌}
+use lib.Dec.{eqb}
+use mathlib.Core.Path.{◌≡◌, refl, ap, ◌∙◌}
+use mathlib.Core.Bool.{Bool, true, false, not}
+use mathlib.Core.Logic.{⊎_elim}
+use borrow.Author.Tests.{ne_eqb, ltb-true, ltb-false}
+use lib.Bits.{bit_or, or_zero_r, or_add_and, and_le_l}
+use lib.ListN.{get_or}
+use Rattle.laws.specs.Bools.{which}
+use Rattle.laws.specs.Folds.{any, any_yes, any_no, ended}
+use Rattle.assignment_problem.specs.Choice.{sentinel}
+use Rattle.matcher.specs.Promise.{too_large}
+use Rattle.matcher.proofs.too_large.Goals as goal
+
+-- one more test, whose number is 0 exactly where it fails
+next : (p : ℕ → Bool) (k over x : ℕ) → (p k ≡ true → 0 < x) → (p k ≡ false → x ≡ 0) → not (eqb over 0) ≡ any p k
+    → not (eqb (bit_or over x) 0) ≡ any p (k + 1)
+next p k over x some none e =
+    ⊎_elim
+    (λ t. any_yes p k t (ap not (ne_eqb (bit_or over x) 0 (λ z. omega (arith, some t, or_add_and over x, and_le_l over x)))))
+    (λ f. any_no p k f (ap (λ y. not (eqb (bit_or over y) 0)) (none f) ∙ ap (λ y. not (eqb y 0)) (or_zero_r over) ∙ e))
+    (which (p k))
+
+pub loop-k-init : goal.loop-k-init
+unfolding any
+loop-k-init c = (omega arith, refl)
+
+pub offset_bounds-cells-k : goal.offset_bounds-cells-k
+offset_bounds-cells-k c = search rules
+
+pub bounds-cells-k : goal.bounds-cells-k
+bounds-cells-k c = search rules
+
+pub excess-over-requires : goal.excess-over-requires
+excess-over-requires c = search rules
+
+pub overflow_add-k : goal.overflow_add-k
+overflow_add-k c = search rules
+
+pub loop-k-smaller : goal.loop-k-smaller
+loop-k-smaller c = omega (arith, c.loop-k-test.true)
+
+pub loop-k-preserved : goal.loop-k-preserved
+loop-k-preserved c =
+    let l = c.loop-k in
+    let cells = c.args.cells.now in
+    let x = get_or cells l.k 0 in (
+      omega (arith, c.loop-k-test.true),
+      next (too_large cells) l.k l.over c.excess-over.result (λ t. c.excess-over.ensures.above (ltb-true sentinel x t))
+          (λ f. c.excess-over.ensures.at_most (ltb-false sentinel x f)) l.invariant.1,
+    )
+
+pub returns : goal.returns
+returns c =
+    let cells = c.args.cells.now in
+    ended (any (too_large cells)) c.loop-k.invariant.0 c.loop-k-test.false c.loop-k.invariant.1

@@ -1,0 +1,18 @@
+-- shown::never_above meets its contract.
+use Prim.Native.Nat.{ℕ, ◌≤◌, ◌-◌}
+use mathlib.Core.Path.{◌≡◌, refl, ap}
+use mathlib.Core.Bool.{Bool, ◌&&◌}
+use native.Mathlib.Omega.{arith}
+use Rattle.laws.specs.Folds.{every, every_step, ended}
+use Rattle.prices.specs.Price.{within}
+use Rattle.assignment_problem.specs.Choice.{cell_at}
+use Rattle.shown.specs.Shown.{never_above}
+use Rattle.shown.specs.Fits.{price_at}
+use borrow.Author.Rules.{rules}
+use Rattle.shown.proofs.never_above.Given as goal
+
+abbrev pub invariant-loop-i : goal.invariant-loop-i
+invariant-loop-i l = (l.i ≤ l.n) × (l.ok ≡ never_above l.i l.w (cell_at l.cells l.w) (price_at l.u) (price_at l.v))
+
+abbrev pub decreases-loop-i : goal.decreases-loop-i
+decreases-loop-i l = l.n - l.i

@@ -1,0 +1,16 @@
+-- shown::taken meets its contract.
+use Prim.Native.Nat.{ℕ, ◌≤◌, ◌-◌}
+use mathlib.Core.Path.{◌≡◌, refl}
+use mathlib.Core.List.{List}
+use native.Mathlib.Omega.{arith}
+use lib.Dec.{eqb}
+use Rattle.laws.specs.Folds.{any, any_step, ended}
+use Rattle.shown.specs.Fits.{column_of}
+use borrow.Author.Rules.{rules}
+use Rattle.shown.proofs.taken.Given as goal
+
+abbrev pub invariant-loop-i : goal.invariant-loop-i
+invariant-loop-i l = (l.i ≤ l.n) × (l.found ≡ any (λ k. eqb (column_of l.columns k) l.j) l.i)
+
+abbrev pub decreases-loop-i : goal.decreases-loop-i
+decreases-loop-i l = l.n - l.i

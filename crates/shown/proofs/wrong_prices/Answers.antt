@@ -1,0 +1,10 @@
+-- shown::wrong_prices meets its contract.
+use mathlib.Core.Path.{ap₂}
+use mathlib.Core.Bool.{Bool, ◌||◌}
+use Rattle.shown.specs.Refusals.{refusal20}
+use borrow.Author.Rules.{rules}
+use Rattle.shown.proofs.wrong_prices.Goals as goal
+
+pub returns : goal.returns
+unfolding refusal20
+returns c = ap₂ (λ (a b : Bool). a || b) c.mispriced-cars.ensures c.mispriced-columns.ensures
