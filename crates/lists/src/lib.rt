@@ -1,4 +1,6 @@
 // What the programs that replay stored lists share: a number among the bytes.
+#![tactic(auto)]
+
 ghost use Rattle.std.specs.Prelude.{◌≡◌, ◌+◌, ◌≤◌, ◌<◌, ◌^◌, ◌*◌, length};
 ghost use Rattle.lists.specs.Lists.{number};
 
