@@ -1,5 +1,5 @@
 -- lists::number meets its contract.
-use Prim.Native.Nat.{ℕ, ◌+◌, ◌-◌, ◌*◌, ◌^◌, ◌≤◌, ◌<◌}
+use Prim.Native.Nat.{ℕ, ◌+◌, ◌*◌, ◌^◌, ◌<◌}
 use mathlib.Core.Path.{◌≡◌}
 use native.Mathlib.Nat.{lt_of_lt_of_le}
 use native.Mathlib.Numerals.{add-one}
@@ -29,7 +29,7 @@ next s at i = rw add-one
 byte_lt : (c : After-wide) → c.wide.result < 256
 byte_lt c =
     let a = c.args in
-    rw c.wide.ensures (c.shared_slice_known-in-loop-i-1.given (a.at + c.loop-i.i)).fits
+    rw c.wide.ensures (c.type_inv.s (a.at + c.loop-i.i)).fits
 
 pub loop-i-init : goal.loop-i-init
 unfolding number
