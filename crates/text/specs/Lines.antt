@@ -9,7 +9,7 @@ use native.Mathlib.Omega.{arith}
 use Rattle.std.proofs.Math.ListN.{length-append}
 use Rattle.laws.specs.Bools.{same?}
 use Rattle.laws.specs.Folds.{fold, fold_next}
-use Rattle.io.specs.Counts.{IsPrefixLen as Counted}
+use Rattle.text.specs.Counts.{IsPrefixLen as Counted}
 use Rattle.text.specs.Text.{Put, size, then, nothing}
 
 -- "\n"

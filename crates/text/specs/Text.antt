@@ -5,7 +5,7 @@ use Rattle.std.proofs.Math.Nat.{one-le-pow, pow-le-pow_right}
 use Rattle.std.proofs.Math.Seq.{take-length, paste, paste-suc}
 use Rattle.laws.specs.Bools.{less?}
 use Rattle.laws.specs.Tables.{front_length}
-use Rattle.io.specs.Digits.{last_digits, IsDigitCount}
+use Rattle.text.specs.Digits.{last_digits, IsDigitCount}
 
 -- a number in decimal, of at most so many digits
 unfoldable pub decimal_of : ℕ → ℕ → List ℕ
