@@ -1,4 +1,6 @@
 // Which stops are covered: is_covered of assignment.rs, over columns of the car, line and waiting records.
+#![tactic(auto)]
+
 ghost use Rattle.std.specs.Prelude.{◌≡◌, cond, not, ◌||◌, eqb, ◌≤◌, length};
 ghost use Rattle.fp.specs.Num.{plus};
 ghost use Rattle.coverage.specs.Coverage.{line_room, capacity_by, weight_by, line_served_by, lines_served, covered_by};

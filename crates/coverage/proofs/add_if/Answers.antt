@@ -1,0 +1,9 @@
+-- coverage::add_if meets its contract.
+
+use Rattle.coverage.proofs.add_if.Goals as goal
+
+pub returns-then-b : goal.returns-then-b
+returns-then-b c = rw c.if-b.true
+
+pub returns-else-b : goal.returns-else-b
+returns-else-b c = rw c.if-b.false

@@ -1,0 +1,15 @@
+-- coverage::capacity_at meets its contract.
+use Prim.Native.Nat.{ℕ, ◌≤◌, ◌-◌}
+use Rattle.coverage.specs.Coverage.{capacity_step, capacity_by}
+use Rattle.fp.specs.Num.{zero}
+use Rattle.laws.specs.Folds.{fold, fold_step, ended}
+use borrow.Author.Rules.{rules}
+use mathlib.Core.Path.{◌≡◌, refl, sym, ap, ◌∙◌}
+use native.Mathlib.Omega.{arith}
+use Rattle.coverage.proofs.capacity_at.Given as goal
+
+abbrev pub invariant-loop-l : goal.invariant-loop-l
+invariant-loop-l l = (l.l ≤ l.nl) × (l.a ≡ capacity_by l.targets l.lines l.rooms l.n l.ids l.l l.id)
+
+abbrev pub decreases-loop-l : goal.decreases-loop-l
+decreases-loop-l l = l.nl - l.l
