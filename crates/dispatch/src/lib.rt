@@ -1,4 +1,6 @@
 // What the strategies share: mod.rs.
+#![tactic(auto)]
+
 ghost use Rattle.std.specs.Prelude.{◌≡◌, ◌&&◌, not, ◌≤◌, length};
 ghost use Rattle.std.specs.Float.Ieee.{lt, le};
 ghost use Rattle.fp.specs.Num.{zero, over};

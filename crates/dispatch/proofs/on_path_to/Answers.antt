@@ -5,8 +5,7 @@ use borrow.Author.Rules.{rules}
 use lib.Ieee.{Float, le}
 use mathlib.Core.Bool.{true, false}
 use mathlib.Core.Path.{◌≡◌}
-use Rattle.dispatch.proofs.on_path_to.Statement.{statement}
-use Rattle.dispatch.proofs.on_path_to.Tie as tie
+use Rattle.dispatch.proofs.on_path_to.Goals as goal
 
 same_way : (x p d : Float) {there whole : Float} →
     le zero (times (minus d x) (minus p x)) ≡ true →
@@ -20,13 +19,10 @@ other_way : (x p d : Float) → le zero (times (minus d x) (minus p x)) ≡ fals
 unfolding on_path
 other_way x p d other = rw other
 
-returns : tie.Need-returns
-returns c =
-    let a = c.before.before.before.args in
-    same_way a.x a.p a.d c.if1.true c.before.before.abs.ensures c.before.abs2.ensures
+pub returns-then-to_dest-to_stop : goal.returns-then-to_dest-to_stop
+returns-then-to_dest-to_stop c =
+    let a = c.args in
+    same_way a.x a.p a.d c.if-to_dest-to_stop.true c.abs-there.ensures c.abs-whole.ensures
 
-returns-2 : tie.Need-returns-2
-returns-2 c = let a = c.before.before.before.args in other_way a.x a.p a.d c.if1.false
-
-pub on_path_to_spec : {M : Type 1} → statement M
-on_path_to_spec = tie.close (tie.spec (λ c κs. search rules) (λ c κs. search rules) returns returns-2)
+pub returns-else-to_dest-to_stop : goal.returns-else-to_dest-to_stop
+returns-else-to_dest-to_stop c = let a = c.args in other_way a.x a.p a.d c.if-to_dest-to_stop.false

@@ -1,0 +1,15 @@
+-- dispatch::on_path meets its contract.
+use Prim.Native.Nat.{◌≤◌, ◌-◌}
+use Rattle.dispatch.specs.Pairs.{on_path_in}
+use Rattle.laws.specs.Folds.{any, any_at, any_no, ended}
+use borrow.Author.Rules.{rules}
+use mathlib.Core.Bool.{false}
+use mathlib.Core.Path.{◌≡◌, sym, ◌∙◌, refl}
+use native.Mathlib.Omega.{arith}
+use Rattle.dispatch.proofs.on_path.Given as goal
+
+abbrev pub invariant-loop-k : goal.invariant-loop-k
+invariant-loop-k l = (l.k ≤ l.n) × (false ≡ on_path_in l.x l.p l.dests l.k)
+
+abbrev pub decreases-loop-k : goal.decreases-loop-k
+decreases-loop-k l = l.n - l.k
