@@ -1,4 +1,6 @@
 // The numbers that the fields of a record stand for, where they are not numbers: document 01's number of each case.
+#![tactic(auto)]
+
 ghost use Rattle.std.specs.Prelude.{◌≡◌};
 ghost use Rattle.laws.specs.Bools.{bit};
 ghost use Rattle.components.specs.Codes.{kind_code, strategy_code, traffic_code, phase_code, direction_code, mode_code};

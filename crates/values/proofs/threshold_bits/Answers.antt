@@ -1,0 +1,6 @@
+-- values::threshold_bits meets its contract.
+use borrow.Author.Rules.{rules}
+use Rattle.values.proofs.threshold_bits.Goals as goal
+
+pub returns-in-At : goal.returns-in-At
+returns-in-At c = cc
