@@ -1,5 +1,7 @@
 // The records of a sheet, each put in place at the bit where it starts: what the crate records reads, the other way round. Where second coordinates
 // have some bits, none or 64, a stop has one; the crate encoder_car has the car.
+#![tactic(auto)]
+
 pub mod parts;
 mod policy;
 

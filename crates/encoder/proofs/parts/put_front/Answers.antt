@@ -1,0 +1,14 @@
+-- encoder::parts::put_front meets its contract.
+use Rattle.encoder.specs.Encoded.{fields_put}
+use borrow.Author.Rules.{rules}
+use Rattle.encoder.proofs.parts.put_front.Goals as goal
+
+pub returns : goal.returns
+unfolding fields_put
+returns c =
+    rw (
+      c.put-2.ensures,
+      c.body_length.ensures,
+      c.put.ensures,
+      c.kind_code.ensures,
+    )

@@ -1,0 +1,13 @@
+-- encoder::parts::put_optional meets its contract.
+use Rattle.encoder.specs.Encoded.{fields_put}
+use borrow.Author.Rules.{rules}
+use Rattle.encoder.proofs.parts.put_optional.Goals as goal
+
+pub returns : goal.returns
+unfolding fields_put
+returns c =
+    rw (
+      c.put-2.ensures,
+      c.put.ensures,
+      c.bit_of.ensures,
+    )
