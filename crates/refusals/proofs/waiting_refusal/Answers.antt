@@ -14,8 +14,7 @@ use lib.Dec.{eqb, ltb}
 use mathlib.Core.Bool.{Bool, not, ◌||◌}
 use mathlib.Core.List.{List}
 use mathlib.Core.Path.{◌≡◌, ◌∙◌}
-use Rattle.refusals.proofs.waiting_refusal.Statement.{statement}
-use Rattle.refusals.proofs.waiting_refusal.Tie as tie
+use Rattle.refusals.proofs.waiting_refusal.Goals as goal
 
 -- the conditions as they are read, then the picks from the last to the first
 by_number : (s : List ℕ) (c : Counts) {at stop wait r14 r11 r10 r9 r8 : ℕ} {known line-unused line-zero to-unused to-zero light : Bool} →
@@ -53,21 +52,14 @@ by_number s c at-is stop_is Known-is line-unused-is line-zero-is to-unused-is to
       at-is,
     )
 
-returns : tie.Need-returns
+pub returns : goal.returns
 returns c =
-    let late = c.before.before.before.before.before.before in
-    let r = late.before.before.before in
-    let line = r.before.before.before in
-    let start = line.before.before.before.before in
+    let late = c in
+    let r = c in
+    let line = c in
+    let start = c in
     let a = start.args in
     by_number a.s.now a.c start.requires.0 start.requires.1
-    (line.before.contains.ensures ∙ contains_seen _ _ _ _ _ _ start.requires.2) line.optional-at.ensures.0 line.optional-at.ensures.1
-    r.before.before.optional-at2.ensures.0 r.before.before.optional-at2.ensures.1 r.before.mass-at.ensures r.field.ensures.is
-    late.before.before.pick.ensures late.before.pick2.ensures late.pick3.ensures c.before.pick4.ensures c.pick5.ensures
-
-pub waiting_refusal_spec : {M : Type 1} → statement M
-waiting_refusal_spec =
-    tie.close
-    (tie.spec (λ c. search rules) (λ c κs. search rules) (λ c κs. search rules) (λ c κs. search rules) (λ c κs. search rules)
-    (λ c κs. search rules) (λ c κs. search rules) (λ c κs. search rules) (λ c κs. search rules) (λ c κs. search rules)
-    (λ c κs. search rules) returns)
+    (line.contains-known.ensures ∙ contains_seen _ _ _ _ _ _ start.requires.2) line.optional_at-line.ensures.0 line.optional_at-line.ensures.1
+    r.optional_at-destination.ensures.0 r.optional_at-destination.ensures.1 r.mass_at-light.ensures r.field-long.ensures.is
+    late.pick.ensures late.pick-2.ensures late.pick-late.ensures c.pick-3.ensures c.pick-4.ensures

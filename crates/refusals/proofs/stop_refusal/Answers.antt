@@ -13,8 +13,7 @@ use lib.Dec.{eqb, leb}
 use mathlib.Core.Bool.{Bool, not, ◌||◌}
 use mathlib.Core.List.{List}
 use mathlib.Core.Path.{◌≡◌}
-use Rattle.refusals.proofs.stop_refusal.Statement.{statement}
-use Rattle.refusals.proofs.stop_refusal.Tie as tie
+use Rattle.refusals.proofs.stop_refusal.Goals as goal
 
 -- the conditions as they are read, then the picks from the last to the first
 by_number : (s : List ℕ) (c : Counts) {at id last r11 r9 : ℕ} {placed : Bool} →
@@ -28,15 +27,10 @@ by_number : (s : List ℕ) (c : Counts) {at id last r11 r9 : ℕ} {placed : Bool
 unfolding first_of refusal9_stop refusal11_stop
 by_number s c at-is id-is last_is placed-is is11 is9 = rw (is9, is11, placed-is, last_is, id-is, at-is)
 
-returns : tie.Need-returns
+pub returns : goal.returns
 returns c =
-    let r = c.before.before in
-    let start = r.before.before.before in
+    let r = c in
+    let start = c in
     let a = start.args in
-    by_number a.s.now a.c start.requires.1 start.requires.2 r.before.last-stop.ensures r.placed_at_lem.ensures
-    c.before.pick.ensures c.pick2.ensures
-
-pub stop_refusal_spec : {M : Type 1} → statement M
-stop_refusal_spec =
-    tie.close
-    (tie.spec (λ c κs. search rules) (λ c κs. search rules) (λ c κs. search rules) (λ c κs. search rules) returns)
+    by_number a.s.now a.c start.requires.1 start.requires.2 r.last_stop-last.ensures r.placed_at-placed.ensures
+    c.pick.ensures c.pick-2.ensures

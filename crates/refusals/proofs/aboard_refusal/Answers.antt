@@ -13,8 +13,7 @@ use lib.Dec.{eqb}
 use mathlib.Core.Bool.{Bool, not, ◌||◌}
 use mathlib.Core.List.{List}
 use mathlib.Core.Path.{◌≡◌, ◌∙◌}
-use Rattle.refusals.proofs.aboard_refusal.Statement.{statement}
-use Rattle.refusals.proofs.aboard_refusal.Tie as tie
+use Rattle.refusals.proofs.aboard_refusal.Goals as goal
 
 -- the conditions as they are read, then the picks from the last to the first
 by_number : (s : List ℕ) (c : Counts) {at car r10 r9 r8 : ℕ} {known unused zero : Bool} →
@@ -31,17 +30,11 @@ unfolding first_of refusal8_aboard refusal9_aboard refusal10_aboard
 by_number s c at-is car_is Known-is unused-is zero_is is10 is9 is8 =
     rw (is8, is9, is10, zero_is, unused-is, Known-is, car_is, at-is)
 
-returns : tie.Need-returns
+pub returns : goal.returns
 returns c =
-    let r = c.before.before.before.before in
-    let start = r.before.before.before.before in
+    let r = c in
+    let start = c in
     let a = start.args in
     by_number a.s.now a.c start.requires.0 start.requires.1
-    (r.before.contains.ensures ∙ contains_seen _ _ _ _ _ _ start.requires.2) r.optional-at.ensures.0 r.optional-at.ensures.1
-    c.before.before.pick.ensures c.before.pick2.ensures c.pick3.ensures
-
-pub aboard_refusal_spec : {M : Type 1} → statement M
-aboard_refusal_spec =
-    tie.close
-    (tie.spec (λ c. search rules) (λ c κs. search rules) (λ c κs. search rules) (λ c κs. search rules) (λ c κs. search rules)
-    (λ c κs. search rules) returns)
+    (r.contains-known.ensures ∙ contains_seen _ _ _ _ _ _ start.requires.2) r.optional_at-destination.ensures.0 r.optional_at-destination.ensures.1
+    c.pick.ensures c.pick-late.ensures c.pick-2.ensures
