@@ -13,8 +13,7 @@ use lib.Dec.{eqb}
 use mathlib.Core.Bool.{Bool}
 use mathlib.Core.List.{List}
 use mathlib.Core.Path.{◌≡◌}
-use Rattle.refusals_policy.proofs.policy_refusal.Statement.{statement}
-use Rattle.refusals_policy.proofs.policy_refusal.Tie as tie
+use Rattle.refusals_policy.proofs.policy_refusal.Goals as goal
 
 -- the conditions as they are read, then the picks from the last to the first
 by_number : (s : List ℕ) (c : Counts) {at limit r12 r11 r8 : ℕ} {unused outside : Bool} →
@@ -29,16 +28,10 @@ by_number : (s : List ℕ) (c : Counts) {at limit r12 r11 r8 : ℕ} {unused outs
 unfolding first_of refusal12
 by_number s c at-is limit_is unused-is outside-is is12 is11 is8 = rw (is8, is11, is12, outside-is, unused-is, limit_is, at-is)
 
-returns : tie.Need-returns
+pub returns : goal.returns
 returns c =
-    let late = c.before.before.before.before in
-    let start = late.before.before.before in
+    let late = c in
+    let start = c in
     let a = start.args in
-    by_number a.s.now a.c start.requires late.before.field.ensures.is c.before.before.before.unused-weights.ensures
-    c.before.before.out_of_range.ensures late.pick.ensures c.before.pick2.ensures c.pick3.ensures
-
-pub policy_refusal_spec : {M : Type 1} → statement M
-policy_refusal_spec =
-    tie.close
-    (tie.spec (λ c κs. search rules) (λ c κs. search rules) (λ c κs. search rules) (λ c κs. search rules) (λ c κs. search rules)
-    (λ c κs. search rules) returns)
+    by_number a.s.now a.c start.requires late.field-none.ensures.is c.unused_weights.ensures
+    c.out_of_range.ensures late.pick-late.ensures c.pick.ensures c.pick-2.ensures
