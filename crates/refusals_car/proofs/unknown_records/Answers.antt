@@ -9,8 +9,7 @@ use borrow.Author.Rules.{rules}
 use mathlib.Core.Bool.{Bool, not, ◌||◌}
 use mathlib.Core.List.{List}
 use mathlib.Core.Path.{◌≡◌}
-use Rattle.refusals_car.proofs.unknown_records.Statement.{statement}
-use Rattle.refusals_car.proofs.unknown_records.Tie as tie
+use Rattle.refusals_car.proofs.unknown_records.Goals as goal
 
 as_read : (s : List ℕ) (c : Counts) (at : ℕ) {line restricted calls : ℕ} {known restricted-past calls-past : Bool} →
     line ≡ read (from s at) car_line_field →
@@ -24,15 +23,9 @@ unfolding refusal10_car
 as_read s c at line-is Known-is restricted-is restricted-past-is calls_is calls-past-is =
     rw (calls-past-is, calls_is, restricted-past-is, restricted-is, Known-is, line-is)
 
-returns : tie.Need-returns
+pub returns : goal.returns
 returns c =
-    let start = c.before.before.before.before.before.before.before.before in
+    let start = c in
     let a = start.args in
-    as_read a.s.now a.c a.at start.requires.1 c.before.before.before.before.before.before.has-line.ensures c.before.before.before.before.field.ensures.is c.before.before.before.past-stops.ensures
-    c.before.field2.ensures.is c.past-stops2.ensures
-
-pub unknown_records_spec : {M : Type 1} → statement M
-unknown_records_spec =
-    tie.close
-    (tie.spec (λ c κs. search rules) (λ c. search rules) (λ c. search rules) (λ c κs. search rules) (λ c κs. search rules) (λ c. search rules)
-    (λ c κs. search rules) (λ c κs. search rules) returns)
+    as_read a.s.now a.c a.at start.requires.1 c.has_line-known.ensures c.field.ensures.is c.past_stops-restricted.ensures
+    c.field-2.ensures.is c.past_stops-calls.ensures

@@ -8,8 +8,7 @@ use borrow.Author.Rules.{rules}
 use lib.Dec.{ltb}
 use mathlib.Core.List.{List}
 use mathlib.Core.Path.{◌≡◌}
-use Rattle.refusals_car.proofs.long_doors.Statement.{statement}
-use Rattle.refusals_car.proofs.long_doors.Tie as tie
+use Rattle.refusals_car.proofs.long_doors.Goals as goal
 
 as_read : (s : List ℕ) (c : Counts) (at : ℕ) {transition dwell : ℕ} →
     transition ≡ read (from s at) (past c.across car_transition_field) →
@@ -18,13 +17,7 @@ as_read : (s : List ℕ) (c : Counts) (at : ℕ) {transition dwell : ℕ} →
 unfolding refusal13
 as_read s c at transition-is dwell-is = rw (transition-is, dwell-is)
 
-returns : tie.Need-returns
+pub returns : goal.returns
 returns c =
-    let a = c.before.before.before.before.before.args in
-    as_read a.s.now a.c a.at c.before.before.field.ensures.is c.field2.ensures.is
-
-pub long_doors_spec : {M : Type 1} → statement M
-long_doors_spec =
-    tie.close
-    (tie.spec (λ c. search rules) (λ c κs. search rules) (λ c. search rules) (λ c κs. search rules) (λ c. search rules) (λ c. search rules)
-    returns)
+    let a = c.args in
+    as_read a.s.now a.c a.at c.field-transition.ensures.is c.field-dwell.ensures.is
