@@ -20,9 +20,9 @@ use lib.Ieee.{Float, le}
 use mathlib.Core.Bool.{Bool, true, false}
 use mathlib.Core.List.{List}
 use mathlib.Core.Path.{◌≡◌}
-use Rattle.rsr.proofs.rank.Statement.{statement}
-use Rattle.rsr.proofs.rank.Tie as tie
+use Rattle.rsr.proofs.rank.Goals as goal
 
+-- rsr::rank meets its contract.
 module _ (y : Policy) (car : Car) (goal : Place) (r : Riders) (dests : List Float) (w : Waiters) (xs : List Float) (j : ℕ) where
   stands : {here useful : Bool} {p : Point} →
       p ≡ point_in xs j →
@@ -57,30 +57,24 @@ module _ (y : Policy) (car : Car) (goal : Place) (r : Riders) (dests : List Floa
   unfolding rank_by
   useless p-is here-is useful_is not-useful = rw (← p-is, ← here-is, ← useful_is, not-useful)
 
-returns : tie.Need-returns
-returns c =
-    let asked = c.before.before.before in
-    let a = asked.before.before.before.before.before.before.args in
-    stands a.policy a.car a.goal a.riders a.dests.now a.waiters a.xs.now a.j asked.before.before.before.point.ensures asked.before.before.has.ensures
-    asked.pair-is-useful.ensures c.before.before.if1.true c.if2.true
+pub returns-then-car : goal.returns-then-car
+returns-then-car c =
+    let asked = c in
+    let a = asked.args in
+    stands a.policy a.car a.goal a.riders a.dests.now a.waiters a.xs.now a.j asked.point-p.ensures asked.has-here.ensures
+    asked.pair_is_useful.ensures c.if-pair_is_useful.true c.if-car.true
 
-returns-2 : tie.Need-returns-2
-returns-2 c =
-    let asked = c.before.before.before.before.before in
-    let a = asked.before.before.before.before.before.before.args in
-    moves a.policy a.car a.goal a.riders a.dests.now a.waiters a.xs.now a.j asked.before.before.before.point.ensures asked.before.before.has.ensures
-    asked.before.has2.ensures asked.pair-is-useful.ensures c.before.before.before.before.if1.true
-    c.before.before.if2.false (cost_by_lem a.policy a.car a.goal a.waiters.waitsum _ _ c.before.cost-terms.ensures) c.finite-rank.ensures
+pub returns-else-car : goal.returns-else-car
+returns-else-car c =
+    let asked = c in
+    let a = asked.args in
+    moves a.policy a.car a.goal a.riders a.dests.now a.waiters a.xs.now a.j asked.point-p.ensures asked.has-here.ensures
+    asked.has-call.ensures asked.pair_is_useful.ensures c.if-pair_is_useful.true
+    c.if-car.false (cost_by_lem a.policy a.car a.goal a.waiters.waitsum _ _ c.cost_terms-t.ensures) c.finite_rank.ensures
 
-returns-3 : tie.Need-returns-3
-returns-3 c =
-    let asked = c.before in
-    let a = asked.before.before.before.before.before.before.args in
-    useless a.policy a.car a.goal a.riders a.dests.now a.waiters a.xs.now a.j asked.before.before.before.point.ensures asked.before.before.has.ensures
-    asked.pair-is-useful.ensures c.if1.false
-
-pub rank_spec : {M : Type 1} → statement M
-rank_spec =
-    tie.close
-    (tie.spec (λ c κs. search rules) (λ c κs. search rules) (λ c κs. search rules) (λ c κs. search rules)
-    (λ c κs. search rules) (λ c κs. search rules) returns returns-2 returns-3)
+pub returns-else-pair_is_useful : goal.returns-else-pair_is_useful
+returns-else-pair_is_useful c =
+    let asked = c in
+    let a = asked.args in
+    useless a.policy a.car a.goal a.riders a.dests.now a.waiters a.xs.now a.j asked.point-p.ensures asked.has-here.ensures
+    asked.pair_is_useful.ensures c.if-pair_is_useful.false
