@@ -19,9 +19,9 @@ use lib.Ieee.{Float, lt}
 use mathlib.Core.Bool.{Bool, true, false}
 use mathlib.Core.List.{List}
 use mathlib.Core.Path.{◌≡◌}
-use Rattle.etd.proofs.rank.Statement.{statement}
-use Rattle.etd.proofs.rank.Tie as tie
+use Rattle.etd.proofs.rank.Goals as goal
 
+-- etd::rank meets its contract.
 module _ (y : Policy) (car : Car) (goal : Place) (r : Riders) (dests sides : List Float) (w : Waiters) (halts : ℕ) (xs : List Float) (j : ℕ)
   where
     moves : {p : Point} {here useful : Bool} {cost : Float} {rank : Rank} →
@@ -55,31 +55,25 @@ module _ (y : Policy) (car : Car) (goal : Place) (r : Riders) (dests sides : Lis
     unfolding rank_by
     useless p-is here-is useful_is not-useful = rw (← p-is, ← here-is, ← useful_is, not-useful)
 
-returns : tie.Need-returns
-returns c =
-    let asked = c.before.before.before.before.before in
-    let a = asked.before.before.before.before.before.before.args in
+pub returns-then-car : goal.returns-then-car
+returns-then-car c =
+    let asked = c in
+    let a = asked.args in
     moves a.policy a.car a.goal a.riders a.dests.now a.sides.now a.waiters a.halts a.xs.now a.j
-    asked.before.before.point.ensures asked.before.has.ensures asked.pair-is-useful.ensures
-    c.before.before.before.before.if1.true c.before.before.if2.true (cost_by_lem a.policy a.car a.goal a.riders.count a.dests.now a.sides.now a.waiters a.halts _ c.before.cost-terms.ensures) c.finite-rank.ensures
+    asked.point-p.ensures asked.has-here.ensures asked.pair_is_useful.ensures
+    c.if-pair_is_useful.true c.if-car.true (cost_by_lem a.policy a.car a.goal a.riders.count a.dests.now a.sides.now a.waiters a.halts _ c.cost_terms-t.ensures) c.finite_rank.ensures
 
-returns-2 : tie.Need-returns-2
-returns-2 c =
-    let asked = c.before.before.before in
-    let a = asked.before.before.before.before.before.before.args in
+pub returns-else-car : goal.returns-else-car
+returns-else-car c =
+    let asked = c in
+    let a = asked.args in
     stands a.policy a.car a.goal a.riders a.dests.now a.sides.now a.waiters a.halts a.xs.now a.j
-    asked.before.before.point.ensures asked.before.has.ensures asked.pair-is-useful.ensures c.before.before.if1.true
-    c.if2.false
+    asked.point-p.ensures asked.has-here.ensures asked.pair_is_useful.ensures c.if-pair_is_useful.true
+    c.if-car.false
 
-returns-3 : tie.Need-returns-3
-returns-3 c =
-    let asked = c.before in
-    let a = asked.before.before.before.before.before.before.args in
+pub returns-else-pair_is_useful : goal.returns-else-pair_is_useful
+returns-else-pair_is_useful c =
+    let asked = c in
+    let a = asked.args in
     useless a.policy a.car a.goal a.riders a.dests.now a.sides.now a.waiters a.halts a.xs.now a.j
-    asked.before.before.point.ensures asked.before.has.ensures asked.pair-is-useful.ensures c.if1.false
-
-pub rank_spec : {M : Type 1} → statement M
-rank_spec =
-    tie.close
-    (tie.spec (λ c κs. search rules) (λ c κs. search rules) (λ c κs. search rules) (λ c κs. search rules) (λ c κs. search rules) returns
-    returns-2 returns-3)
+    asked.point-p.ensures asked.has-here.ensures asked.pair_is_useful.ensures c.if-pair_is_useful.false
