@@ -5,8 +5,7 @@ use Rattle.mask.specs.MaskLaws.{built_cong, has_built}
 use borrow.Author.Rules.{rules}
 use mathlib.Core.Bool.{Bool, true, false, ◌&&◌, not}
 use mathlib.Core.Path.{◌≡◌, refl, ap, ◌∙◌}
-use Rattle.candidates.proofs.viable_stops.Statement.{statement}
-use Rattle.candidates.proofs.viable_stops.Tie as tie
+use Rattle.candidates.proofs.viable_stops.Goals as goal
 
 swap : (a b : Bool) → (a && not b) ≡ (not b && a)
 swap true true = refl
@@ -14,16 +13,13 @@ swap true false = refl
 swap false true = refl
 swap false false = refl
 
-returns : tie.Need-returns
+pub returns : goal.returns
 unfolding viable_by
 returns c =
-    let a = c.before.before.args in
+    let a = c.args in
     c.both.ensures
-    ∙ built_cong (λ j. has a.pending j && has c.before.without.result j) (viable_by a.pending a.restricted a.serves) 64
+    ∙ built_cong (λ j. has a.pending j && has c.without.result j) (viable_by a.pending a.restricted a.serves) 64
     (λ j l.
     ap (λ (b : Bool). has a.pending j && b)
-    (rw c.before.without.ensures (has_built (λ k. has a.serves k && not (has a.restricted k)) j l)
+    (rw c.without.ensures (has_built (λ k. has a.serves k && not (has a.restricted k)) j l)
     ∙ swap (has a.serves j) (has a.restricted j)))
-
-pub viable_stops_spec : {M : Type 1} → statement M
-viable_stops_spec = tie.close (tie.spec (λ c κs. search rules) (λ c κs. search rules) returns)
