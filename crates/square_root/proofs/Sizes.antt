@@ -1,5 +1,5 @@
 -- How large a square root can be: as in fp: Sizes, by powers of two. Assumes nothing.
-use Rattle.std.specs.Prelude.{ℕ, ◌+◌, ◌*◌, ◌/◌, ◌%◌, ◌^◌, ◌≤◌, ◌<◌, ◌≡◌, refl, ◌⊎◌, Bool, true, false, ℤ, T, Float}
+use Rattle.std.specs.Prelude.{ℕ, ◌+◌, ◌*◌, ◌/◌, ◌%◌, ◌^◌, ◌≤◌, ◌<◌, ◌≡◌, refl, ◌⊎◌, true, false, T, Float}
 use Rattle.std.proofs.Common.{le_trans, le_of_eq, lt_of_lt_of_le, lt_of_le_of_lt, mul-le-mul, mul-le-mul_right, mul_right_comm, one-mul, zero-mul, add-mul, div-lt_iff_lt-mul, div-add-mod', le_of_mul-le-mul_right, arith, sym, ap, ◌∙◌, subst, inl, inr, lit<, pow-add, pow_pos, pow_mono, ltb-false, eq-eqb}
 use Rattle.std.specs.Float.{nan, inf, fin, binary64}
 use Rattle.std.specs.Float.Ieee.{up, down, fits, lt, le, eq, of_bits}
@@ -13,7 +13,8 @@ use Rattle.rounding.specs.Signed.{size_signed}
 use Rattle.multiply_add.specs.Nearest.{Double, least_whole}
 use Rattle.square_root.specs.SquareRoot.{square_root}
 use Rattle.square_root.specs.Squares.{square_lt_back, square_even}
-use Rattle.square_root.specs.Nearest.{leasts, Nearer, root_double, nearer_root}
+use Rattle.square_root.specs.Nearest.{leasts, Nearer}
+use Rattle.square_root.proofs.Nearest.{root_double, nearer_root}
 
 -- ---- a size by its least doubles, and back
 

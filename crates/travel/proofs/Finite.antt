@@ -1,13 +1,13 @@
 -- In the domain the time is finite: it is at most 2^84 in size. Nothing is said of its sign: it can come out below zero. Assumes nothing.
-use Rattle.std.specs.Prelude.{ℕ, ◌^◌, ◌≤◌, ◌≡◌, refl, ◌⊎◌, Bool, ◌&&◌, ◌||◌, cond, T, Float}
-use Rattle.std.proofs.Common.{arith, sym, ◌∙◌, subst, inl, inr, lit≤, lit<}
+use Rattle.std.specs.Prelude.{ℕ, ◌^◌, ◌≡◌, refl, ◌⊎◌, Bool, ◌&&◌, ◌||◌, cond, T, Float}
+use Rattle.std.proofs.Common.{arith, inl, inr, lit≤, lit<}
 use Rattle.std.proofs.Math.Logic.{⊎_elim}
 use Rattle.std.proofs.Math.Bool.{true, false}
 use Rattle.std.specs.Float.Ieee.{binary64, of_bits, neg, lt, le, fits}
 use Rattle.std.specs.Float.Ieee.Fits.{cond-fits, div-fits}
 use Rattle.std.specs.Float.Ieee.Bits.{of_bits-fits}
 use Rattle.laws.specs.Bools.{which, both_left, both_right, either, neither_left, neither_right, not_both}
-use Rattle.fp.specs.Num.{zero, finite, plus, minus, times, over, max_zero, fma, lesser}
+use Rattle.fp.specs.Num.{zero, finite, plus, minus, times, over, max_zero, fma}
 use Rattle.fp.specs.Ranges.{least_speed, is_position}
 use Rattle.fp.specs.Inside.{AtMost, size_finite}
 use Rattle.fp.specs.Nonneg.{nonneg, plus_nonneg, times_nonneg, over_nonneg, max_zero_nonneg}
@@ -17,7 +17,7 @@ use Rattle.fp.specs.Sizes.{times_least, plus_least, least_above}
 use Rattle.multiply_add.specs.MulAdd.{mul_add}
 use Rattle.multiply_add.specs.Sizes.{mul_add_size, mul_add_fits}
 use Rattle.square_root.specs.SquareRoot.{square_root}
-use Rattle.square_root.specs.Sizes.{root_size}
+use Rattle.square_root.proofs.Sizes.{root_size}
 use Rattle.travel.specs.declared.TravelTime.TheVariants.{Seconds, Refused}
 use Rattle.travel.specs.Ramps.{two, no_run, clamp_speed, brake_distance, brake_time, peak_speed, triangle_time, ramp_distance, cruise_distance}
 use Rattle.travel.specs.Ramps.{trapezoid_time, run_time, seconds}
