@@ -4,8 +4,7 @@ use Prim.Native.Nat.{ℕ}
 use borrow.Author.Tests.{eq-eqb, ne_eqb}
 use Rattle.assignment_problem.specs.Choice.{sentinel}
 use Rattle.plain_matcher.specs.Held.{standing_of}
-use Rattle.plain_matcher.proofs.standing.Statement.{statement}
-use Rattle.plain_matcher.proofs.standing.Tie as tie
+use Rattle.plain_matcher.proofs.standing.Goals as goal
 
 stands : (x : ℕ) → x ≡ sentinel → 1 ≡ standing_of x
 stands x e = rw (eq-eqb x sentinel e)
@@ -13,11 +12,8 @@ stands x e = rw (eq-eqb x sentinel e)
 sent : (x : ℕ) → (x ≡ sentinel → ⊥) → 0 ≡ standing_of x
 sent x ne = rw (ne_eqb x sentinel ne)
 
-returns : tie.Need-returns
-returns c = stands c.before.args.cell c.if1.true
+pub returns-then-cell-eq281474976710656 : goal.returns-then-cell-eq281474976710656
+returns-then-cell-eq281474976710656 c = stands c.args.cell c.if-cell-eq281474976710656.true
 
-returns-2 : tie.Need-returns-2
-returns-2 c = sent c.before.args.cell c.if1.false
-
-pub standing_spec : {M : Type 1} → statement M
-standing_spec = tie.close (tie.spec returns returns-2)
+pub returns : goal.returns
+returns c = sent c.args.cell c.if-cell-eq281474976710656.false

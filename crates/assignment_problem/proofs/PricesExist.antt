@@ -7,7 +7,8 @@ use borrow.Author.Tests.{eq-eqb, ne_eqb, lt-ltb, le-ltb}
 use Rattle.laws.specs.Bools.{same?, less?}
 use Rattle.laws.specs.Sums.{sum, sum_lt, upd, upd_same, upd_other}
 use Rattle.assignment_problem.specs.Choice.{IsChoice, total}
-use Rattle.assignment_problem.specs.Prices.{Tight, Feasible, tight_least, tight_every}
+use Rattle.assignment_problem.specs.Prices.{Tight, Feasible}
+use Rattle.assignment_problem.proofs.PriceLaws.{tight_least, tight_every}
 use Rattle.assignment_problem.specs.Insertion.{Matched, Priced, Tree, Path, Walk, lift, lift_priced, lift_tree, mark, start_matched}
 use Rattle.assignment_problem.specs.Insertion.{start_priced, start_tree, way, walk_start, walk_step, walk_matched, walk_priced, some_free}
 use Rattle.assignment_problem.specs.Insertion.{matched_choice, priced_tight}

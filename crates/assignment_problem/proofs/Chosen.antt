@@ -14,7 +14,7 @@ use Rattle.laws.specs.Bools.{bit}
 use Rattle.laws.specs.Sums.{sum_cong, sum_mono}
 use Rattle.assignment_problem.specs.Choice.{IsChoice, total, sentinel, standing, Chosen}
 use Rattle.assignment_problem.specs.Recursion.{best, candidate_total, chosen, least_total, column_of}
-use Rattle.assignment_problem.specs.Found.{same_total, same_columns, found_length, found_is, found_total, found_only}
+use Rattle.assignment_problem.proofs.Found.{same_total, same_columns, found_length, found_is, found_total, found_only}
 
 module _ (c : ℕ → ℕ → ℕ) (n m : ℕ) (h : n ≤ m) where
   -- one column a car

@@ -1,7 +1,7 @@
 -- What the recursion finds, whatever counts as standing: a choice with its total, the foremost one, and there is no other. Assumes nothing.
 --   found-length found-is found-total       one column a car, the foremost choice, and its total
 --   found-only                              whatever is foremost has the recursion's columns
-use Rattle.std.specs.Prelude.{◌≡◌, Bool, true, false, List, [], ◌∷◌, ◌⊎◌, eqb, length, get_or}
+use Rattle.std.specs.Prelude.{◌≡◌, Bool, true, false, List, [], ◌∷◌, eqb, length, get_or}
 use Rattle.std.proofs.Math.Path.{refl, ap}
 use Rattle.std.proofs.Common.{sym, ap₂, ◌∙◌, subst, ⊎_elim, arith, add-zero, ext_get_or, ne_eqb}
 use Rattle.std.proofs.Math.Bool.{cond}
@@ -12,7 +12,7 @@ use Rattle.laws.specs.Sums.{sum, sum_cong, sum_front}
 use Rattle.laws.specs.Tables.{tab, tab_front, length-tab, get_or-tab₀}
 use Rattle.assignment_problem.specs.Choice.{IsChoice, total, Foremost}
 use Rattle.assignment_problem.specs.Recursion.{Candidate, none, some, before, better, front, is_in, scan, best, columns_of, candidate_total}
-use Rattle.assignment_problem.specs.Beats.{cost, Fit, fnil, fcons, Lex, lnil, lless, lsame, Beats, best_beats}
+use Rattle.assignment_problem.proofs.Beats.{cost, Fit, fnil, fcons, Lex, lnil, lless, lsame, Beats, best_beats}
 
 -- ---- there is only one
 

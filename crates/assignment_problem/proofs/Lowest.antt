@@ -9,8 +9,8 @@ use Rattle.laws.specs.Sums.{sum_cong}
 use Rattle.laws.specs.Tables.{tab, length-tab, get_or-tab₀}
 use Rattle.assignment_problem.specs.Choice.{total, Lowest}
 use Rattle.assignment_problem.specs.Recursion.{least_total, lowest}
-use Rattle.assignment_problem.specs.Found.{same_columns, found_length, found_is, found_total}
-use Rattle.assignment_problem.specs.Chosen.{least_total_any}
+use Rattle.assignment_problem.proofs.Found.{same_columns, found_length, found_is, found_total}
+use Rattle.assignment_problem.proofs.Chosen.{least_total_any}
 
 module _ (c : ℕ → ℕ → ℕ) (n m : ℕ) (h : n ≤ m) where
   pub lowest_length : length (lowest c n m) ≡ n
