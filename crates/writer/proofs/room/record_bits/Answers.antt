@@ -5,8 +5,8 @@ use borrow.Author.Rules.{rules}
 use Rattle.components.specs.declared.Kind.{Kind}
 use Rattle.components.specs.declared.Kind.TheVariants.{Policy, Stop, Line, Car, Aboard, Waiting, Demand, Closed, Unknown}
 use Rattle.layout.specs.Offsets.{body_length, across_in}
-use Rattle.writer.proofs.room.record_bits.Statement.{statement}
-use Rattle.writer.proofs.room.record_bits.Tie as tie
+use Rattle.writer.proofs.room.record_bits.Goals as goal
+use Rattle.writer.proofs.room.record_bits.Goals.{After-body_length}
 
 body_most : (k : Kind) (w : ℕ) → w ≤ 64 → body_length k + across_in w k ≤ 779
 body_most Policy w h = omega arith
@@ -19,17 +19,14 @@ body_most Demand w h = omega arith
 body_most Closed w h = omega arith
 body_most Unknown w h = omega arith
 
-short : (c : tie.After-body-length) → c.body-length.result ≤ 779
-short c = rw c.body-length.ensures (body_most c.before.args.kind c.before.args.across c.before.requires)
+short : (c : After-body_length) → c.body_length.result ≤ 779
+short c = rw c.body_length.ensures (body_most c.args.kind c.args.across c.requires)
 
-cast-result : tie.Need-overflow-cast-result
-cast-result c = record { fits = omega (arith, short c) }
+pub overflow_cast-result : goal.overflow_cast-result
+overflow_cast-result c = record { fits = omega (arith, short (goal.at.overflow_cast-result c).After-body_length) }
 
-add-result : tie.Need-overflow-add-result
-add-result c = record { fits = omega (arith, short c) }
+pub overflow_add-result : goal.overflow_add-result
+overflow_add-result c = record { fits = omega (arith, short (goal.at.overflow_add-result c).After-body_length) }
 
-returns : tie.Need-returns
-returns c = (omega (arith, c.body-length.ensures), omega (arith, short c))
-
-pub record_bits_spec : {M : Type 1} → statement M
-record_bits_spec = tie.close (tie.spec (λ c κs. search rules) cast-result add-result returns)
+pub returns : goal.returns
+returns c = (omega (arith, c.body_length.ensures), omega (arith, short (goal.at.returns c).After-body_length))
