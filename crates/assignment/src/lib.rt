@@ -1,1 +1,2 @@
 // One group pass: assignment.rs.
+#![tactic(auto)]

@@ -1,4 +1,6 @@
 // The candidate cut: of a car's viable stops, the nearest that the limit keeps.
+#![tactic(auto)]
+
 ghost use Rattle.std.specs.Prelude.{◌≡◌, ◌<◌, length};
 ghost use Rattle.laws.specs.Bools.{bit};
 ghost use Rattle.laws.specs.Folds.{count};

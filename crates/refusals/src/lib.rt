@@ -1,5 +1,7 @@
 // The refusals of the kinds with few fields, of a record at bit at with its first field, after those counted. Reads past the end give 0, so every
 // condition is computed and the first that holds is picked. Earlier stops and cars, and what was named before, are looked for in tables of ids.
+#![tactic(auto)]
+
 ghost use Rattle.std.specs.Prelude.{◌≡◌, not, ◌||◌, ◌≤◌, length, eqb};
 ghost use Rattle.components.specs.declared.Kind.TheVariants.{Stop, Line, Aboard, Waiting};
 ghost use Rattle.conditions.specs.Ids.{StopIds, CarIds};

@@ -1,4 +1,6 @@
 // The refusals of a car record at bit at with its id, after those counted: 8, 9, 10, 11, 13.
+#![tactic(auto)]
+
 ghost use Rattle.std.specs.Prelude.{◌≡◌, eqb};
 ghost use Rattle.components.specs.Codes.{phase_code};
 ghost use Rattle.components.specs.declared.Kind.TheVariants.{Car};

@@ -1,4 +1,6 @@
 // The refusals of a policy record at bit at, after those counted: 8, 11, 12.
+#![tactic(auto)]
+
 ghost use Rattle.std.specs.Prelude.{◌≡◌};
 ghost use Rattle.components.specs.declared.Kind.TheVariants.{Policy};
 ghost use Rattle.layout.specs.Offsets.{end_of};

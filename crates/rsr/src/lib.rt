@@ -1,4 +1,6 @@
 // RSR: rsr.rs.
+#![tactic(auto)]
+
 ghost use Rattle.std.specs.Prelude.{◌≡◌, ◌+◌, ◌≤◌, ◌<◌, length};
 ghost use Rattle.components.specs.declared.Place.TheVariants.{At};
 ghost use Rattle.rsr.specs.Rsr.{wrong_direction, peak_scaling, with_penalty, with_coincident_call, held_ratio, with_load, rsr_terms_of};

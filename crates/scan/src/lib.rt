@@ -1,4 +1,6 @@
 // SCAN: scan.rs, and sweep.rs's strict_demand_ahead.
+#![tactic(auto)]
+
 ghost use Rattle.std.specs.Prelude.{◌≡◌, ◌&&◌, ◌≤◌, ◌<◌, length};
 ghost use Rattle.mask.specs.Mask.{has};
 ghost use Rattle.sweep.specs.Sweeps.{strictly_ahead};

@@ -1,0 +1,16 @@
+-- candidates::count_before meets its contract.
+use Prim.Native.Nat.{ℕ, ◌≤◌, ◌-◌, ◌+◌}
+use Rattle.candidates.specs.Cut.{comes_before}
+use Rattle.laws.specs.Bools.{bit, bit-lt}
+use Rattle.laws.specs.Folds.{count, count_step, count-le, ended}
+use Rattle.candidates.specs.CutLaws.{count_reach}
+use borrow.Author.Rules.{rules}
+use mathlib.Core.Path.{◌≡◌, refl, ap, ◌∙◌}
+use native.Mathlib.Omega.{arith}
+use Rattle.candidates.proofs.count_before.Given as goal
+
+abbrev pub invariant-loop-k : goal.invariant-loop-k
+invariant-loop-k l = (l.k ≤ l.e) × (l.n ≡ count (comes_before l.viable l.ds l.j) l.k)
+
+abbrev pub decreases-loop-k : goal.decreases-loop-k
+decreases-loop-k l = l.e - l.k

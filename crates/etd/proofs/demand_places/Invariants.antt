@@ -1,0 +1,23 @@
+-- etd::demand_places meets its contract.
+use Prim.Native.Nat.{ℕ, ◌≤◌, ◌+◌, ◌-◌}
+use mathlib.Core.Path.{◌≡◌, refl, ap, ◌∙◌}
+use mathlib.Core.List.{List, ◌++◌}
+use native.Mathlib.Omega.{arith}
+use borrow.Author.Rules.{rules}
+use lib.ListN.{length, get_or, drop, replicate, length-set}
+use lib.Ieee.{Float, nan}
+use Rattle.laws.specs.Folds.{ended}
+use Rattle.laws.specs.Tables.{tab, tab_next}
+use Rattle.mask.specs.Mask.{has}
+use Rattle.fp.specs.Num.{infinity}
+use Rattle.etd.specs.Halts.{place_of, demand_places}
+use Rattle.etd.proofs.demand_places.Given as goal
+
+abbrev pub place : ℕ → List Float → ℕ → Float
+place demand xs k = place_of (has demand k) (get_or xs k nan)
+
+abbrev pub invariant-loop-k : goal.invariant-loop-k
+invariant-loop-k l = (l.k ≤ l.n) × (length l.places ≡ 64) × (l.places ≡ tab (place l.demand l.xs) l.k ++ drop l.k (replicate 64 infinity))
+
+abbrev pub decreases-loop-k : goal.decreases-loop-k
+decreases-loop-k l = l.n - l.k

@@ -1,0 +1,79 @@
+-- etd::rank meets its contract.
+use Prim.Native.Nat.{ℕ}
+use Rattle.components.specs.declared.Car.{Car}
+use Rattle.components.specs.declared.Place.{Place}
+use Rattle.components.specs.declared.Point.{Point}
+use Rattle.components.specs.declared.Policy.{Policy}
+use Rattle.components.specs.declared.Rank.{Rank}
+use Rattle.components.specs.declared.Rank.TheVariants.{Never}
+use Rattle.dispatch.specs.Pairs.{useful_by}
+use Rattle.dispatch.specs.FiniteRank.{finite_rank}
+use Rattle.etd.specs.Pairs.{fair_cost_by, rank_by, cost_by_lem}
+use Rattle.fp.specs.Num.{zero}
+use Rattle.manifest.specs.Stops.{point_in}
+use Rattle.manifest.specs.declared.Waiters.{Waiters}
+use Rattle.mask.specs.Mask.{has}
+use Rattle.riders.specs.declared.Riders.{Riders}
+use borrow.Author.Rules.{rules}
+use lib.Ieee.{Float, lt}
+use mathlib.Core.Bool.{Bool, true, false}
+use mathlib.Core.List.{List}
+use mathlib.Core.Path.{◌≡◌}
+use Rattle.etd.proofs.rank.Goals as goal
+
+-- etd::rank meets its contract.
+module _ (y : Policy) (car : Car) (goal : Place) (r : Riders) (dests sides : List Float) (w : Waiters) (halts : ℕ) (xs : List Float) (j : ℕ)
+  where
+    moves : {p : Point} {here useful : Bool} {cost : Float} {rank : Rank} →
+        p ≡ point_in xs j →
+        here ≡ has r.exits j →
+        useful ≡ useful_by car goal r dests w here p.along false →
+        useful ≡ true →
+        lt zero car.speed ≡ true →
+        cost ≡ fair_cost_by y car goal r.count dests sides w halts p →
+        rank ≡ finite_rank cost →
+        rank ≡ rank_by y car goal r dests sides w halts xs j
+    unfolding rank_by
+    moves p-is here-is useful_is useful quick cost_is rank_is = rw (← p-is, ← here-is, ← useful_is, useful, quick, ← cost_is) rank_is
+
+    stands : {p : Point} {here useful : Bool} →
+        p ≡ point_in xs j →
+        here ≡ has r.exits j →
+        useful ≡ useful_by car goal r dests w here p.along false →
+        useful ≡ true →
+        lt zero car.speed ≡ false →
+        Never ≡ rank_by y car goal r dests sides w halts xs j
+    unfolding rank_by
+    stands p-is here-is useful_is useful slow = rw (← p-is, ← here-is, ← useful_is, useful, slow)
+
+    useless : {p : Point} {here useful : Bool} →
+        p ≡ point_in xs j →
+        here ≡ has r.exits j →
+        useful ≡ useful_by car goal r dests w here p.along false →
+        useful ≡ false →
+        Never ≡ rank_by y car goal r dests sides w halts xs j
+    unfolding rank_by
+    useless p-is here-is useful_is not-useful = rw (← p-is, ← here-is, ← useful_is, not-useful)
+
+pub returns-then-car : goal.returns-then-car
+returns-then-car c =
+    let asked = c in
+    let a = asked.args in
+    moves a.policy a.car a.goal a.riders a.dests.now a.sides.now a.waiters a.halts a.xs.now a.j
+    asked.point-p.ensures asked.has-here.ensures asked.pair_is_useful.ensures
+    c.if-pair_is_useful.true c.if-car.true (cost_by_lem a.policy a.car a.goal a.riders.count a.dests.now a.sides.now a.waiters a.halts _ c.cost_terms-t.ensures) c.finite_rank.ensures
+
+pub returns-else-car : goal.returns-else-car
+returns-else-car c =
+    let asked = c in
+    let a = asked.args in
+    stands a.policy a.car a.goal a.riders a.dests.now a.sides.now a.waiters a.halts a.xs.now a.j
+    asked.point-p.ensures asked.has-here.ensures asked.pair_is_useful.ensures c.if-pair_is_useful.true
+    c.if-car.false
+
+pub returns-else-pair_is_useful : goal.returns-else-pair_is_useful
+returns-else-pair_is_useful c =
+    let asked = c in
+    let a = asked.args in
+    useless a.policy a.car a.goal a.riders a.dests.now a.sides.now a.waiters a.halts a.xs.now a.j
+    asked.point-p.ensures asked.has-here.ensures asked.pair_is_useful.ensures c.if-pair_is_useful.false

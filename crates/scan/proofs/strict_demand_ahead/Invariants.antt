@@ -1,0 +1,15 @@
+-- scan::strict_demand_ahead meets its contract.
+use Prim.Native.Nat.{◌≤◌, ◌-◌}
+use Rattle.laws.specs.Folds.{any, any_at, any_no, ended}
+use Rattle.scan.specs.Scan.{demand_ahead}
+use borrow.Author.Rules.{rules}
+use mathlib.Core.Bool.{false}
+use mathlib.Core.Path.{◌≡◌, sym, ◌∙◌, refl}
+use native.Mathlib.Omega.{arith}
+use Rattle.scan.proofs.strict_demand_ahead.Given as goal
+
+abbrev pub invariant-loop-j : goal.invariant-loop-j
+invariant-loop-j l = (l.j ≤ l.n) × (false ≡ demand_ahead l.direction l.x l.demand l.xs l.j)
+
+abbrev pub decreases-loop-j : goal.decreases-loop-j
+decreases-loop-j l = l.n - l.j
