@@ -13,7 +13,9 @@ crates_below() {
             count = split(below[crate], names, " ")
             for (i = 1; i <= count; i++) visit(names[i])
         }
-        { sub(/#.*/, ""); below[$1] = $2 }
+        { sub(/#.*/, "") }
+        !NF { next }
+        { sub(/ .*/, "", $1); below[$1] = $2 }
         END { count = split(tops, top, " "); for (i = 1; i <= count; i++) visit(top[i]) }' crates.txt | LC_ALL=C sort
 }
 

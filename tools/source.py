@@ -22,8 +22,8 @@ WORDS = {
     "unfold", "unfolding", "mutual", "infix", "infixl", "infixr", "elim", "let", "in", "do", "λ", "∀", "Type", "=", ":", "→", "_", "|", "↦", "[", "]",
 }
 PRIM = {"×", "↔", "¬", "⊥", "⊤", "Unit", "absurd", "rw", "rw⁻¹", "simp", "search", "grw", "cc", "omega", "cap", "refl", "yes", "no"}
-# The words of a contract: the value of a place, before and after the call.
-CONTRACT_WORDS = {"now", "⌜", "⌝", "∗", "self"}
+# The words of a contract: what is returned, and the value of a place, before and after the call; then those of the older spelling.
+CONTRACT_WORDS = {"result", "self", "now", "⌜", "⌝", "∗"}
 
 MARKS = ("unfoldable", "abbrev", "axiom", "pub")
 DEFINITIONS = ("abbrev", "unfoldable", "record", "data", "type")
@@ -46,14 +46,16 @@ class Tree:
         for line in files["crates.txt"].splitlines():
             line = line.split("#")[0].strip()
             if line:
+                # `staticlib` after the name says that it is built as a static library
                 name, _, names = line.partition(":")
-                self.below[name.strip()] = names.split()
+                self.below[name.split()[0]] = names.split()
 
     @staticmethod
     def of_folder(root):
         files = {}
         for top, folders, names in os.walk(os.path.join(root, "crates")):
-            folders.sort()
+            # what rt made is no source
+            folders[:] = sorted(folder for folder in folders if folder != "out")
             for name in names:
                 if name.endswith((".antt", ".rt")):
                     path = os.path.join(top, name)
@@ -130,8 +132,12 @@ def is_number(text):
 
 
 def parts_of(name):
-    """The words that an operator is written with."""
-    return [part for part in name.split("_") if part] if "_" in name else [name]
+    """The words that an operator is written with: `+` of `◌+◌`, and of the older `_+_`. In other names an underscore joins words."""
+    if "◌" in name:
+        return [part for part in name.split("◌") if part]
+    if len(name) > 1 and (name.startswith("_") or name.endswith("_")):
+        return [part for part in name.split("_") if part]
+    return [name]
 
 
 # ---- declarations
@@ -826,14 +832,14 @@ class Project:
 
     def at(self, path, name, where):
         """What `path.{name}` of a `use` line is."""
-        match = re.fullmatch(r"Rattle·(\w+?)(?:·specs)?\.specs\.(.+)", path)
+        match = re.fullmatch(r"Rattle[.·](\w+?)(?:·specs)?\.specs\.(.+)", path)
         if not match or match.group(1) not in self.tree.below:
             return ("library", path, name)
         crate, module = match.groups()
         if module.startswith("declared."):
-            variants = module.endswith(".the-variants")
+            variants = module.endswith((".TheVariants", ".the-variants"))
             if variants:
-                module = module[:-len(".the-variants")]
+                module = module.rpartition(".")[0]
             key = (crate, module, module.split(".")[-1])
             found = self.declarations.get(key)
             if found is None or variants and name not in found.makes or not variants and name != found.name:

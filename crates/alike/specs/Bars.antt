@@ -12,7 +12,7 @@ use Rattle.components.specs.declared.Aboard.{Aboard}
 use Rattle.components.specs.declared.Waiting.{Waiting}
 use Rattle.components.specs.declared.Demand.{Demand}
 use Rattle.components.specs.Sheet.{Sheet}
-use Rattle.assignment_problem.specs.Chosen.{least_total_mono}
+use Rattle.assignment_problem.proofs.Chosen.{least_total_mono}
 use Rattle.assignment.specs.Pending.{pending, idle_cars, row_car, pending_stops, column_stop, columns}
 use Rattle.assignment.specs.Candidates.{no_limit, viable_of, kept_of}
 use Rattle.assignment.specs.Cells.{cell, matrix, answered_total}

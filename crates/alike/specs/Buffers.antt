@@ -17,7 +17,7 @@ use Rattle.components.specs.Sheet.{Sheet}
 use Rattle.manifest.specs.World.{stop_id}
 use Rattle.sweep.specs.Sweeps.{sweep_code}
 use Rattle.assignment_problem.specs.Recursion.{chosen, least_total}
-use Rattle.assignment_problem.specs.Chosen.{chosen_same}
+use Rattle.assignment_problem.proofs.Chosen.{chosen_same}
 use Rattle.assignment.specs.Pending.{idle_cars, pending_stops, column_stop, columns}
 use Rattle.assignment.specs.Cells.{sweep_after, matrix, column, answered_total, goes, decision}
 use Rattle.assignment.specs.CellLaws.{rows_fit}

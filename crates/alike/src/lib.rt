@@ -1,1 +1,2 @@
 // Two sheets that a pass can hardly tell apart: specs/. No code.
+#![tactic(auto)]

@@ -1,12 +1,12 @@
 -- What the method's functions keep of the lists that they share, and the steps from one to the next. Assumes nothing.
-use Rattle.std.specs.Prelude.{◌≡◌, refl, Bool, true, false, cond, List, ◌⊎◌, ℕ, zero, suc, ◌+◌, ◌-◌, ◌*◌, ◌≤◌, ◌<◌, eqb, length, set}
-use Rattle.std.proofs.Common.{sym, ap, ◌∙◌, subst, inl, inr, ⊎_elim, suc-mul, mul-le-mul_right, arith, eq-eqb, ne_eqb}
+use Rattle.std.specs.Prelude.{◌≡◌, refl, cond, List, ℕ, zero, suc, ◌+◌, ◌-◌, ◌*◌, ◌≤◌, ◌<◌, eqb, length, set}
+use Rattle.std.proofs.Common.{sym, ap, ◌∙◌, subst, inl, inr, ⊎_elim, arith, eq-eqb, ne_eqb}
 use Rattle.laws.specs.Bools.{same?, less?, cond-one}
 use Rattle.laws.specs.Sums.{sum, sum_lt}
 use Rattle.assignment_problem.specs.Choice.{IsChoice, total, cell_at}
 use Rattle.assignment_problem.specs.Recursion.{least_total, column_of}
-use Rattle.assignment_problem.specs.Chosen.{chosen_choice, chosen_total, chosen_least}
-use Rattle.assignment_problem.specs.Prices.{tight_least}
+use Rattle.assignment_problem.proofs.Chosen.{chosen_choice, chosen_total, chosen_least}
+use Rattle.assignment_problem.proofs.PriceLaws.{tight_least}
 use Rattle.assignment_problem.specs.Insertion.{lift, lift_in, lift_out, Matched, Priced, Tree, Path, Walk, lift_priced, lift_tree, mark}
 use Rattle.assignment_problem.specs.Insertion.{start_matched, start_priced, start_tree, way, walk_start, walk_matched, walk_priced, some_free}
 use Rattle.assignment_problem.specs.Insertion.{matched_choice, priced_tight}

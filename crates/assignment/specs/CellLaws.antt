@@ -22,7 +22,7 @@ use Rattle.components.specs.declared.Rank.{Rank}
 use Rattle.components.specs.declared.Rank.TheVariants.{Cost, Never}
 use Rattle.components.specs.Sheet.{Sheet}
 use Rattle.assignment_problem.specs.Choice.{total}
-use Rattle.assignment_problem.specs.Chosen.{chosen_total}
+use Rattle.assignment_problem.proofs.Chosen.{chosen_total}
 use Rattle.assignment_problem.specs.Recursion.{column_of}
 use Rattle.assignment.specs.Pending.{pending, idle, idle_cars, row_car, pending_stops, column_stop, columns}
 use Rattle.assignment.specs.Candidates.{no_limit, keeps, line_serves, barred, viable, nearer, kept, kept_of, viable_of}

@@ -1,1 +1,2 @@
 // Document 01's proved cases: specs/Table.antt.
+#![tactic(auto)]

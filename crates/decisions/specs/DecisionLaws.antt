@@ -15,7 +15,7 @@ use Rattle.components.specs.Sheet.{Sheet}
 use Rattle.manifest.specs.World.{stop_id}
 use Rattle.assignment_problem.specs.Choice.{cell_at}
 use Rattle.assignment_problem.specs.Recursion.{least_total, column_of}
-use Rattle.assignment_problem.specs.Chosen.{chosen_same, chosen_choice}
+use Rattle.assignment_problem.proofs.Chosen.{chosen_same, chosen_choice}
 use Rattle.assignment.specs.Pending.{pending, idle_cars, pending_stops, column_stop, columns}
 use Rattle.assignment.specs.Cells.{matrix, column, answered_total, goes, decision}
 use Rattle.assignment.specs.CellLaws.{SmallSheet, matrix_le, rows_fit, idle_le, pending_le, columns_le}

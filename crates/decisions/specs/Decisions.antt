@@ -10,7 +10,7 @@ use Rattle.scale.specs.Scale.{sentinel}
 use Rattle.mask.specs.declared.Ones.{Ones}
 use Rattle.assignment_problem.specs.Choice.{cell_at}
 use Rattle.assignment_problem.specs.Recursion.{chosen, least_total, column_of}
-use Rattle.assignment_problem.specs.Chosen.{chosen_length, chosen_choice}
+use Rattle.assignment_problem.proofs.Chosen.{chosen_length, chosen_choice}
 use Rattle.matcher.specs.declared.Matching.{Matching}
 use Rattle.matcher.specs.Promise.{too_large, refused, matching, written, least_or, all_fit}
 

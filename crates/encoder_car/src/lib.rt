@@ -1,4 +1,6 @@
 // A car's record, put in place at the bit where it starts. Its body is put in parts.
+#![tactic(auto)]
+
 ghost use Rattle.std.specs.Prelude.{◌≡◌, [], ◌∷◌, ◌≤◌};
 ghost use Rattle.laws.specs.Bools.{bit};
 ghost use Rattle.components.specs.Codes.{phase_code, direction_code, mode_code};

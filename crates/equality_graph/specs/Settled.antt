@@ -4,7 +4,7 @@ use Rattle.std.proofs.Common.{sym, ap, ◌∙◌, subst, ⊎_elim, arith, length
 use Rattle.std.proofs.lemmas.Bool.{eqb-false}
 use Rattle.laws.specs.Bools.{same?}
 use Rattle.assignment_problem.specs.Choice.{IsChoice, total, Lowest, cell_at}
-use Rattle.assignment_problem.specs.Prices.{tight_least}
+use Rattle.assignment_problem.proofs.PriceLaws.{tight_least}
 use Rattle.assignment_problem.specs.Insertion.{Matched, Priced, May, Path, Walk, matched_choice, priced_tight, walk_matched, walk_priced}
 use Rattle.alternating_tree.specs.Lists.{at, big, at_same, at_other, Going, Gone}
 use Rattle.alternating_tree.specs.State.{Sizes, Scratch, Matrix, State, Cleared, unseen, unseen_less, unseen_most}

@@ -4,7 +4,8 @@ use Rattle.std.specs.Prelude.{◌≡◌, ℕ, ◌+◌, ◌-◌, ◌≤◌, ◌<�
 use Rattle.std.proofs.Common.{◌∙◌, ⊎_elim, arith}
 use Rattle.laws.specs.Bools.{same?, less?}
 use Rattle.assignment_problem.specs.Choice.{IsChoice, total}
-use Rattle.assignment_problem.specs.Prices.{Tight, Feasible, strict_along}
+use Rattle.assignment_problem.specs.Prices.{Tight, Feasible}
+use Rattle.assignment_problem.proofs.PriceLaws.{strict_along}
 
 module _ {n m : ℕ} {c : ℕ → ℕ → ℕ} {p u w : ℕ → ℕ}
     (hp : IsChoice n m p) (ht : Tight n m c p u w) (under : Feasible n m c u w)

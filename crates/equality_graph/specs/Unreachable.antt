@@ -1,10 +1,10 @@
 -- Which columns row i cannot have in a least choice that agrees on the rows before it: those from which, in the equality graph, its own column
 -- cannot be reached. No counting is needed: prices shifted by 1 show it. Assumes nothing.
-use Rattle.std.specs.Prelude.{◌≡◌, refl, Bool, true, false, cond, ◌⊎◌, ℕ, zero, suc, ◌+◌, ◌≤◌, ◌<◌, ltb}
+use Rattle.std.specs.Prelude.{◌≡◌, refl, cond, ◌⊎◌, ℕ, zero, suc, ◌+◌, ◌≤◌, ◌<◌, ltb}
 use Rattle.std.proofs.Common.{sym, ap, ◌∙◌, inl, inr, ⊎_elim, arith, lt-ltb, le-ltb}
 use Rattle.laws.specs.Bools.{same?, less?, cond-one}
 use Rattle.assignment_problem.specs.Choice.{IsChoice, total}
-use Rattle.assignment_problem.specs.Prices.{tight_every}
+use Rattle.assignment_problem.proofs.PriceLaws.{tight_every}
 use Rattle.assignment_problem.specs.Insertion.{Matched, Priced, May, matched_choice, priced_tight}
 use Rattle.equality_graph.specs.Shifts.{raise, lower}
 

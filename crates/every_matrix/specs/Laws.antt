@@ -10,7 +10,7 @@ use Rattle.laws.specs.Folds.{none_any}
 use Rattle.laws.specs.Sums.{sum}
 use Rattle.assignment_problem.specs.Choice.{cell_at, total, sentinel}
 use Rattle.assignment_problem.specs.Recursion.{chosen, least_total, column_of}
-use Rattle.assignment_problem.specs.Chosen.{chosen_choice, chosen_total}
+use Rattle.assignment_problem.proofs.Chosen.{chosen_choice, chosen_total}
 use Rattle.text.specs.Text.{decimal, decimal_of}
 use Rattle.plain_matcher.specs.declared.Columns.{Columns}
 use Rattle.plain_matcher.specs.declared.Plain.TheVariants.{Chosen, Refused}

@@ -11,7 +11,8 @@ use Rattle.laws.specs.Folds.{any, any_none}
 use Rattle.laws.specs.Tables.{tab, length-tab, get_or-tab₀}
 use Rattle.assignment_problem.specs.Choice.{cell_at, sentinel}
 use Rattle.assignment_problem.specs.Recursion.{chosen, least_total, lowest}
-use Rattle.assignment_problem.specs.Marked.{mark, marked, mark_le, marked_lowest, marked_least}
+use Rattle.assignment_problem.specs.Marked.{mark, marked}
+use Rattle.assignment_problem.proofs.MarkedLaws.{mark_le, marked_lowest, marked_least}
 use Rattle.alternating_tree.specs.State.{Matrix}
 use Rattle.marks.specs.Marks.{mark_at}
 use Rattle.matcher.specs.declared.Matching.TheVariants.{Least, None}

@@ -4,7 +4,7 @@ use Prim.Native.Nat.{compare}
 use native.Mathlib.Nat.{div-eq_of_lt, pow-succ'}
 use lib.Count.{count_leading_zeros, leading_le, leading_top}
 use lib.Pow.{pow-lt}
-use lib.Ieee.{binary64, nearest, units, round, fits, nan_bits}
+use lib.Ieee.{binary64, nearest, units, round, nan_bits}
 use lib.Ieee.Bits.{nan_bits_above}
 use lib.Ieee.Nearest.{closest}
 use Rattle.fp.specs.Fields.{sign_one}

@@ -13,7 +13,7 @@ use Rattle.rounding.specs.Jam.{Clear, near_sum, near_sum_first, near_scale, near
 use Rattle.rounding.specs.Unpack.{significand_of, exponent_of, significand_lt, exponent_lt, significand_lead, value_of}
 use Rattle.multiply_add.specs.MulAdd.{mul_add}
 use Rattle.multiply_add.specs.Steps.{base, wide, Holds, Jammed, once, Sticky, product_exponent, both, Fit, Aligned, Sums, Terms}
-use Rattle.multiply_add.specs.Units.{mul_add_is}
+use Rattle.multiply_add.proofs.Units.{mul_add_is}
 
 -- ---- one place for both
 

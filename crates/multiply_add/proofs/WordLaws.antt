@@ -2,7 +2,6 @@
 use Rattle.std.proofs.Common.{◌≡◌, ℕ, suc, ◌+◌, ◌-◌, ◌*◌, ◌/◌, ◌%◌, ◌^◌, ◌<◌, ◌≤◌, ltb, sym, refl, ap, ◌∙◌, inl, inr, le_trans, le_of_eq, lt_of_lt_of_le, lt_of_le_of_lt, add-zero, le_of_lt, add_assoc, mod-lt, mod-eq_of_lt, mul_assoc, add-mul, mul-le-mul, lt_of_mul-lt-mul_right, mul-le-mul_left, mul-lt-mul_of_pos_right, one-mul, div-add-mod', zero-add, zero-mul, mul-one, mul-add, div-le_self, mul_right_comm, div-mul-le_self, arith, lit<, pow_pos, pow_mono, pow-add, shl_lt, shr_lt}
 use native.Mathlib.Nat.{mul-mul-mul_comm}
 use lib.Arith.{lt_of_le-ne}
-use lib.Ieee.{up, down}
 use lib.Ieee.Nearest.{div_same}
 use Rattle.rounding.specs.Sums.{less_iff}
 use Rattle.rounding.specs.Jam.{jam_near}

@@ -1,7 +1,6 @@
--- a × b + c with one rounding: the definition (MulAdd), that it is the nearest double (Nearest), how large it can be (Sizes), its controls and worked
--- examples; and what the steps of the code promise (Steps).
+-- a × b + c with one rounding: the definition (MulAdd), what a nearest double is (Nearest), how large it can be (Sizes), its controls and worked
+-- examples; and what the steps of the code promise (Steps). That the result is the nearest double is proved in proofs/Nearest.
 pub mod MulAdd
-pub mod Units
 pub mod Nearest
 pub mod Sizes
 pub mod Controls

@@ -2,7 +2,7 @@
 -- whole. Assumes nothing.
 use Rattle.std.specs.Prelude.{◌≡◌, ℕ, ◌+◌, ◌*◌, ◌^◌, ◌<◌, ◌≤◌, Bool, cond, ◌⊎◌, ◌==◌, Float}
 use Rattle.std.specs.Float.{binary64}
-use Rattle.std.specs.Float.Ieee.{up, round, sum, fits}
+use Rattle.std.specs.Float.Ieee.{round, sum}
 use Rattle.std.specs.Float.Ieee.Nearest.{closest}
 use Rattle.fp.specs.Fields.{field_one}
 use Rattle.rounding.specs.Sticky.{Near}

@@ -17,7 +17,7 @@ use Rattle.components.specs.declared.Strategy.TheVariants.{Etd, Rsr, Scan, Unkno
 use Rattle.scan.specs.Scan.{prepared_sweep}
 use Rattle.sweep.specs.Sweeps.{sweep_code, sweep_of}
 use Rattle.assignment_problem.specs.Choice.{IsChoice, total, sentinel, standing, Chosen}
-use Rattle.assignment_problem.specs.Chosen.{chosen_is, chosen_total}
+use Rattle.assignment_problem.proofs.Chosen.{chosen_is, chosen_total}
 use Rattle.assignment_problem.specs.Recursion.{column_of}
 use Rattle.assignment.specs.Pending.{idle, idle_cars, pending_stops, columns}
 use Rattle.assignment.specs.Cells.{by_strategy, sweep_after, matrix, column, goes, decision, answered_total}

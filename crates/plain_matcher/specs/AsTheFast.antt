@@ -8,7 +8,7 @@ use Rattle.laws.specs.Folds.{any}
 use Rattle.laws.specs.Tables.{tab, length-tab, get_or-tab₀}
 use Rattle.assignment_problem.specs.Choice.{cell_at}
 use Rattle.assignment_problem.specs.Recursion.{chosen}
-use Rattle.assignment_problem.specs.Chosen.{chosen_length}
+use Rattle.assignment_problem.proofs.Chosen.{chosen_length}
 use Rattle.matcher.specs.Promise.{too_large, refused, matching, written, all_fit}
 use Rattle.matcher.specs.declared.Matching.TheVariants.{Least}
 use Rattle.plain_matcher.specs.declared.Plain.TheVariants.{Refused}

@@ -9,7 +9,7 @@ use Rattle.laws.specs.Tables.{row_in}
 use Rattle.assignment_problem.specs.Choice.{cell_at, sentinel, standing}
 use Rattle.assignment_problem.specs.Recursion.{none, some, before, better, front, is_in, scan, best, columns_of, candidate_total, chosen, least_total}
 use Rattle.assignment_problem.specs.Recursion.{Candidate as Found}
-use Rattle.assignment_problem.specs.Chosen.{chosen_length}
+use Rattle.assignment_problem.proofs.Chosen.{chosen_length}
 use Rattle.plain_matcher.specs.declared.Plain.TheVariants.{Chosen}
 use Rattle.plain_matcher.specs.declared.Choice.{Choice}
 use Rattle.plain_matcher.specs.declared.Candidate.{Candidate}

@@ -1,4 +1,6 @@
 // The plain matcher: the choice of a matrix of up to 4 cars and 5 columns, by trying all of them (request F-13).
+#![tactic(auto)]
+
 ghost use Rattle.std.specs.Prelude.{◌≡◌, ◌++◌, ◌+◌, ◌*◌, ◌≤◌, ◌<◌, length, drop};
 ghost use Rattle.laws.specs.Tables.{tab};
 ghost use Rattle.assignment_problem.specs.Choice.{sentinel};
@@ -7,7 +9,7 @@ ghost use Rattle.plain_matcher.specs.Promise.{column_at, Small, chosen_of, plain
 ghost use Rattle.plain_matcher.specs.Held.{better_of, front_of, standing_of, Room, Rest, HoldsBest};
 
 // The columns of up to 4 cars, 0 where there is no such car.
-#[derive(Drop)]
+#[derive(Clone, Copy)]
 pub struct Columns {
     pub first: u32,
     pub second: u32,

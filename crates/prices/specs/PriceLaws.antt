@@ -1,14 +1,14 @@
 -- Two prices of the range add up without a wrap; the tests on them as the code makes them. Assumes nothing.
-use Rattle.std.specs.Prelude.{ℕ, suc, ◌+◌, ◌-◌, ◌^◌, ◌≤◌, ◌<◌, ◌≡◌, refl, Bool, true, false, ◌&&◌, leb, ℤ, pos, negsuc, ◌+ℤ◌, nat_abs}
+use Rattle.std.specs.Prelude.{ℕ, suc, ◌-◌, ◌≤◌, ◌<◌, ◌≡◌, refl, true, false, ◌&&◌, leb, ℤ, pos, negsuc, ◌+ℤ◌, nat_abs}
 use Rattle.std.proofs.Common.{sym, ap, ap₂, ◌∙◌, subst, ⊎_elim, arith, SFits, to_z, of_z, to_z-of_z, leb-true, leb-false, le-leb, lt-ltb, le-ltb}
 use Rattle.std.proofs.Math.Bool.{and-true}
 use Rattle.std.proofs.Math.IntN.{sub_ℕ}
-use Rattle.std.specs.Int.Signed.{le_z, mag}
+use Rattle.std.specs.Int.Signed.{le_z}
 use Rattle.std.specs.Int.{w64}
 use Rattle.std.proofs.Math.Facts.{to_z_pos}
 use Rattle.std.proofs.lemmas.Bool.{lt-leb}
 use Rattle.laws.specs.Bools.{which, less?}
-use Rattle.prices.specs.Price.{most_price, in_range, within}
+use Rattle.prices.specs.Price.{most_price, in_range}
 
 -- as numbers of their own sign
 pub range_of : (z : ℤ) → in_range z ≡ true → nat_abs z ≤ most_price

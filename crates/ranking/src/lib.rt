@@ -1,4 +1,6 @@
 // The rank of a pair by the sheet's strategy, its cell, and a row of cells.
+#![tactic(auto)]
+
 ghost use Rattle.std.specs.Prelude.{◌≡◌, ◌+◌, ◌<◌, ◌≤◌, length};
 ghost use Rattle.assignment.specs.Cells.{rank_cell, rank_held};
 ghost use Rattle.components.specs.declared.Strategy.TheVariants.{Etd};

@@ -1,16 +1,16 @@
 -- "and for each least choice some whole prices within the range pass". Assumes nothing.
-use Rattle.std.specs.Prelude.{ℕ, ◌≤◌, ◌<◌, ◌≡◌, Bool, true, false, ◌&&◌, ◌||◌, ℤ, pos}
+use Rattle.std.specs.Prelude.{ℕ, ◌≤◌, ◌<◌, ◌≡◌, true, false, ◌||◌, ℤ, pos}
 use Rattle.std.proofs.Math.Logic.{⊎_elim}
 use Rattle.std.proofs.Common.{arith}
 use Rattle.std.proofs.Math.Dec.{eqb}
-use borrow.Author.Tests.{eq-eqb, eqb-false}
+use borrow.Author.Tests.{eqb-false}
 use Rattle.laws.specs.Bools.{which, both, either_left, either_right}
-use Rattle.laws.specs.Folds.{any, every, all_every, any_at, any_none}
-use Rattle.prices.specs.Price.{in_range, within, equals, zero_or_less, is_zero}
+use Rattle.laws.specs.Folds.{any, all_every, any_none}
+use Rattle.prices.specs.Price.{in_range, is_zero}
 use Rattle.prices.specs.Signs.{minus, within_yes, equals_yes, discounted, undiscounted, price_in_range, discount_in_range}
 use Rattle.assignment_problem.specs.Choice.{IsChoice, total}
-use Rattle.assignment_problem.specs.Prices.{Feasible, Tight}
-use Rattle.assignment_problem.specs.PricesExist.{LeastPrices, prices_exist}
+use Rattle.assignment_problem.specs.Prices.{Tight}
+use Rattle.assignment_problem.proofs.PricesExist.{LeastPrices, prices_exist}
 use Rattle.shown.specs.Shown.{never_above, equal_where_chosen, taken, columns_priced, shown}
 
 pub record Passing (n w : ℕ) (cell : ℕ → ℕ → ℕ) (column : ℕ → ℕ) : Type 0 where

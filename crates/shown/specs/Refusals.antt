@@ -1,10 +1,10 @@
 -- What a site may send wrong: refusals 19 and 20 of request F-8. Assumes nothing.
 use Rattle.std.specs.Prelude.{ℕ, ◌≤◌, ◌<◌, ◌≡◌, Bool, ◌||◌, List, leb, length, ℤ}
 use Rattle.std.proofs.Math.Path.{refl, sym}
-use Rattle.std.proofs.Common.{ap, ◌∙◌, ⊎_elim, arith}
+use Rattle.std.proofs.Common.{ap, ⊎_elim, arith}
 use Rattle.std.proofs.Math.Bool.{true, false, not}
 use Rattle.std.proofs.Math.Dec.{eqb}
-use borrow.Author.Tests.{eqb-true, eq-eqb, ne_eqb, leb-false, lt-leb, not-true}
+use borrow.Author.Tests.{eqb-true, eq-eqb, ne_eqb, leb-false, lt-leb}
 use Rattle.laws.specs.Bools.{not_both, neither_left, neither_right, less?}
 use Rattle.laws.specs.Folds.{any, any_at, any_none, none_any}
 use Rattle.prices.specs.Price.{in_range}

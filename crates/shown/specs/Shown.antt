@@ -1,7 +1,7 @@
 -- What prices show of a choice. Request F-8: "Sites send the columns that their controller chose, one an idle car, and prices from a solver of their
 -- own." Assumes nothing.
 use Rattle.std.specs.Prelude.{ℕ, ◌<◌, ◌≡◌, Bool, ◌&&◌, ◌||◌, eqb, ℤ}
-use Rattle.std.proofs.Common.{ap, ap₂}
+use Rattle.std.proofs.Common.{ap₂}
 use Rattle.laws.specs.Folds.{any, every, every_cong}
 use Rattle.prices.specs.Price.{within, equals, zero_or_less, is_zero}
 

@@ -9,7 +9,8 @@ use Rattle.laws.specs.Folds.{any, every, every_at, none_any}
 use Rattle.prices.specs.Price.{within, equals, zero_or_less, is_zero}
 use Rattle.prices.specs.Signs.{at_most, is_sum, no_discount}
 use Rattle.assignment_problem.specs.Choice.{IsChoice, total}
-use Rattle.assignment_problem.specs.Prices.{Feasible, Tight, tight_least}
+use Rattle.assignment_problem.specs.Prices.{Feasible, Tight}
+use Rattle.assignment_problem.proofs.PriceLaws.{tight_least}
 use Rattle.shown.specs.Shown.{never_above, equal_where_chosen, taken, columns_priced, shown}
 
 module _ (n w : ℕ) (cell : ℕ → ℕ → ℕ) (column : ℕ → ℕ) (car_price column_price : ℕ → ℤ) (choice : IsChoice n w column)

@@ -1,5 +1,5 @@
 -- The ways of `root_bits` and of `sqrt`. Assumes nothing.
-use Prim.Native.Nat.{ℕ, suc, ◌+◌, ◌*◌, ◌/◌, ◌%◌, ◌^◌, ◌≤◌, ◌<◌}
+use Prim.Native.Nat.{ℕ, suc, ◌+◌, ◌*◌, ◌%◌, ◌≤◌, ◌<◌}
 use native.Mathlib.Nat.{zero-mul, le_of_lt}
 use native.Mathlib.Omega.{arith}
 use mathlib.Core.Path.{◌≡◌, refl, sym, ap, ◌∙◌}
@@ -17,7 +17,8 @@ use Rattle.fp.specs.Fields.{field_one, sign_one}
 use Rattle.fp.specs.Order.{no_digits}
 use Rattle.square_root.specs.SquareRoot.{nearest_root, square_root}
 use Rattle.square_root.specs.Steps.{Evened, Rooted}
-use Rattle.square_root.specs.Kept.{packed, root_least, root_most, root_up, root_units}
+use Rattle.square_root.specs.Kept.{packed, root_least, root_most, root_up}
+use Rattle.square_root.proofs.Middle.{root_units}
 
 -- ---- root_bits
 

@@ -1,27 +1,25 @@
 -- What the square root of a finite double above zero is, without its formula: a finite double such that the real root lies nearer to it than to any
 -- other, and the only one. That is "proved by comparing squares of whole numbers": the root lies on its side of the middle between the two, so what is
--- rooted is compared with the square of the middle. Doubles are whole numbers of 2 ^ -1074, the least of them, and squares of 2 ^ -2148. Assumes
--- nothing.
-use Rattle.std.specs.Prelude.{ℕ, suc, ◌+◌, ◌-◌, ◌*◌, ◌/◌, ◌^◌, ◌≤◌, ◌<◌, ◌≡◌, refl, Bool, true, false, not, cond, nat_abs, T, ltb, leb, Float}
-use Rattle.std.proofs.Common.{le_trans, le_of_eq, le_of_lt, lt_of_lt_of_le, lt_of_le_of_lt, lt_irrefl, zero-mul, mul_assoc, mul-le-mul, mul-le-mul_right, mul-lt-mul_of_pos_right, lt_of_mul-lt-mul_right, mul-pos, add-mul, add_comm, arith, sym, ap, ◌∙◌, subst, ltb→lt, nltb→le, pow-add, pow_pos, shl_lt, le-ltb}
+-- rooted is compared with the square of the middle. Doubles are whole numbers of 2 ^ -1074, the least of them, and squares of 2 ^ -2148. Here is what
+-- that says (Nearer), and that it holds of what is kept; proofs/Nearest and OnlyRoot prove it of the definition. Assumes nothing.
+use Rattle.std.specs.Prelude.{ℕ, suc, ◌+◌, ◌-◌, ◌*◌, ◌^◌, ◌≤◌, ◌<◌, ◌≡◌, refl, Bool, true, false, not, cond, nat_abs, T, ltb, Float}
+use Rattle.std.proofs.Common.{le_trans, le_of_eq, le_of_lt, lt_of_lt_of_le, lt_of_le_of_lt, zero-mul, mul_assoc, mul-le-mul, mul-le-mul_right, mul-lt-mul_of_pos_right, lt_of_mul-lt-mul_right, mul-pos, add-mul, arith, sym, ap, ◌∙◌, subst, ltb→lt, nltb→le, pow-add, pow_pos, shl_lt, le-ltb}
 use Rattle.std.proofs.Math.Nat.{mul-mul-mul_comm}
-use Rattle.std.specs.Float.{nan, inf, fin, binary64}
-use Rattle.std.specs.Float.Ieee.{up, down, lt, le, fits, of_bits, to_bits}
+use Rattle.std.specs.Float.{nan, inf, fin}
+use Rattle.std.specs.Float.Ieee.{up, down, lt, le, of_bits}
 use Rattle.std.specs.Float.Ieee.Exact.{HasValue}
 use Rattle.laws.specs.Bools.{never}
 use Rattle.fp.specs.Num as Num
 use Rattle.fp.specs.Num.{finite}
-use Rattle.fp.specs.Fields.{field_one, sign_one}
+use Rattle.fp.specs.Fields.{field_one}
 use Rattle.fp.specs.Nonneg.{nonneg}
 use Rattle.rounding.specs.Sticky.{pow_lt_back}
 use Rattle.rounding.specs.Signed.{size_signed}
-use Rattle.rounding.specs.Unpack.{significand_of, exponent_of, significand_lt, exponent_lt, value_of}
-use Rattle.multiply_add.specs.Nearest.{Double, in_least, least_is}
-use Rattle.square_root.specs.SquareRoot.{whole_root, nearest_root, square_root}
+use Rattle.multiply_add.specs.Nearest.{in_least, least_is}
+use Rattle.square_root.specs.SquareRoot.{whole_root}
 use Rattle.square_root.specs.Steps.{Evened, Rooted}
 use Rattle.square_root.specs.Squares.{square_odd, square_even, square_next, square_lt, whole_root_lem, rooted_whole}
-use Rattle.square_root.specs.Spread.{evened_double}
-use Rattle.square_root.specs.Kept.{square_is, root_least, root_most, last_digit, root_value, root_fits, some_significand, root_is}
+use Rattle.square_root.specs.Kept.{square_is, root_least, last_digit}
 
 -- the root of n * 2 ^ 1074 lies nearer to a than to b: twice the root is compared with a + b, twice the middle between the two, by squares
 pub record Nearer (n a b : ℕ) : Type 0 where
@@ -110,7 +108,7 @@ module _ (x q r k : ℕ) (h : Rooted x q r) (lo : field_one ≤ q) (j i : ℕ) (
 
 -- ---- in least doubles
 
-nearer_at : (n e h q r : ℕ) → Evened n 52 e h → Rooted (e * field_one) q r → (j i : ℕ) → j < 2 ^ 53
+pub nearer_at : (n e h q r : ℕ) → Evened n 52 e h → Rooted (e * field_one) q r → (j i : ℕ) → j < 2 ^ 53
     → Nearer n (last_digit q r * 2 ^ (h + 485)) (j * 2 ^ i)
 nearer_at n e h q r s k j i small = go (ltb q r) (ltb→lt q r) (nltb→le q r)
   where
@@ -147,28 +145,8 @@ nearer_at n e h q r s k j i small = go (ltb q r) (ltb→lt q r) (nltb→le q r)
       than_above = λ m. above (stay_above x q r K k lo j i small (g tt) m);
     }
 
-rooted : (x : ℕ) → Rooted x (whole_root x) (x - whole_root x * whole_root x)
+pub rooted : (x : ℕ) → Rooted x (whole_root x) (x - whole_root x * whole_root x)
 rooted x = let w = whole_root_lem x in record { sum = omega arith; few = omega (arith, square_next (whole_root x)) }
-
--- the root of j * 2 ^ i least doubles
-record NearestRoot (n a : ℕ) : Type 0 where
-  fitting : T (fits binary64 (nearest_root n))
-  value : HasValue (nearest_root n) false a (2 ^ 1074)
-  nearer : (j i : ℕ) → j < 2 ^ 53 → Nearer n a (j * 2 ^ i)
-
-nearest_at : (t i : ℕ) → 0 < t → t < 2 ^ 53 → i < 2047 → (a : ℕ) × NearestRoot (t * 2 ^ i) a
-nearest_at t i p l b =
-    let (e, h, s) = evened_double t i p l b in
-    let x = e * field_one in
-    let q = whole_root x in
-    let r = x - q * q in (
-      last_digit q r * 2 ^ (h + 485),
-      record {
-        fitting = root_fits (t * 2 ^ i) e h q r s (rooted x);
-        value = root_value (t * 2 ^ i) e h q r s (rooted x);
-        nearer = λ j i' small. nearer_at (t * 2 ^ i) e h q r s (rooted x) j i' small;
-      },
-    )
 
 -- ---- of doubles
 
@@ -176,63 +154,13 @@ nearest_at t i p l b =
 abbrev pub leasts : Float → ℕ
 leasts x = nat_abs (in_least x)
 
-leasts_is : (x : Float) (s : Bool) (n : ℕ) → HasValue x s n (2 ^ 1074) → leasts x ≡ n
+pub leasts_is : (x : Float) (s : Bool) (n : ℕ) → HasValue x s n (2 ^ 1074) → leasts x ≡ n
 leasts_is x s n v = ap nat_abs (least_is x s n v) ∙ size_signed s n
 
-signless : (x : Float) (n : ℕ) → HasValue x false n (2 ^ 1074) → (finite x ≡ true) × (le Num.zero x ≡ true)
+pub signless : (x : Float) (n : ℕ) → HasValue x false n (2 ^ 1074) → (finite x ≡ true) × (le Num.zero x ≡ true)
 unfolding lt of_bits
 signless nan n v = absurd v
 signless (inf s) n v = absurd v
 signless (fin true m e) n v = never (sym v.0)
 signless (fin false m e) n v =
     (refl, nonneg (fin false m e) refl (le-ltb (m * up e * 1) (0 * down e) (omega (arith, zero-mul (down e)))))
-
-module _ (x : Float) (X : Double x) (above : lt Num.zero x ≡ true) where
-  abbrev place : ℕ
-  place = exponent_of (to_bits binary64 x)
-
-  size_is : leasts x ≡ significand_of (to_bits binary64 x) * 2 ^ place
-  size_is = leasts_is x (leb sign_one (to_bits binary64 x)) _ (value_of x X.0 X.1)
-
-  found : (a : ℕ) × NearestRoot (significand_of (to_bits binary64 x) * 2 ^ place) a
-  found =
-      nearest_at (significand_of (to_bits binary64 x)) place (some_significand x X.0 above X.1) (significand_lt (to_bits binary64 x))
-      (exponent_lt (to_bits binary64 x))
-
-  root_has : HasValue (square_root x) false found.0 (2 ^ 1074)
-  root_has = subst (λ (y : Float). HasValue y false found.0 (2 ^ 1074)) (root_is x X.0 above X.1) found.1.value
-
-  -- the root is a finite double of at least zero
-  pub root_double : Double (square_root x) × (le Num.zero (square_root x) ≡ true)
-  root_double =
-      let (f, p) = signless (square_root x) found.0 root_has in
-      ((subst (λ (y : Float). T (fits binary64 y)) (root_is x X.0 above X.1) found.1.fitting, f), p)
-
-  -- beside any number of at most 53 digits
-  pub nearer_root : (j i : ℕ) → j < 2 ^ 53 → Nearer (leasts x) (leasts (square_root x)) (j * 2 ^ i)
-  nearer_root j i small =
-      rw (size_is, leasts_is (square_root x) false found.0 root_has) (found.1.nearer j i small)
-
-  -- beside any finite double y of at least zero: the real root lies nearer to the result, unless y is the result
-  pub nearest_root_lem : (y : Float) → Double y → Nearer (leasts x) (leasts (square_root x)) (leasts y)
-  nearest_root_lem y Y =
-      let b = to_bits binary64 y in
-      rw (leasts_is y (leb sign_one b) _ (value_of y Y.0 Y.1)) (nearer_root (significand_of b) (exponent_of b) (significand_lt b))
-
-  -- so the result is the only such double
-  pub only_root : (w : Float) → Double w → ((y : Float) → Double y → Nearer (leasts x) (leasts w) (leasts y)) → leasts w ≡ leasts (square_root x)
-  only_root w W h = same (nearest_root_lem w W) (h (square_root x) root_double.0)
-    where
-      swap : (a b : ℕ) → (b + a) * (b + a) ≡ (a + b) * (a + b)
-      swap a b = ap (λ (z : ℕ). z * z) (add_comm b a)
-
-      none : {n a b : ℕ} → a < b → Nearer n a b → Nearer n b a → ⊥
-      none {n} {a} {b} l u v =
-          lt_irrefl ((a + b) * (a + b))
-          (lt_of_le_of_lt (le_of_eq (sym (swap a b))) (lt_of_lt_of_le (v.than_below l) (le_of_lt (u.than_above l))))
-
-      equal : {a b : ℕ} → (a < b → ⊥) → (b < a → ⊥) → a ≡ b
-      equal f g = omega arith
-
-      same : {n a b : ℕ} → Nearer n a b → Nearer n b a → b ≡ a
-      same u v = equal (λ l. none l v u) (λ l. none l u v)

@@ -1,5 +1,7 @@
 // A writer of a store of weights into a lent buffer: records of 120 bits one after another. Its state is how many there are. A record that the reader
 // would refuse by 2 or 7 is not written.
+#![tactic(auto)]
+
 ghost use Rattle.std.specs.Prelude.{◌≡◌, ◌<◌, length};
 ghost use Rattle.values.specs.Values.{bits_of};
 ghost use Rattle.store_writer.specs.Stored.{entry, entry_put, stored_of, stored_left};

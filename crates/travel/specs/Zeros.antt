@@ -1,9 +1,9 @@
 -- `f64::max` may give either zero for -0.0 and 0.0; `max_zero` gives 0.0. Braking all the way the difference is the same: its root is a zero of that
 -- sign, and a speed above zero is left as it is by either. There the speed is above zero, since the braking distance is. Assumes nothing.
-use Rattle.std.specs.Prelude.{ℕ, ◌+◌, ◌-◌, ◌*◌, ◌≤◌, ◌≡◌, refl, true, false, ℤ, Float}
-use Rattle.std.proofs.Common.{zero-mul, add-zero, arith, sym, ap, ◌∙◌}
+use Rattle.std.specs.Prelude.{ℕ, ◌+◌, ◌-◌, ◌*◌, ◌≤◌, ◌≡◌, refl, true, false, Float}
+use Rattle.std.proofs.Common.{zero-mul, arith, sym, ap, ◌∙◌}
 use Rattle.std.specs.Float.{nan, inf, fin, binary64}
-use Rattle.std.specs.Float.Ieee.{up, down, round, sum, neg, add, sub, lt, of_bits}
+use Rattle.std.specs.Float.Ieee.{up, down, round, neg, add, sub, lt, of_bits}
 use Rattle.laws.specs.Bools.{never}
 use Rattle.fp.specs.Num.{zero, minus}
 use Rattle.rounding.specs.Sums.{sum_plus, sum_more}

@@ -1,1 +1,2 @@
 // Theorems about the store of weights; no code.
+#![tactic(auto)]

@@ -1,6 +1,8 @@
 // The store of weights: records that each set one of the six weights from a day on. What refuses a store record by record, and by two records that
 // disagree. Records are compared as two columns: a record's key, which is its setting, start day and issue in one number, and its value. A record's
 // number is a u16, so that its bit offset always fits.
+#![tactic(auto)]
+
 ghost use Rattle.std.specs.Prelude.{◌≡◌, ◌++◌, ◌≤◌, ◌<◌, ltb, length, drop, get_or};
 ghost use Rattle.laws.specs.Tables.{tab};
 ghost use Rattle.layout.specs.Verdict.{first_of};

@@ -1,4 +1,6 @@
 // The weights of a store for a day: every byte string is refused by one number or answers with the six weights in slot order.
+#![tactic(auto)]
+
 pub mod answer;
 
 ghost use Rattle.std.specs.Prelude.{◌≡◌, List, ℕ, ◌≤◌, length, replicate};

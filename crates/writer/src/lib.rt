@@ -1,5 +1,7 @@
 // A writer of sheets into a lent buffer. Its state is the counts: kinds never fall and every kind has one length, so the counts say where the next
 // record starts, which kind came last and which kind is full. A record that the reader would refuse by 2, 6 or 7 is not written.
+#![tactic(auto)]
+
 mod room;
 
 ghost use Rattle.std.specs.Prelude.{◌≡◌, length};

@@ -1,6 +1,8 @@
 // The writer for a host, to be exported for C. The state is nine numbers that the host lends and start fills. Each function answers 0; or 1 where
 // the state is none, 2, 6 or 7 where a record has no room, is out of order or one too many, 8 where a code stands for nothing, and nothing is
 // written then. A field alone is put without a state.
+#![tactic(auto)]
+
 mod field;
 mod state;
 

@@ -2,7 +2,7 @@
 use Rattle.std.proofs.Common.{◌≡◌, ℕ, ◌<◌, ◌∙◌, replicate, get_or, arith}
 use lib.ListN.{get_or-replicate}
 use Rattle.assignment_problem.specs.Choice.{cell_at}
-use Rattle.assignment_problem.specs.Lowest.{tab_within, tab-total}
+use Rattle.assignment_problem.proofs.Lowest.{tab_within, tab-total}
 use Rattle.alternating_tree.specs.Lists.{at}
 use Rattle.hungarian.proofs.choose.Goals as goal
 

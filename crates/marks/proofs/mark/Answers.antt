@@ -1,5 +1,4 @@
 -- marks::mark meets its contract.
-use borrow.Author.Rules.{rules}
 use Rattle.marks.specs.Marks.{by_quotient}
 use Rattle.marks.proofs.mark.Goals as goal
 

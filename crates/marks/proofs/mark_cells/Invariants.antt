@@ -1,13 +1,10 @@
 -- marks::mark_cells meets its contract.
-use Prim.Native.Nat.{ℕ, ◌≤◌, ◌-◌}
-use Rattle.laws.specs.Folds.{ended}
-use Rattle.laws.specs.Tables.{tab, tab_next}
+use Prim.Native.Nat.{◌≤◌, ◌-◌}
+use Rattle.laws.specs.Tables.{tab}
 use Rattle.marks.specs.Marks.{mark_at}
-use borrow.Author.Rules.{rules}
-use lib.ListN.{length, drop, length-set}
+use lib.ListN.{length, drop}
 use mathlib.Core.List.{◌++◌}
-use mathlib.Core.Path.{◌≡◌, refl}
-use native.Mathlib.Omega.{arith}
+use mathlib.Core.Path.{◌≡◌}
 use Rattle.marks.proofs.mark_cells.Given as goal
 
 abbrev pub invariant-loop-k : goal.invariant-loop-k

@@ -5,7 +5,6 @@ use lib.IntN.{ℤ}
 use lib.Signed.{le_z}
 use Rattle.prices.specs.Price.{equals}
 use Rattle.prices.specs.PriceLaws.{sum_is, sum_room, cell_is}
-use borrow.Author.Rules.{rules}
 use Rattle.prices.proofs.equals.Goals as goal
 
 pub overflow_add-sum : goal.overflow_add-sum

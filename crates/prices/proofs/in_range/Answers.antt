@@ -5,7 +5,6 @@ use lib.IntN.{ℤ, pos, negsuc}
 use lib.Signed.{le_z}
 use mir.Facts.{to_z-of_z}
 use Rattle.prices.specs.PriceLaws.{range_tests}
-use borrow.Author.Rules.{rules}
 use Rattle.prices.proofs.in_range.Goals as goal
 
 pub returns : goal.returns

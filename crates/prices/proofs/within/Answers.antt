@@ -3,7 +3,6 @@ use mathlib.Core.Path.{ap₂}
 use lib.Signed.{le_z}
 use Rattle.prices.specs.Price.{within}
 use Rattle.prices.specs.PriceLaws.{sum_is, sum_room, cell_is}
-use borrow.Author.Rules.{rules}
 use Rattle.prices.proofs.within.Goals as goal
 
 pub overflow_add-result : goal.overflow_add-result

@@ -1,6 +1,5 @@
 -- prices::zero_or_less meets its contract.
 use mathlib.Core.Path.{ap}
-use mathlib.Core.Bool.{◌&&◌}
 use lib.IntN.{ℤ, pos}
 use lib.Signed.{le_z}
 use mir.Facts.{to_z-of_z}

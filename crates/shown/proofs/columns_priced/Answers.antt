@@ -1,6 +1,6 @@
 -- shown::columns_priced meets its contract.
-use Prim.Native.Nat.{ℕ, ◌≤◌, ◌-◌}
-use mathlib.Core.Path.{◌≡◌, refl, ap, ap₂, ◌∙◌}
+use Prim.Native.Nat.{ℕ}
+use mathlib.Core.Path.{refl, ap, ap₂, ◌∙◌}
 use mathlib.Core.Bool.{Bool, ◌&&◌, ◌||◌}
 use native.Mathlib.Omega.{arith}
 use Rattle.laws.specs.Folds.{every, every_step, ended}
@@ -8,7 +8,6 @@ use Rattle.prices.specs.Price.{zero_or_less, is_zero}
 use Rattle.prices.specs.PriceLaws.{same_price}
 use Rattle.shown.specs.Shown.{taken, columns_priced}
 use Rattle.shown.specs.Fits.{price_at, column_of}
-use borrow.Author.Rules.{rules}
 use Rattle.shown.proofs.columns_priced.Goals as goal
 
 pub loop-j-init : goal.loop-j-init

@@ -1,14 +1,8 @@
 -- shown::columns_priced meets its contract.
-use Prim.Native.Nat.{ℕ, ◌≤◌, ◌-◌}
-use mathlib.Core.Path.{◌≡◌, refl, ap, ap₂, ◌∙◌}
-use mathlib.Core.Bool.{Bool, ◌&&◌, ◌||◌}
-use native.Mathlib.Omega.{arith}
-use Rattle.laws.specs.Folds.{every, every_step, ended}
-use Rattle.prices.specs.Price.{zero_or_less, is_zero}
-use Rattle.prices.specs.PriceLaws.{same_price}
-use Rattle.shown.specs.Shown.{taken, columns_priced}
+use Prim.Native.Nat.{◌≤◌, ◌-◌}
+use mathlib.Core.Path.{◌≡◌}
+use Rattle.shown.specs.Shown.{columns_priced}
 use Rattle.shown.specs.Fits.{price_at, column_of}
-use borrow.Author.Rules.{rules}
 use Rattle.shown.proofs.columns_priced.Given as goal
 
 abbrev pub invariant-loop-j : goal.invariant-loop-j

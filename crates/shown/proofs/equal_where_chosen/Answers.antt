@@ -1,6 +1,6 @@
 -- shown::equal_where_chosen meets its contract.
-use Prim.Native.Nat.{ℕ, ◌≤◌, ◌-◌}
-use mathlib.Core.Path.{◌≡◌, refl, ap, ap₂, ◌∙◌}
+use Prim.Native.Nat.{ℕ}
+use mathlib.Core.Path.{refl, ap, ap₂, ◌∙◌}
 use mathlib.Core.Bool.{Bool, ◌&&◌}
 use native.Mathlib.Omega.{arith}
 use lib.IntN.{ℤ}
@@ -10,7 +10,6 @@ use Rattle.prices.specs.PriceLaws.{same_price}
 use Rattle.assignment_problem.specs.Choice.{cell_at}
 use Rattle.shown.specs.Shown.{equal_where_chosen}
 use Rattle.shown.specs.Fits.{price_at, column_of, few_cells, place_in}
-use borrow.Author.Rules.{rules}
 use Rattle.shown.proofs.equal_where_chosen.Goals as goal
 
 pub loop-i-init : goal.loop-i-init

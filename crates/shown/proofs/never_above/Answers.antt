@@ -1,6 +1,6 @@
 -- shown::never_above meets its contract.
-use Prim.Native.Nat.{ℕ, ◌≤◌, ◌-◌}
-use mathlib.Core.Path.{◌≡◌, refl, ap}
+use Prim.Native.Nat.{ℕ}
+use mathlib.Core.Path.{refl, ap}
 use mathlib.Core.Bool.{Bool, ◌&&◌}
 use native.Mathlib.Omega.{arith}
 use Rattle.laws.specs.Folds.{every, every_step, ended}
@@ -8,7 +8,6 @@ use Rattle.prices.specs.Price.{within}
 use Rattle.assignment_problem.specs.Choice.{cell_at}
 use Rattle.shown.specs.Shown.{never_above}
 use Rattle.shown.specs.Fits.{price_at}
-use borrow.Author.Rules.{rules}
 use Rattle.shown.proofs.never_above.Goals as goal
 
 pub loop-i-init : goal.loop-i-init

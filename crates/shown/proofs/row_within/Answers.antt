@@ -1,6 +1,6 @@
 -- shown::row_within meets its contract.
-use Prim.Native.Nat.{ℕ, ◌≤◌, ◌-◌}
-use mathlib.Core.Path.{◌≡◌, refl, ap, ap₂, ◌∙◌}
+use Prim.Native.Nat.{ℕ}
+use mathlib.Core.Path.{refl, ap, ap₂, ◌∙◌}
 use mathlib.Core.Bool.{Bool, ◌&&◌}
 use lib.IntN.{ℤ}
 use native.Mathlib.Omega.{arith}
@@ -9,7 +9,6 @@ use Rattle.prices.specs.Price.{in_range, within}
 use Rattle.prices.specs.PriceLaws.{same_price}
 use Rattle.assignment_problem.specs.Choice.{cell_at}
 use Rattle.shown.specs.Fits.{price_at, few_cells, place_in}
-use borrow.Author.Rules.{rules}
 use Rattle.shown.proofs.row_within.Goals as goal
 
 pub loop-j-init : goal.loop-j-init

@@ -1,15 +1,10 @@
 -- shown::row_within meets its contract.
-use Prim.Native.Nat.{ℕ, ◌≤◌, ◌-◌}
-use mathlib.Core.Path.{◌≡◌, refl, ap, ap₂, ◌∙◌}
-use mathlib.Core.Bool.{Bool, ◌&&◌}
-use lib.IntN.{ℤ}
-use native.Mathlib.Omega.{arith}
-use Rattle.laws.specs.Folds.{every, every_step, ended}
-use Rattle.prices.specs.Price.{in_range, within}
-use Rattle.prices.specs.PriceLaws.{same_price}
+use Prim.Native.Nat.{◌≤◌, ◌-◌}
+use mathlib.Core.Path.{◌≡◌}
+use Rattle.laws.specs.Folds.{every}
+use Rattle.prices.specs.Price.{within}
 use Rattle.assignment_problem.specs.Choice.{cell_at}
-use Rattle.shown.specs.Fits.{price_at, few_cells, place_in}
-use borrow.Author.Rules.{rules}
+use Rattle.shown.specs.Fits.{price_at}
 use Rattle.shown.proofs.row_within.Given as goal
 
 abbrev pub invariant-loop-j : goal.invariant-loop-j

@@ -2,7 +2,6 @@
 use mathlib.Core.Path.{ap₂}
 use mathlib.Core.Bool.{Bool, ◌&&◌}
 use Rattle.shown.specs.Shown.{shown}
-use borrow.Author.Rules.{rules}
 use Rattle.shown.proofs.shows.Goals as goal
 
 pub never_above-under-requires : goal.never_above-under-requires

@@ -1,12 +1,9 @@
 -- shown::taken meets its contract.
-use Prim.Native.Nat.{ℕ, ◌≤◌, ◌-◌}
-use mathlib.Core.Path.{◌≡◌, refl}
-use mathlib.Core.List.{List}
-use native.Mathlib.Omega.{arith}
+use Prim.Native.Nat.{◌≤◌, ◌-◌}
+use mathlib.Core.Path.{◌≡◌}
 use lib.Dec.{eqb}
-use Rattle.laws.specs.Folds.{any, any_step, ended}
+use Rattle.laws.specs.Folds.{any}
 use Rattle.shown.specs.Fits.{column_of}
-use borrow.Author.Rules.{rules}
 use Rattle.shown.proofs.taken.Given as goal
 
 abbrev pub invariant-loop-i : goal.invariant-loop-i

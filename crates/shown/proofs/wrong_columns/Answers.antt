@@ -1,14 +1,13 @@
 -- shown::wrong_columns meets its contract.
-use Prim.Native.Nat.{ℕ, ◌≤◌, ◌-◌}
-use mathlib.Core.Path.{◌≡◌, refl, ap}
+use Prim.Native.Nat.{ℕ}
+use mathlib.Core.Path.{refl, ap}
 use mathlib.Core.Bool.{Bool, ◌||◌}
 use native.Mathlib.Omega.{arith}
 use lib.Dec.{leb}
 use Rattle.laws.specs.Folds.{any, any_step, ended}
 use Rattle.shown.specs.Shown.{taken}
 use Rattle.shown.specs.Fits.{column_of}
-use Rattle.shown.specs.Refusals.{outside, repeats, refusal19, other_number, same_number}
-use borrow.Author.Rules.{rules}
+use Rattle.shown.specs.Refusals.{outside, repeats, other_number, same_number}
 use Rattle.shown.proofs.wrong_columns.Goals as goal
 
 pub returns-then-columns-n : goal.returns-then-columns-n

@@ -2,7 +2,6 @@
 use mathlib.Core.Path.{ap₂}
 use mathlib.Core.Bool.{Bool, ◌||◌}
 use Rattle.shown.specs.Refusals.{refusal20}
-use borrow.Author.Rules.{rules}
 use Rattle.shown.proofs.wrong_prices.Goals as goal
 
 pub returns : goal.returns

@@ -1,7 +1,6 @@
 -- square_root::even meets its contract.
 use native.Mathlib.Omega.{arith}
 use Rattle.square_root.specs.Spread.{even_power, odd_power}
-use borrow.Author.Rules.{rules}
 use Rattle.square_root.proofs.even.Goals as goal
 
 pub returns-then-k-eq0 : goal.returns-then-k-eq0

@@ -2,7 +2,6 @@
 use native.Mathlib.Omega.{arith}
 use Rattle.square_root.specs.Kept.{root_most, root_up}
 use Rattle.square_root.proofs.Ways.{way_up, way_down}
-use borrow.Author.Rules.{rules}
 use Rattle.square_root.proofs.root_bits.Goals as goal
 
 -- moved up, and not

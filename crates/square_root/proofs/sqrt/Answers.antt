@@ -5,7 +5,6 @@ use denote.Floats.{passes}
 use Rattle.fp.specs.Num.{finite}
 use Rattle.square_root.specs.Kept.{some_significand, root_is}
 use Rattle.square_root.proofs.Ways.{number_bits, number, way_infinite, way_zero, way_none}
-use borrow.Author.Rules.{rules}
 use Rattle.square_root.proofs.sqrt.Goals as goal
 use Rattle.square_root.proofs.sqrt.Goals.{Then-finite}
 

@@ -1,11 +1,8 @@
 -- square_root::unpack meets its contract.
 use native.Mathlib.Omega.{arith}
-use mathlib.Core.Path.{◌∙◌, sym, ap, subst}
 use lib.Count.{count_leading_zeros, leading_le}
-use Rattle.rounding.specs.Unpack.{significand_of, exponent_of, significand_lt, exponent_lt}
-use Rattle.square_root.specs.Steps.{Evened}
+use Rattle.rounding.specs.Unpack.{significand_of, significand_lt, exponent_lt}
 use Rattle.square_root.specs.Spread.{Spread, spread, evened_up}
-use borrow.Author.Rules.{rules}
 use Rattle.square_root.proofs.unpack.Goals as goal
 use Rattle.square_root.proofs.unpack.Goals.{After-exponent-i}
 

@@ -1,6 +1,6 @@
 -- square_root::whole_root meets its contract.
 use native.Mathlib.Omega.{arith}
-use Rattle.square_root.proofs.Turns.{Turn, turn_first, turn_one, turn_none, turn_last, turn_same}
+use Rattle.square_root.proofs.Turns.{turn_first, turn_one, turn_none, turn_last, turn_same}
 use Rattle.square_root.proofs.whole_root.Goals as goal
 use Rattle.square_root.proofs.whole_root.Goals.{then-t-p, else-t-p}
 

@@ -1,7 +1,6 @@
 -- square_root::whole_root meets its contract.
-use native.Mathlib.Omega.{arith}
 use Prim.Native.Nat.{◌-◌}
-use Rattle.square_root.proofs.Turns.{Turn, turn_first, turn_one, turn_none, turn_last, turn_same}
+use Rattle.square_root.proofs.Turns.{Turn}
 use Rattle.square_root.proofs.whole_root.Given as goal
 
 abbrev pub invariant-loop-i : goal.invariant-loop-i

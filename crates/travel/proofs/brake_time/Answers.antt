@@ -1,7 +1,6 @@
 -- travel::brake_time meets its contract.
 use mathlib.Core.Path.{refl}
 use Rattle.travel.specs.Ramps.{brake_time}
-use borrow.Author.Rules.{rules}
 use Rattle.travel.proofs.brake_time.Goals as goal
 
 pub returns : goal.returns

@@ -1,7 +1,6 @@
 -- travel::clamp_speed meets its contract.
 use mathlib.Core.Path.{refl}
 use Rattle.travel.specs.Ramps.{clamp_speed}
-use borrow.Author.Rules.{rules}
 use Rattle.travel.proofs.clamp_speed.Goals as goal
 
 pub returns-then-speed : goal.returns-then-speed

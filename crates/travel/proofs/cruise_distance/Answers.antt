@@ -1,7 +1,6 @@
 -- travel::cruise_distance meets its contract.
 use mathlib.Core.Path.{refl}
 use Rattle.travel.specs.Ramps.{cruise_distance}
-use borrow.Author.Rules.{rules}
 use Rattle.travel.proofs.cruise_distance.Goals as goal
 
 pub returns : goal.returns

@@ -1,7 +1,6 @@
 -- travel::in_domain meets its contract.
 use mathlib.Core.Path.{refl}
 use Rattle.travel.specs.Domain.{in_domain}
-use borrow.Author.Rules.{rules}
 use Rattle.travel.proofs.in_domain.Goals as goal
 
 pub returns : goal.returns

@@ -1,7 +1,6 @@
 -- travel::is_rate meets its contract.
 use mathlib.Core.Path.{refl}
 use Rattle.travel.specs.Domain.{is_rate}
-use borrow.Author.Rules.{rules}
 use Rattle.travel.proofs.is_rate.Goals as goal
 
 pub returns : goal.returns

@@ -1,7 +1,6 @@
 -- travel::peak_speed meets its contract.
 use mathlib.Core.Path.{refl}
 use Rattle.travel.specs.Ramps.{peak_speed}
-use borrow.Author.Rules.{rules}
 use Rattle.travel.proofs.peak_speed.Goals as goal
 
 pub returns : goal.returns

@@ -1,7 +1,6 @@
 -- travel::ramp_distance meets its contract.
 use mathlib.Core.Path.{refl}
 use Rattle.travel.specs.Ramps.{ramp_distance}
-use borrow.Author.Rules.{rules}
 use Rattle.travel.proofs.ramp_distance.Goals as goal
 
 pub returns : goal.returns

@@ -1,7 +1,6 @@
 -- travel::run_time meets its contract.
 use mathlib.Core.Path.{refl}
 use Rattle.travel.specs.Ramps.{run_time}
-use borrow.Author.Rules.{rules}
 use Rattle.travel.proofs.run_time.Goals as goal
 
 pub returns-then-brake_distance-distance : goal.returns-then-brake_distance-distance

@@ -1,7 +1,6 @@
 -- travel::seconds meets its contract.
 use mathlib.Core.Path.{refl}
 use Rattle.travel.specs.Ramps.{seconds}
-use borrow.Author.Rules.{rules}
 use Rattle.travel.proofs.seconds.Goals as goal
 
 pub returns-then-no_run : goal.returns-then-no_run

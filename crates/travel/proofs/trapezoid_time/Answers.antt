@@ -1,7 +1,6 @@
 -- travel::trapezoid_time meets its contract.
 use mathlib.Core.Path.{refl}
 use Rattle.travel.specs.Ramps.{trapezoid_time}
-use borrow.Author.Rules.{rules}
 use Rattle.travel.proofs.trapezoid_time.Goals as goal
 
 pub returns : goal.returns

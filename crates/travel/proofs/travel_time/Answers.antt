@@ -1,7 +1,6 @@
 -- travel::travel_time meets its contract.
 use mathlib.Core.Path.{refl}
 use Rattle.travel.specs.Answers.{travel_time_of}
-use borrow.Author.Rules.{rules}
 use Rattle.travel.proofs.travel_time.Goals as goal
 
 pub returns-then-in_domain : goal.returns-then-in_domain

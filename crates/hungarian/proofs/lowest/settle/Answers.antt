@@ -1,7 +1,7 @@
 -- hungarian::lowest::settle meets its contract.
 use Rattle.std.proofs.Common.{◌≡◌, ℕ, subst, arith}
 use Rattle.assignment_problem.specs.Choice.{cell_at}
-use Rattle.assignment_problem.specs.Lowest.{lowest_tab}
+use Rattle.assignment_problem.proofs.Lowest.{lowest_tab}
 use Rattle.alternating_tree.specs.Lists.{at}
 use Rattle.equality_graph.specs.Settled.{Settled, settle_done}
 use Rattle.hungarian.proofs.lowest.settle.Goals as goal

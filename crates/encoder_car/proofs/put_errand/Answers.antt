@@ -1,0 +1,17 @@
+-- encoder_car::put_errand meets its contract.
+use Rattle.encoder.specs.Encoded.{fields_put}
+use borrow.Author.Rules.{rules}
+use Rattle.encoder_car.proofs.put_errand.Goals as goal
+
+pub returns : goal.returns
+unfolding fields_put
+returns c =
+    rw (
+      c.put_optional.ensures,
+      c.put-4.ensures,
+      c.phase_stop.ensures,
+      c.put-3.ensures,
+      c.phase_code.ensures,
+      c.put-2.ensures,
+      c.put.ensures,
+    )

@@ -1,0 +1,21 @@
+-- weight_store::disagrees_earlier meets its contract.
+use Prim.Native.Nat.{ℕ, ◌≤◌, ◌-◌}
+use Rattle.laws.specs.Folds.{any, any_at, any_no, ended}
+use Rattle.weight_store.specs.Keys.{held_entry}
+use Rattle.weight_store.specs.Refusals.{disagree, disagrees_earlier}
+use borrow.Author.Rules.{rules}
+use mathlib.Core.Bool.{Bool, false}
+use mathlib.Core.List.{List}
+use mathlib.Core.Path.{◌≡◌, refl, sym, ◌∙◌}
+use native.Mathlib.Omega.{arith}
+use Rattle.weight_store.proofs.disagrees_earlier.Given as goal
+
+-- record i agrees with j but in value
+abbrev pub here : List ℕ → List ℕ → ℕ → ℕ → Bool
+here keys values j i = disagree (held_entry keys values i) (held_entry keys values j)
+
+abbrev pub invariant-loop-i : goal.invariant-loop-i
+invariant-loop-i l = (l.i ≤ l.j) × (false ≡ any (here l.keys l.values l.j) l.i)
+
+abbrev pub decreases-loop-i : goal.decreases-loop-i
+decreases-loop-i l = l.j - l.i

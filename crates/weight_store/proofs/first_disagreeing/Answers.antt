@@ -1,0 +1,44 @@
+-- weight_store::first_disagreeing meets its contract.
+use Prim.Native.Nat.{◌≤◌, ◌-◌}
+use Rattle.laws.specs.First.{first_at, first_end}
+use Rattle.laws.specs.Folds.{any, any_no, ended}
+use Rattle.weight_store.specs.Keys.{held_entry}
+use Rattle.weight_store.specs.Refusals.{disagrees_earlier, first_disagreeing}
+use borrow.Author.Rules.{rules}
+use mathlib.Core.Bool.{false}
+use mathlib.Core.Path.{◌≡◌, refl, sym, ◌∙◌}
+use native.Mathlib.Omega.{arith}
+use Rattle.weight_store.proofs.first_disagreeing.Goals as goal
+
+pub loop-j-init : goal.loop-j-init
+unfolding any
+loop-j-init c = (omega arith, refl)
+
+pub disagrees_earlier-requires : goal.disagrees_earlier-requires
+disagrees_earlier-requires c =
+    let p = c.requires in
+    (omega (arith, p.0, c.loop-j-test.true), omega (arith, p.1, c.loop-j-test.true))
+
+pub returns-then-disagrees_earlier : goal.returns-then-disagrees_earlier
+unfolding first_disagreeing
+returns-then-disagrees_earlier c =
+    let a = c.args in
+    let l = c.loop-j in
+    sym (first_at (disagrees_earlier (held_entry a.keys.now a.values.now)) a.n l.j c.loop-j-test.true (sym l.invariant.1)
+    (sym c.disagrees_earlier.ensures ∙ c.if-disagrees_earlier.true))
+
+pub loop-j-preserved : goal.loop-j-preserved
+loop-j-preserved c =
+    let a = c.args in
+    let l = c.loop-j in (
+      omega arith,
+      any_no (disagrees_earlier (held_entry a.keys.now a.values.now)) l.j (sym c.disagrees_earlier.ensures ∙ c.if-disagrees_earlier.false) l.invariant.1,
+    )
+
+pub returns : goal.returns
+unfolding first_disagreeing
+returns c =
+    let a = c.args in
+    let l = c.loop-j in
+    let p = disagrees_earlier (held_entry a.keys.now a.values.now) in
+    sym (first_end p a.n (sym (ended (any p) l.invariant.0 c.loop-j-test.false l.invariant.1)))

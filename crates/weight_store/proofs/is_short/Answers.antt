@@ -1,0 +1,7 @@
+-- weight_store::is_short meets its contract.
+use Rattle.weight_store.specs.Passed.{short_bytes}
+use borrow.Author.Rules.{rules}
+use Rattle.weight_store.proofs.is_short.Goals as goal
+
+pub returns : goal.returns
+returns c = short_bytes _ _

@@ -1,0 +1,12 @@
+-- writer::put_demand meets its contract.
+use borrow.Author.Rules.{rules}
+use Rattle.writer.proofs.put_demand.Goals as goal
+
+pub returns-then-is_written : goal.returns-then-is_written
+returns-then-is_written c = (
+  c.answer-r.ensures,
+  rw (← c.is_written.ensures, c.if-is_written.true, c.put_demand.ensures, c.end_of.ensures),
+)
+
+pub returns-else-is_written : goal.returns-else-is_written
+returns-else-is_written c = (c.answer-r.ensures, rw (← c.is_written.ensures, c.if-is_written.false))

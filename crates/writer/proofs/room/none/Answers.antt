@@ -1,0 +1,6 @@
+-- writer::room::none meets its contract.
+use borrow.Author.Rules.{rules}
+use Rattle.writer.proofs.room.none.Goals as goal
+
+pub returns : goal.returns
+returns c = rw c.across_bits.ensures
