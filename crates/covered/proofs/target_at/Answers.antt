@@ -10,8 +10,7 @@ use borrow.Author.Rules.{rules}
 use mathlib.Core.Bool.{Bool, true, false}
 use mathlib.Core.List.{List}
 use mathlib.Core.Path.{◌≡◌}
-use Rattle.covered.proofs.target_at.Statement.{statement}
-use Rattle.covered.proofs.target_at.Tie as tie
+use Rattle.covered.proofs.target_at.Goals as goal
 
 serving : (s : List ℕ) (at w : ℕ) {code stop target : ℕ} {phase : Phase} {serves : Bool} →
     code ≡ read (from s at) car_phase_field →
@@ -35,19 +34,16 @@ not_serving : (s : List ℕ) (at w : ℕ) {code stop : ℕ} {phase : Phase} {ser
 unfolding car_of
 not_serving s at w code_is stop_is phase-is serves_is is = rw (← code_is, ← stop_is, ← phase-is, ← serves_is, is)
 
-returns : tie.Need-returns
-returns c w =
-    let r = c.before.before.before in
-    let a = r.before.before.before.before.args in
-    serving a.s.now a.at w r.before.before.field.ensures.is r.before.field32.ensures r.of_code.ensures.is
-    c.before.before.servicing.ensures c.before.if1.true c.field322.ensures
+pub returns-then-servicing : goal.returns-then-servicing
+returns-then-servicing c w =
+    let r = c in
+    let a = r.args in
+    serving a.s.now a.at w r.field.ensures.is r.field32.ensures r.of_code-phase.ensures.is
+    c.servicing.ensures c.if-servicing.true c.field32-then-servicing.ensures
 
-returns-2 : tie.Need-returns-2
-returns-2 c w =
-    let r = c.before.before in
-    let a = r.before.before.before.before.args in
-    not_serving a.s.now a.at w r.before.before.field.ensures.is r.before.field32.ensures r.of_code.ensures.is
-    c.before.servicing.ensures c.if1.false
-
-pub target_at_spec : {M : Type 1} → statement M
-target_at_spec = tie.close (tie.spec (λ c κs. search rules) (λ c κs. search rules) (λ c κs. search rules) (λ c κs. search rules) (λ c κs. search rules) returns returns-2)
+pub returns-else-servicing : goal.returns-else-servicing
+returns-else-servicing c w =
+    let r = c in
+    let a = r.args in
+    not_serving a.s.now a.at w r.field.ensures.is r.field32.ensures r.of_code-phase.ensures.is
+    c.servicing.ensures c.if-servicing.false

@@ -14,34 +14,27 @@ use mathlib.Core.Path.{◌≡◌, refl, sym, ap, ◌∙◌}
 use mathlib.Core.List.{List}
 use Rattle.components.specs.Sheet.{Sheet}
 use Rattle.laws.specs.Folds.{any, none_any}
-use Rattle.covered.proofs.closed_stops.Statement.{statement}
-use Rattle.covered.proofs.closed_stops.Tie as tie
+use Rattle.covered.proofs.closed_stops.Goals as goal
 
 none : (s : Sheet) (names : List ℕ) → s.closures ≡ 0 → 0 ≡ built (closed_in s names) 64
 unfolding closed_in any
 none s names e = sym (none_built (closed_in s names) 64 (none_any (closed_in s names) 64 (λ j l. rw e refl)))
 
-returns : tie.Need-returns
+pub returns-then-n-eq0 : goal.returns-then-n-eq0
 unfolding sheet_of
-returns c = let a = c.before.before.before.before.args in none (sheet_of a.s.now a.c) a.names.now c.if1.true
+returns-then-n-eq0 c = let a = c.args in none (sheet_of a.s.now a.c) a.names.now c.if-n-eq0.true
 
-returns-2 : tie.Need-returns-2
+pub returns : goal.returns
 unfolding sheet_of
-returns-2 c =
-    let a = c.before.before.before.before.before.before.before.before.before.before.args in
+returns c =
+    let a = c.args in
     let b = a.s.now in
-    let at = c.before.before.before.before.before.closures-from in
-    let filled = c.before.before.before.fill32 in
-    let named-are : c.named-stops.result ≡ built (named _ a.c.closures a.names.now 64) 64 = c.named-stops.ensures in
+    let at = c.closures_from in
+    let filled = c.fill32 in
+    let named-are : c.named_stops.result ≡ built (named _ a.c.closures a.names.now 64) 64 = c.named_stops.ensures in
     named-are
     ∙ built_cong (named _ a.c.closures a.names.now 64) (closed_in (sheet_of b a.c) a.names.now) 64
     (closed_named (sheet_of b a.c) _ a.names.now
     (λ x l.
     held (λ k. read (from b (at.result + record_length 0 Closed * k)) closed_stop_field) a.c.closures _ _ filled.ensures.1 0 x l
     ∙ ap (λ (z : ℕ). read (from b (z + record_length 0 Closed * x)) closed_stop_field) at.ensures))
-
-pub closed_stops_spec : {M : Type 1} → statement M
-closed_stops_spec =
-    tie.close
-    (tie.spec (λ c. search rules) returns (λ c κs. search rules) (λ c. search rules) (λ c κs. search rules) (λ c. search rules) (λ c κs. search rules)
-    returns-2)
