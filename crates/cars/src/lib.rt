@@ -1,4 +1,6 @@
 // The idle cars of a sheet, decoded four at a time into an array that a pass lends.
+#![tactic(auto)]
+
 ghost use Rattle.std.specs.Prelude.{◌≡◌, cond, ℕ, ◌<◌, ◌≤◌, ◌%◌, min, eqb, get_or};
 ghost use Rattle.layout.specs.Offsets.{Small};
 ghost use Rattle.layout.specs.Records.{sheet_of};

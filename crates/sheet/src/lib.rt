@@ -1,4 +1,6 @@
 // The reader: every byte string is a sheet or one numbered refusal. An accepted sheet is its bytes and its counts; a record is decoded in place.
+#![tactic(auto)]
+
 ghost use Rattle.std.specs.Prelude.{◌≡◌, true, ◌+◌, ◌<◌, length};
 ghost use Rattle.bits.specs.Field.{field_at, IsField};
 ghost use Rattle.layout.specs.declared.Reading.TheVariants.{Accepted};

@@ -6,8 +6,7 @@ use lib.Bits.{bit_and, and_mask}
 use mathlib.Core.List.{List}
 use mathlib.Core.Path.{◌≡◌, ap, ◌∙◌}
 use native.Mathlib.Omega.{arith}
-use Rattle.sheet.proofs.front_at.Statement.{statement}
-use Rattle.sheet.proofs.front_at.Tie as tie
+use Rattle.sheet.proofs.front_at.Goals as goal
 
 -- 6 bits, the 16 after them and the 32 after those
 parts : (s : List ℕ) (at : ℕ) {front : ℕ} → front ≡ field_at s (at + 0) 54
@@ -33,11 +32,8 @@ parts s at {front} e =
       omega (arith, all, few, few-2, mask-2),
     )
 
-cast-id : tie.Need-overflow-cast-t8
-cast-id c = omega (arith, and_mask c.field.result 32)
+pub overflow_cast-result : goal.overflow_cast-result
+overflow_cast-result c = omega (arith, and_mask c.field-front.result 32)
 
-returns : tie.Need-returns
-returns c = let a = c.before.before.args in parts a.s.now a.at c.field.ensures.is
-
-pub front_at_spec : {M : Type 1} → statement M
-front_at_spec = tie.close (tie.spec (λ c κs. search rules) cast-id returns)
+pub returns : goal.returns
+returns c = let a = c.args in parts a.s.now a.at c.field-front.ensures.is

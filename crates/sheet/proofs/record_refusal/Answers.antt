@@ -12,8 +12,7 @@ use lib.Dec.{eqb, ltb}
 use mathlib.Core.Bool.{Bool, not, ◌&&◌, ◌||◌}
 use mathlib.Core.List.{List}
 use mathlib.Core.Path.{◌≡◌}
-use Rattle.sheet.proofs.record_refusal.Statement.{statement}
-use Rattle.sheet.proofs.record_refusal.Tie as tie
+use Rattle.sheet.proofs.record_refusal.Goals as goal
 
 -- the conditions as they are read, then the picks from the last to the first
 by_number : (s : List ℕ) (c : Counts) {at last code len asked body r7 r6 r5 r4 r2 : ℕ} {kind : Kind} {short full unknown : Bool} →
@@ -37,20 +36,14 @@ unfolding record_refusal first_of refusal2 refusal5 refusal6
 by_number s c at-is last_is code_is len_is kind_is short-is Asked-is Full-is body_is unknown-is is7 is6 is5 is4 is2 =
     rw (is2, is4, is5, is6, is7, unknown-is, body_is, Full-is, Asked-is, short-is, kind_is, len_is, code_is, last_is, at-is)
 
-returns : tie.Need-returns
+pub returns : goal.returns
 returns c =
-    let late = c.before.before.before.before in
-    let tests = late.before.before.before.before.before.before in
-    let start = tests.before.before.before.before.before in
+    let late = c in
+    let tests = c in
+    let start = c in
     let a = start.args in
     let p = start.requires in
-    by_number a.s.now a.c p.1 p.2 p.3 p.4 p.6 tests.before.before.past-end.ensures tests.before.body-length.ensures
-    late.before.before.is-full.ensures
-    p.7 c.before.before.before.is-unknown.ensures late.before.pick.ensures
-    late.pick2.ensures c.before.before.pick3.ensures c.before.pick4.ensures c.pick5.ensures
-
-pub record_refusal_spec : {M : Type 1} → statement M
-record_refusal_spec =
-    tie.close
-    (tie.spec (λ c. search rules) (λ c. search rules) (λ c. search rules) (λ c κs. search rules) (λ c κs. search rules) (λ c κs. search rules)
-    (λ c κs. search rules) (λ c κs. search rules) (λ c κs. search rules) (λ c κs. search rules) (λ c κs. search rules) (λ c κs. search rules) returns)
+    by_number a.s.now a.c p.1 p.2 p.3 p.4 p.6 tests.past_end-short.ensures tests.body_length.ensures
+    late.is_full.ensures
+    p.7 c.is_unknown.ensures late.pick.ensures
+    late.pick-late.ensures c.pick-2.ensures c.pick-3.ensures c.pick-4.ensures

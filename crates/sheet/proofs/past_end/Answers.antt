@@ -8,8 +8,7 @@ use lib.ListN.{length}
 use mathlib.Core.Logic.{⊎_elim}
 use mathlib.Core.Path.{◌≡◌}
 use native.Mathlib.Omega.{arith}
-use Rattle.sheet.proofs.past_end.Statement.{statement}
-use Rattle.sheet.proofs.past_end.Tie as tie
+use Rattle.sheet.proofs.past_end.Goals as goal
 
 in_bytes : (n e : ℕ) → ltb n ((e + 7) / 8) ≡ ltb (8 * n) e
 in_bytes n e =
@@ -18,8 +17,5 @@ in_bytes n e =
     (λ l. rw (le-ltb n ((e + 7) / 8) l, le-ltb (8 * n) e (omega arith)))
     (less? n ((e + 7) / 8))
 
-returns : tie.Need-returns
-returns c = let a = c.before.before.args in rw c.bytes-for.ensures (in_bytes (length a.s.now) a.e)
-
-pub past_end_spec : {M : Type 1} → statement M
-past_end_spec = tie.close (tie.spec (λ c κs. search rules) returns)
+pub returns : goal.returns
+returns c = let a = c.args in rw c.bytes_for.ensures (in_bytes (length a.s.now) a.e)

@@ -21,15 +21,7 @@ use mathlib.Core.Logic.{◌≢◌}
 use mathlib.Core.Path.{◌≡◌, refl, sym, ap, ap₂, ◌∙◌}
 use native.Mathlib.Nat.{mul-zero}
 use native.Mathlib.Omega.{arith}
-use Rattle.sheet.proofs.records.Statement.{statement}
-use Rattle.sheet.proofs.records.Tie as tie
-
-abbrev invariant-loop : tie.invariant-loop
-invariant-loop s across count c₀ at₀ last₀ stops₀ cars₀ demands₀ closures₀ left₀ c at last stops cars demands closures left =
-    Before s c at last stops cars demands closures × (records_verdict s count (none across) ≡ records_verdict s left c)
-
-abbrev decreases-loop : tie.decreases-loop
-decreases-loop s across count c₀ at₀ last₀ stops₀ cars₀ demands₀ closures₀ left₀ c at last stops cars demands closures left = left
+use Rattle.sheet.proofs.records.Goals as goal
 
 -- before the first record
 at_first_lem : (s : List ℕ) {c : Counts} {w : ℕ} (stops cars demands closures : List ℕ) → w ≡ across_bits (edition s) → c ≡ none w
@@ -104,111 +96,105 @@ module _ (s : List ℕ) (c : Counts) (at last : ℕ) (stops cars demands closure
             };
       })
 
-loop_holds : tie.Need-loop-init invariant-loop decreases-loop
-loop_holds c =
-    let start = c.before.before in
+pub loop-left-init : goal.loop-left-init
+loop-left-init c =
+    let start = c in
     let a = start.args in (
-      at_first_lem a.s.now _ _ _ _ start.requires c.none.ensures refl refl refl refl,
-      ap (λ x. records_verdict a.s.now a.count x) (sym c.none.ensures),
+      at_first_lem a.s.now _ _ _ _ start.requires c.none-c.ensures refl refl refl refl,
+      ap (λ x. records_verdict a.s.now a.count x) (sym c.none-c.ensures),
     )
 
-lent-stops : tie.Need-slice-aggregate-take-record invariant-loop decreases-loop
-lent-stops c = sym c.before.before.before.before.loop.invariant.0.stop_places
+pub slice_bounds-take_record-end : goal.slice_bounds-take_record-end
+slice_bounds-take_record-end c = sym c.loop-left.invariant.0.stop_places
 
-lent-cars : tie.Need-slice-aggregate-take-record-2 invariant-loop decreases-loop
-lent-cars c = sym c.before.before.before.before.before.loop.invariant.0.car_places
+pub slice_bounds-take_record-end-in-loop-left : goal.slice_bounds-take_record-end-in-loop-left
+slice_bounds-take_record-end-in-loop-left c = sym c.loop-left.invariant.0.car_places
 
-lent-demands : tie.Need-slice-aggregate-take-record-3 invariant-loop decreases-loop
-lent-demands c = sym c.before.before.before.before.before.before.loop.invariant.0.demand_places
+pub slice_bounds-take_record-end-in-loop-left-2 : goal.slice_bounds-take_record-end-in-loop-left-2
+slice_bounds-take_record-end-in-loop-left-2 c = sym c.loop-left.invariant.0.demand_places
 
-lent-closures : tie.Need-slice-aggregate-take-record-4 invariant-loop decreases-loop
-lent-closures c = sym c.before.before.before.before.before.before.before.loop.invariant.0.closed_places
+pub slice_bounds-take_record-end-in-loop-left-3 : goal.slice_bounds-take_record-end-in-loop-left-3
+slice_bounds-take_record-end-in-loop-left-3 c = sym c.loop-left.invariant.0.closed_places
 
-take-record-requires : tie.Need-take-record-requires invariant-loop decreases-loop
-take-record-requires c κs =
-    let k = c.before.before.before.before in
-    let front = k.before.Front-at.ensures in
-    let b = k.before.before.before.loop.invariant.0 in (
+pub take_record-n-requires : goal.take_record-n-requires
+take_record-n-requires c =
+    let k = c in
+    let front = k.front_at-front.ensures in
+    let b = k.loop-left.invariant.0 in (
       (few _ _ _ _ _ _ _ _ b).0,
       b,
       its_code _ _ _ _ _ _ _ _ b front.0.is,
       its_stated _ _ _ _ _ _ _ _ b front.1.is,
       front.1.small,
       front.2,
-      its_kind _ _ _ _ _ _ _ _ b front.0.is k.of_code.ensures.is,
+      its_kind _ _ _ _ _ _ _ _ b front.0.is k.of_code-kind.ensures.is,
     )
 
-cast-offset : tie.Need-overflow-cast-t24 invariant-loop decreases-loop
-cast-offset c =
-    let r = c.before.before.before.before.before.before.before.before.before.before in
-    omega (arith, not_far _ _ _ _ _ _ _ _ r.before.before.before.loop.invariant.0)
+pub overflow_cast-result : goal.overflow_cast-result
+overflow_cast-result c =
+    let r = c in
+    omega (arith, not_far _ _ _ _ _ _ _ _ r.loop-left.invariant.0)
 
-returns : tie.Need-returns invariant-loop decreases-loop
-returns c =
-    let n = c.before.before.before.before.before.take-record in
-    let r = c.before.before.before.before.before.before.before.before.before.before.before in
-    let l = r.before.before.loop in
-    let s = r.before.before.before.before.before.args.s.now in
-    let f : record_refusal s l.c ≢ 0 = λ e. c.if1.true (n.ensures.0 ∙ e) in
-    sym (l.invariant.1 ∙ verdict_stop s l.left l.c r.before.loop-test.true f ∙ ap₂ Refused (sym n.ensures.0) (sym l.invariant.0.starts))
+pub returns-then-n-ne0 : goal.returns-then-n-ne0
+returns-then-n-ne0 c =
+    let n = c.take_record-n in
+    let r = c in
+    let l = r.loop-left in
+    let s = r.args.s.now in
+    let f : record_refusal s l.c ≢ 0 = λ e. c.if-n-ne0.true (n.ensures.0 ∙ e) in
+    sym (l.invariant.1 ∙ verdict_stop s l.left l.c r.loop-left-test.true f ∙ ap₂ Refused (sym n.ensures.0) (sym l.invariant.0.starts))
 
-next-requires : tie.Need-next-requires invariant-loop decreases-loop
-next-requires c κs =
-    let r = c.before.before.before.before.before.before.before.before.before.before in
-    few _ _ _ _ _ _ _ _ r.before.before.before.loop.invariant.0
+pub next-c-requires : goal.next-c-requires
+next-c-requires c =
+    let r = c in
+    few _ _ _ _ _ _ _ _ r.loop-left.invariant.0
 
-add_at : tie.Need-overflow-add-at invariant-loop decreases-loop
-add_at c =
-    let r = c.before.before.before.before.before.before.before.before.before.before.before.before in
-    omega (arith, not_far _ _ _ _ _ _ _ _ r.before.before.loop.invariant.0)
+pub overflow_add-at : goal.overflow_add-at
+overflow_add-at c =
+    let r = c in
+    omega (arith, not_far _ _ _ _ _ _ _ _ r.loop-left.invariant.0)
 
-cast-at : tie.Need-overflow-cast-at invariant-loop decreases-loop
-cast-at c =
-    let r = c.before.before.before.before.before.before.before.before.before.before.before.before.before in
-    omega (arith, r.Front-at.ensures.1.small)
+pub overflow_cast-at : goal.overflow_cast-at
+overflow_cast-at c =
+    let r = c in
+    omega (arith, r.front_at-front.ensures.1.small)
 
-add-at-2 : tie.Need-overflow-add-at-2 invariant-loop decreases-loop
-add-at-2 c =
-    let r = c.before.before.before.before.before.before.before.before.before.before.before.before.before in
-    omega (arith, not_far _ _ _ _ _ _ _ _ r.before.before.loop.invariant.0, r.Front-at.ensures.1.small)
+pub overflow_add-at-in-loop-left : goal.overflow_add-at-in-loop-left
+overflow_add-at-in-loop-left c =
+    let r = c in
+    omega (arith, not_far _ _ _ _ _ _ _ _ r.loop-left.invariant.0, r.front_at-front.ensures.1.small)
 
-sub-left : tie.Need-overflow-sub-left invariant-loop decreases-loop
-sub-left c =
-    let r = c.before.before.before.before.before.before.before.before.before.before.before.before.before in
-    omega (arith, r.before.loop-test.true)
+pub overflow_sub-left : goal.overflow_sub-left
+overflow_sub-left c =
+    let r = c in
+    omega (arith, r.loop-left-test.true)
 
-loop_less : tie.Need-loop-smaller invariant-loop decreases-loop
-loop_less c =
-    let r = c.before.before.before.before.before.before.before.before.before.before.before.before.before in
-    omega (arith, r.before.loop-test.true)
+pub loop-left-smaller : goal.loop-left-smaller
+loop-left-smaller c =
+    let r = c in
+    omega (arith, r.loop-left-test.true)
 
-loop_again : tie.Need-loop-preserved invariant-loop decreases-loop
-loop_again c =
-    let d = c.before.before in
-    let n = c.before.before.before.before.before.before.before.take-record.ensures in
-    let r = c.before.before.before.before.before.before.before.before.before.before.before.before.before in
-    let l = r.before.before.loop in
+pub loop-left-preserved : goal.loop-left-preserved
+loop-left-preserved c =
+    let d = c in
+    let n = c.take_record-n.ensures in
+    let r = c in
+    let l = r.loop-left in
     let b = l.invariant.0 in
-    let front = r.Front-at.ensures in
-    let s = r.before.before.before.before.before.args.s.now in
-    let f : record_refusal s l.c ≡ 0 = sym n.0 ∙ d.if1.false in
-    let kind = its_kind _ _ _ _ _ _ _ _ b front.0.is c.before.before.before.before.before.before.before.before.before.before.before.before.of_code.ensures.is in
-    let k : c.before.next.result ≡ next l.c (kind_of (kind_at s l.c)) = c.before.next.ensures ∙ ap (next l.c) kind in (
+    let front = r.front_at-front.ensures in
+    let s = r.args.s.now in
+    let f : record_refusal s l.c ≡ 0 = sym n.0 ∙ d.if-n-ne0.false in
+    let kind = its_kind _ _ _ _ _ _ _ _ b front.0.is c.of_code-kind.ensures.is in
+    let k : c.next-c.result ≡ next l.c (kind_of (kind_at s l.c)) = c.next-c.ensures ∙ ap (next l.c) kind in (
       after _ _ _ _ _ _ _ _ b (clean _ _ f) (its_code _ _ _ _ _ _ _ _ b front.0.is) (its_stated _ _ _ _ _ _ _ _ b front.1.is) front.2 kind
-          d.if1.false
-          c.before.next.ensures
+          d.if-n-ne0.false
+          c.next-c.ensures
           n.1 n.2 n.3 n.4,
-      l.invariant.1 ∙ verdict_on s l.left l.c r.before.loop-test.true f ∙ ap (records_verdict s (l.left - 1)) (sym k),
+      l.invariant.1 ∙ verdict_on s l.left l.c r.loop-left-test.true f ∙ ap (records_verdict s (l.left - 1)) (sym k),
     )
 
-tail-requires : tie.Need-tail-requires invariant-loop decreases-loop
-tail-requires c κs = (few _ _ _ _ _ _ _ _ c.before.loop.invariant.0).0
+pub tail-requires : goal.tail-requires
+tail-requires c = (few _ _ _ _ _ _ _ _ c.loop-left.invariant.0).0
 
-returns-2 : tie.Need-returns-2 invariant-loop decreases-loop
-returns-2 c = c.tail.ensures ∙ sym (c.before.before.loop.invariant.1 ∙ verdict_end _ _ _ c.before.loop-test.false)
-
-pub records_spec : {M : Type 1} → statement M
-records_spec =
-    tie.close
-    (tie.spec invariant-loop decreases-loop (λ c κs. search rules) loop_holds (λ c κs. search rules) (λ c κs. search rules) lent-stops lent-cars lent-demands
-    lent-closures take-record-requires cast-offset returns next-requires add_at cast-at add-at-2 sub-left loop_less loop_again tail-requires returns-2)
+pub returns : goal.returns
+returns c = c.tail.ensures ∙ sym (c.loop-left.invariant.1 ∙ verdict_end _ _ _ c.loop-left-test.false)

@@ -14,8 +14,7 @@ use mathlib.Core.List.{List}
 use mathlib.Core.Logic.{⊎_elim, ◌≢◌}
 use mathlib.Core.Path.{◌≡◌, refl}
 use native.Mathlib.Omega.{arith}
-use Rattle.sheet.proofs.tail_fits.Statement.{statement}
-use Rattle.sheet.proofs.tail_fits.Tie as tie
+use Rattle.sheet.proofs.tail_fits.Goals as goal
 
 -- another length than the last record leaves
 other_length : (s : List ℕ) (c : Counts) {at bytes : ℕ} →
@@ -54,17 +53,14 @@ same_length s c {at} {bytes} {width} {bits} at-is bytes-are same width_is bits_a
     )
     refl
 
-returns : tie.Need-returns
+pub returns-then-s-bytes_for : goal.returns-then-s-bytes_for
+returns-then-s-bytes_for c =
+    let a = c.args in
+    other_length a.s.now a.c c.end_of-at.ensures c.bytes_for.ensures c.if-s-bytes_for.true
+
+pub returns : goal.returns
 returns c =
-    let a = c.before.before.before.before.args in
-    other_length a.s.now a.c c.before.before.end_of_lem.ensures c.before.bytes-for.ensures c.if1.true
-
-returns-2 : tie.Need-returns-2
-returns-2 c =
-    let ends = c.before.before in
-    let a = ends.before.before.before.before.args in
-    same_length a.s.now a.c ends.before.before.end_of_lem.ensures ends.before.bytes-for.ensures ends.if1.false
-    c.before.padding.ensures c.field.ensures.is
-
-pub tail_fits_spec : {M : Type 1} → statement M
-tail_fits_spec = tie.close (tie.spec (λ c κs. search rules) (λ c κs. search rules) returns (λ c κs. search rules) (λ c κs. search rules) returns-2)
+    let ends = c in
+    let a = ends.args in
+    same_length a.s.now a.c ends.end_of-at.ensures ends.bytes_for.ensures ends.if-s-bytes_for.false
+    c.padding.ensures c.field.ensures.is

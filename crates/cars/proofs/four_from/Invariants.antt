@@ -1,0 +1,18 @@
+-- cars::four_from meets its contract.
+use Prim.Native.Nat.{ℕ, ◌+◌, ◌≤◌, ◌-◌, min}
+use Rattle.cars.specs.Cars.{blank, four_from}
+use Rattle.laws.specs.Tables.{tab, tab_next}
+use Rattle.layout.specs.Records.{sheet_of}
+use borrow.Author.Rules.{rules}
+use lib.ListN.{length, get_or, drop, replicate, length-set}
+use mathlib.Core.List.{◌++◌}
+use mathlib.Core.Path.{◌≡◌, refl, ap, ◌∙◌}
+use native.Mathlib.Omega.{arith}
+use Rattle.cars.proofs.four_from.Given as goal
+
+abbrev pub invariant-loop-k : goal.invariant-loop-k
+invariant-loop-k l =
+    (l.k ≤ l.n) × (length l.cars ≡ 4) × (l.cars ≡ tab (λ i. (sheet_of l.s l.c).car (get_or l.idle.at (l.first + i) 0)) l.k ++ drop l.k (replicate 4 blank))
+
+abbrev pub decreases-loop-k : goal.decreases-loop-k
+decreases-loop-k l = l.n - l.k
