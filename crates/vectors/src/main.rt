@@ -2,6 +2,8 @@
 //
 // Where the vectors cannot be read or a line of the report cannot be written, `main` ends with that error; a line before those is passed over where it
 // cannot be written.
+#![tactic(auto)]
+
 ghost use Rattle.std.specs.Prelude.{◌≡◌, ◌+◌, ◌≤◌, ◌<◌, length};
 ghost use Rattle.laws.specs.Bools.{bit};
 ghost use Rattle.vectors.specs.declared.Vector.TheVariants.{Scale, Field};
