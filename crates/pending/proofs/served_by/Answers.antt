@@ -4,8 +4,7 @@ use Rattle.components.specs.declared.Line.{Line}
 use lib.Dec.{eqb}
 use mathlib.Core.Bool.{Bool, true, false, ◌||◌, cond}
 use mathlib.Core.Path.{◌≡◌}
-use Rattle.pending.proofs.served_by.Statement.{statement}
-use Rattle.pending.proofs.served_by.Tie as tie
+use Rattle.pending.proofs.served_by.Goals as goal
 
 wanted : (line : Line) (every : Bool) (id : ℕ) →
     (every || eqb line.id id) ≡ true →
@@ -17,11 +16,8 @@ not_wanted : (line : Line) (every : Bool) (id : ℕ) →
     0 ≡ cond (every || eqb line.id id) line.serves 0
 not_wanted line every id is = rw is
 
-returns : tie.Need-returns
-returns c = let a = c.before.before.args in wanted a.line a.every a.id c.if1.true
+pub returns-then-every-line : goal.returns-then-every-line
+returns-then-every-line c = let a = c.args in wanted a.line a.every a.id c.if-every-line.true
 
-returns-2 : tie.Need-returns-2
-returns-2 c = let a = c.before.before.args in not_wanted a.line a.every a.id c.if1.false
-
-pub served_by_spec : {M : Type 1} → statement M
-served_by_spec = tie.close (tie.spec returns returns-2)
+pub returns-else-every-line : goal.returns-else-every-line
+returns-else-every-line c = let a = c.args in not_wanted a.line a.every a.id c.if-every-line.false
