@@ -5,13 +5,13 @@
 // the choice's columns and total, and each matrix has one line, in order (specs/Once.antt). No contract can say what is written to a file: that
 // `main` writes that text to standard output is tested, not proved.
 ghost use Rattle.std.specs.Prelude.{◌≡◌, ◌++◌, ◌+◌, ◌≤◌, ◌<◌, length, drop};
-ghost use Rattle.io.specs.Counts.{IsPrefixLen as Counted};
+ghost use Rattle.text.specs.Counts.{IsPrefixLen as Counted};
 ghost use Rattle.text.specs.Text.{Put};
 ghost use Rattle.every_matrix.specs.EveryMatrix.{matrix_of, line_text, line_of, every_matrix};
 ghost use Rattle.every_matrix.specs.Laws.{Digits};
 
-use libc::{STDERR_FILENO, STDOUT_FILENO};
 use plain_matcher::{Columns, Plain};
+use std::io;
 
 // The cells of matrix k: its six digits in base 3.
 fn matrix(k: u64) -> [u64; 6]
@@ -89,13 +89,11 @@ fn lines(out: &mut [u8; 65536]) -> usize
     put_lines(out)
 }
 
-fn main() {
-    let mut out = io::large_buffer();
+fn main(rt: HostRuntime) -> io::Result<()> {
+    let mut out = [0u8; 65536];
     let n = lines(&mut out);
-    if !io::write_all(STDOUT_FILENO, &out[..n]) {
-        io::write_all(
-            STDERR_FILENO,
-            b"every_matrix: standard output cannot be written\n",
-        );
+    if rt.write_all(&out[..n]).is_err() {
+        eprintln!(rt; "every_matrix: standard output cannot be written")?;
     }
+    Ok(())
 }

@@ -5,7 +5,7 @@
 // bytes (`printed_first` of specs/LineLaws.antt), so the rest is not read. No contract can say what is read from a file or written to one: that
 // `main` hands `lines` the bytes of standard input and writes its buffer's text to standard output is tested, not proved.
 ghost use Rattle.std.specs.Prelude.{◌≡◌, ◌++◌, ◌+◌, ◌≤◌, ◌<◌, length, drop};
-ghost use Rattle.io.specs.Counts.{IsPrefixLen as Counted};
+ghost use Rattle.text.specs.Counts.{IsPrefixLen as Counted};
 ghost use Rattle.text.specs.Text.{Put};
 ghost use Rattle.layout.specs.declared.Reading.TheVariants.{Accepted};
 ghost use Rattle.layout.specs.Offsets.{Small};
@@ -18,8 +18,10 @@ ghost use Rattle.passprint.specs.LineLaws.{code_word, code_end, code_line, Answe
 
 use bench::Answer;
 use layout::{Counts, Reading};
-use libc::{STDERR_FILENO, STDIN_FILENO, STDOUT_FILENO};
 use mask::Ones;
+use std::env::FillError;
+use std::io;
+use std::rt::Env;
 
 // ` held H`, which ends the first line.
 fn held_end(out: &mut [u8], at: usize, held: u64) -> usize
@@ -221,47 +223,39 @@ fn lines(s: &[u8], out: &mut [u8; 4096]) -> usize
     }
 }
 
-fn print_lines(s: &[u8]) {
-    let mut out = io::buffer();
+fn print_lines(rt: &(impl Print + Eprint), s: &[u8]) -> io::Result<()> {
+    let mut out = [0u8; 4096];
     let n = lines(s, &mut out);
-    if !io::write_all(STDOUT_FILENO, &out[..n]) {
-        io::write_all(
-            STDERR_FILENO,
-            b"passprint: standard output cannot be written\n",
-        );
+    if rt.write_all(&out[..n]).is_err() {
+        eprintln!(rt; "passprint: standard output cannot be written")?;
     }
+    Ok(())
 }
 
-// Whether all was read that counts: the buffer is full, or the input ends here. A read that failed leaves an input that has not ended.
-fn is_read(n: usize) -> bool {
-    if n == 65536 {
-        return true;
-    }
-    let mut more = [0u8; 1];
-    libc::read(STDIN_FILENO, &mut more) == 0
-}
-
-fn usage() {
-    io::write_all(
-        STDOUT_FILENO,
+fn usage(rt: &impl Print) -> io::Result<()> {
+    rt.write_all(
         b"usage: passprint < SHEET\n\nPrints the pass over one sheet: its idle cars, pending stops, least total and held cells,\n",
-    );
-    io::write_all(
-        STDOUT_FILENO,
+    )?;
+    rt.write_all(
         b"then each idle car's stop, then each idle car's sweep and mode; or why the sheet is refused.\n",
-    );
+    )
 }
 
-fn main() {
-    if 1 < os::arg_count() {
-        usage();
-        return;
+fn has_arguments(rt: &impl Env) -> bool {
+    let mut word = [0u8; 1];
+    !matches!(rt.arg(1, &mut word), Err(FillError::NotPresent))
+}
+
+// All is read that counts where `read_full` answers a length: the buffer is full, or the input ends there. A read that failed leaves an input that has
+// not ended.
+fn main(rt: HostRuntime) -> io::Result<()> {
+    if has_arguments(&rt) {
+        return usage(&rt);
     }
-    let mut sheet = io::large_buffer();
-    let n = io::read_full(STDIN_FILENO, &mut sheet);
-    if !is_read(n) {
-        io::write_all(STDERR_FILENO, b"passprint: standard input cannot be read\n");
-        return;
+    let mut sheet = [0u8; 65536];
+    let mut input = rt.reader();
+    match lists::read_full(&mut input, &mut sheet) {
+        Ok(n) => print_lines(&rt, &sheet[..n]),
+        Err(_) => eprintln!(rt; "passprint: standard input cannot be read"),
     }
-    print_lines(&sheet[..n]);
 }

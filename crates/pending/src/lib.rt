@@ -1,4 +1,6 @@
 // The pending stops of a sheet: pending_stops_minus_covered of assignment.rs.
+#![tactic(auto)]
+
 ghost use Rattle.std.specs.Prelude.{◌≡◌, cond, ◌&&◌, ◌||◌, ◌≤◌, eqb, ltb, length};
 ghost use Rattle.layout.specs.Offsets.{Small};
 ghost use Rattle.layout.specs.Records.{from, aboard_of, demand_of, sheet_of};

@@ -7,6 +7,9 @@
 // refuses. (Every matrix of 2 cars and 3 columns with cells 0 to 2 is a line of the program every_matrix.) A case is the numbers of cars, columns and
 // places and the bytes of a cell, one byte each, the number of cells in 16 bits, and the cells; then the answer's number in 8 bits, its total in 64,
 // and a byte for what each place must hold, 99 where nothing is written. The most significant byte comes first.
+//
+// Where the list cannot be read or the last line cannot be written, `main` ends with that error; a line before that is passed over where it cannot be
+// written.
 ghost use Rattle.std.specs.Prelude.{◌≡◌, ◌+◌, ◌-◌, ◌*◌, ◌≤◌, ◌<◌, length};
 ghost use Rattle.laws.specs.Bools.{bit};
 ghost use Rattle.laws.specs.Folds.{any};
@@ -14,18 +17,18 @@ ghost use Rattle.laws.specs.Tables.{tab};
 ghost use Rattle.replay_choices.specs.Cases.{answer_of, head_at, cell_in, answer_at, broken, misplaced, blanks, apart, differ, compared_at, cut_at};
 ghost use Rattle.replay_choices.specs.Cases.{Fitting, Counted, Turned, Replayed};
 
-use libc::{STDIN_FILENO, STDOUT_FILENO};
 use matcher::Matching;
+use std::io;
 
 // 1 and the total of a choice, or 0 and 0.
-#[derive(Drop)]
+#[derive(Clone, Copy)]
 struct Answer {
     found: u64,
     total: u64,
 }
 
 // The head of a case.
-#[derive(Drop)]
+#[derive(Clone, Copy)]
 struct Case {
     cars: usize,
     columns: usize,
@@ -34,14 +37,14 @@ struct Case {
     cells: usize,
 }
 
-#[derive(Drop)]
+#[derive(Clone, Copy)]
 struct Totals {
     compared: u64,
     differ: u64,
 }
 
 // Where the next case starts, and the totals so far.
-#[derive(Drop)]
+#[derive(Clone, Copy)]
 struct Step {
     next: usize,
     totals: Totals,
@@ -186,20 +189,18 @@ fn differs(s: &[u8], at: usize, h: Case, cells: &mut [u64], places: &mut [u32]) 
 }
 
 // 1 for a case that differs, which is named, and 0 for one that does not.
-fn tally(wrong: bool, at: usize) -> u64
+fn tally(rt: &impl Print, wrong: bool, at: usize) -> u64
     ensures { result ≡ bit wrong }
 {
     if wrong {
-        io::write_all(STDOUT_FILENO, b"differs: the case at byte ");
-        io::print_decimal(STDOUT_FILENO, at as u64);
-        io::write_all(STDOUT_FILENO, b"\n");
+        let _ = println!(rt; "differs: the case at byte {at}");
         return 1;
     }
     0
 }
 
 // The case at byte at compared.
-fn compare(s: &[u8], at: usize, h: Case, t: Totals) -> Step
+fn compare(rt: &impl Print, s: &[u8], at: usize, h: Case, t: Totals) -> Step
     requires { (at < length s.now) × Fitting h (length s.now - at) × Counted at t }
     ensures { result ≡ compared_at s.now at h t }
 {
@@ -211,7 +212,7 @@ fn compare(s: &[u8], at: usize, h: Case, t: Totals) -> Step
     let mut cells = cell_buffer();
     let mut places = place_buffer();
     let wrong = differs(s, at, h, &mut cells[..count], &mut places[..lent]);
-    let one = tally(wrong, at);
+    let one = tally(rt, wrong, at);
     Step {
         next: at + 6 + count * width + 9 + lent,
         totals: Totals {
@@ -222,13 +223,11 @@ fn compare(s: &[u8], at: usize, h: Case, t: Totals) -> Step
 }
 
 // A case that is cut short ends the run, and counts as one that differs.
-fn cut(s: &[u8], at: usize, t: Totals) -> Step
+fn cut(rt: &impl Print, s: &[u8], at: usize, t: Totals) -> Step
     requires { (at < length s.now) × Counted at t }
     ensures { result ≡ cut_at s.now t }
 {
-    io::write_all(STDOUT_FILENO, b"no whole case at byte ");
-    io::print_decimal(STDOUT_FILENO, at as u64);
-    io::write_all(STDOUT_FILENO, b"\n");
+    let _ = println!(rt; "no whole case at byte {at}");
     Step {
         next: s.len(),
         totals: Totals {
@@ -238,22 +237,22 @@ fn cut(s: &[u8], at: usize, t: Totals) -> Step
     }
 }
 
-fn turn(s: &[u8], at: usize, t: Totals) -> Step
+fn turn(rt: &impl Print, s: &[u8], at: usize, t: Totals) -> Step
     requires { (at < length s.now) × Counted at t }
     ensures { Turned s.now at t result }
 {
     let left = s.len() - at;
     if left < 15 {
-        return cut(s, at, t);
+        return cut(rt, s, at, t);
     }
     let h = head_at(s, at);
     if is_broken(h, left) {
-        return cut(s, at, t);
+        return cut(rt, s, at, t);
     }
-    compare(s, at, h, t)
+    compare(rt, s, at, h, t)
 }
 
-fn run(s: &[u8]) -> Totals
+fn run(rt: &impl Print, s: &[u8]) -> Totals
     ensures { Replayed s.now result }
 {
     let mut t = Totals {
@@ -262,19 +261,17 @@ fn run(s: &[u8]) -> Totals
     };
     let mut at: usize = 0;
     while at < s.len() {
-        let next = turn(s, at, t);
+        let next = turn(rt, s, at, t);
         t = next.totals;
         at = next.next;
     }
     t
 }
 
-fn main() {
+fn main(rt: HostRuntime) -> io::Result<()> {
     let mut buffer = list_buffer();
-    let n = io::read_full(STDIN_FILENO, &mut buffer);
-    let t = run(&buffer[..n]);
-    io::print_decimal(STDOUT_FILENO, t.compared);
-    io::write_all(STDOUT_FILENO, b" matrices compared, ");
-    io::print_decimal(STDOUT_FILENO, t.differ);
-    io::write_all(STDOUT_FILENO, b" differ\n");
+    let mut input = rt.reader();
+    let n = lists::read_full(&mut input, &mut buffer)?;
+    let t = run(&rt, &buffer[..n]);
+    println!(rt; "{} matrices compared, {} differ", t.compared, t.differ)
 }

@@ -6,6 +6,9 @@
 // of columns were sent, in 1 each; the cells that are lent and those that are written, in 2 each; the answer's number in 1, its offset in 4, and 1
 // for "least" in 1. Then the sheet, the columns in 4 each, the prices of cars and those of columns in 8 each (one below zero as 2^63 and how far it
 // lies below -1), and the written cells in 8 each. The most significant byte comes first.
+//
+// Where the list cannot be read or the last line cannot be written, `main` ends with that error; a line before that is passed over where it cannot be
+// written.
 ghost use Rattle.std.specs.Prelude.{◌≡◌, ◌+◌, ◌-◌, ◌*◌, ◌≤◌, ◌<◌, length, ℤ};
 ghost use Rattle.laws.specs.Bools.{bit};
 ghost use Rattle.laws.specs.Folds.{any};
@@ -14,10 +17,10 @@ ghost use Rattle.replay_grades.specs.Cases.{answer_of, head_at, signed, column_i
 ghost use Rattle.replay_grades.specs.Cases.{end_of, cells_at, compared_at, cut_at, Small, Fitting, Lent, Counted, Turned, Replayed};
 
 use grade::Graded;
-use libc::{STDIN_FILENO, STDOUT_FILENO};
+use std::io;
 
 // The answer's number and offset, 0 where there is a grade, and 1 for "least".
-#[derive(Drop)]
+#[derive(Clone, Copy)]
 struct Answer {
     number: u64,
     offset: u64,
@@ -25,7 +28,7 @@ struct Answer {
 }
 
 // The head of a case.
-#[derive(Drop)]
+#[derive(Clone, Copy)]
 struct Case {
     bytes: usize,
     columns: usize,
@@ -38,7 +41,7 @@ struct Case {
     least: u64,
 }
 
-#[derive(Drop)]
+#[derive(Clone, Copy)]
 struct Totals {
     compared: u64,
     least: u64,
@@ -46,7 +49,7 @@ struct Totals {
 }
 
 // Where the next case starts, and the totals so far.
-#[derive(Drop)]
+#[derive(Clone, Copy)]
 struct Step {
     next: usize,
     totals: Totals,
@@ -247,13 +250,11 @@ fn differs<'a>(
 }
 
 // 1 for a case that differs, which is named, and 0 for one that does not.
-fn tally(wrong: bool, at: usize) -> u64
+fn tally(rt: &impl Print, wrong: bool, at: usize) -> u64
     ensures { result ≡ bit wrong }
 {
     if wrong {
-        io::write_all(STDOUT_FILENO, b"differs: the case at byte ");
-        io::print_decimal(STDOUT_FILENO, at as u64);
-        io::write_all(STDOUT_FILENO, b"\n");
+        let _ = println!(rt; "differs: the case at byte {at}");
         return 1;
     }
     0
@@ -274,7 +275,7 @@ fn end_of(s: &[u8], at: usize, h: Case) -> usize
 }
 
 // The case at byte at compared.
-fn compare(s: &[u8], at: usize, h: Case, t: Totals) -> Step
+fn compare(rt: &impl Print, s: &[u8], at: usize, h: Case, t: Totals) -> Step
     requires { (at < length s.now) × Fitting h (length s.now - at) × Counted at t }
     ensures { result ≡ compared_at s.now at h t }
 {
@@ -297,7 +298,7 @@ fn compare(s: &[u8], at: usize, h: Case, t: Totals) -> Step
         &mut v[..prices],
         &mut matrix[..lent],
     );
-    let one = tally(wrong, at);
+    let one = tally(rt, wrong, at);
     Step {
         next,
         totals: Totals {
@@ -309,13 +310,11 @@ fn compare(s: &[u8], at: usize, h: Case, t: Totals) -> Step
 }
 
 // A case that is cut short ends the run, and counts as one that differs.
-fn cut(s: &[u8], at: usize, t: Totals) -> Step
+fn cut(rt: &impl Print, s: &[u8], at: usize, t: Totals) -> Step
     requires { (at < length s.now) × Counted at t }
     ensures { result ≡ cut_at s.now t }
 {
-    io::write_all(STDOUT_FILENO, b"no whole case at byte ");
-    io::print_decimal(STDOUT_FILENO, at as u64);
-    io::write_all(STDOUT_FILENO, b"\n");
+    let _ = println!(rt; "no whole case at byte {at}");
     Step {
         next: s.len(),
         totals: Totals {
@@ -326,22 +325,22 @@ fn cut(s: &[u8], at: usize, t: Totals) -> Step
     }
 }
 
-fn turn(s: &[u8], at: usize, t: Totals) -> Step
+fn turn(rt: &impl Print, s: &[u8], at: usize, t: Totals) -> Step
     requires { (at < length s.now) × Counted at t }
     ensures { Turned s.now at t result }
 {
     let left = s.len() - at;
     if left < 15 {
-        return cut(s, at, t);
+        return cut(rt, s, at, t);
     }
     let h = head_at(s, at);
     if is_broken(h, left) {
-        return cut(s, at, t);
+        return cut(rt, s, at, t);
     }
-    compare(s, at, h, t)
+    compare(rt, s, at, h, t)
 }
 
-fn run(s: &[u8]) -> Totals
+fn run(rt: &impl Print, s: &[u8]) -> Totals
     ensures { Replayed s.now result }
 {
     let mut t = Totals {
@@ -351,21 +350,20 @@ fn run(s: &[u8]) -> Totals
     };
     let mut at: usize = 0;
     while at < s.len() {
-        let next = turn(s, at, t);
+        let next = turn(rt, s, at, t);
         t = next.totals;
         at = next.next;
     }
     t
 }
 
-fn main() {
+fn main(rt: HostRuntime) -> io::Result<()> {
     let mut buffer = list_buffer();
-    let n = io::read_full(STDIN_FILENO, &mut buffer);
-    let t = run(&buffer[..n]);
-    io::print_decimal(STDOUT_FILENO, t.compared);
-    io::write_all(STDOUT_FILENO, b" grades compared, ");
-    io::print_decimal(STDOUT_FILENO, t.least);
-    io::write_all(STDOUT_FILENO, b" least, ");
-    io::print_decimal(STDOUT_FILENO, t.differ);
-    io::write_all(STDOUT_FILENO, b" differ\n");
+    let mut input = rt.reader();
+    let n = lists::read_full(&mut input, &mut buffer)?;
+    let t = run(&rt, &buffer[..n]);
+    println!(rt;
+        "{} grades compared, {} least, {} differ",
+        t.compared, t.least, t.differ
+    )
 }

@@ -15,6 +15,9 @@
 // Pairs are counted from 0. It was tried that it can fail: a bit flipped in a stored number of stops, total, number of held cells, decision, cell or
 // sweep of either pass is printed with both values. Sheets that differ in a further byte, whose limits are equal though no bar is added, or the second
 // of which lacks a bar of the first, are named, and so is a list without its last byte.
+//
+// Where the list cannot be read or the last line cannot be written, `main` ends with that error; a line before that is passed over where it cannot be
+// written.
 ghost use Rattle.std.specs.Prelude.{◌≡◌, ◌+◌, ◌≤◌, ◌<◌, length};
 ghost use Rattle.laws.specs.Bools.{bit};
 ghost use Rattle.bench.specs.Answers.{total_of};
@@ -28,11 +31,11 @@ ghost use Rattle.replay_pairs.specs.Replay.{lower_at, change_at, tallied, Room, 
 
 use bench::{Answer, Answers};
 use layout::{Counts, Reading, car};
-use libc::{STDIN_FILENO, STDOUT_FILENO};
+use std::io;
 use stored_passes::{Place, Stored, Tally};
 
 // How the second sheet of a pair differs from the first: its limit is raised, or bars are added. And whether the first has a limit.
-#[derive(Drop)]
+#[derive(Clone, Copy)]
 struct Change {
     raised: bool,
     barred: bool,
@@ -40,7 +43,7 @@ struct Change {
 }
 
 // Both passes of a pair beside their cases, and whether the second total is below the first.
-#[derive(Drop)]
+#[derive(Clone, Copy)]
 struct Compared {
     first: Tally,
     second: Tally,
@@ -48,7 +51,7 @@ struct Compared {
 }
 
 // Pairs; those with the limit raised, and of them with a lower total; those with bars added, and of them under a limit and with a lower total.
-#[derive(Drop)]
+#[derive(Clone, Copy)]
 struct Totals {
     pairs: u64,
     raised: u64,
@@ -61,7 +64,7 @@ struct Totals {
 }
 
 // Where the next pair starts, and the totals so far.
-#[derive(Drop)]
+#[derive(Clone, Copy)]
 struct Step {
     next: usize,
     totals: Totals,
@@ -282,16 +285,13 @@ fn one_if(b: bool) -> u64
 }
 
 // Sheets that are no pair.
-fn report_sheets(k: u64, at: usize, pair: bool) {
+fn report_sheets(rt: &impl Print, k: u64, at: usize, pair: bool) -> io::Result<()> {
     if pair {
-        return;
+        return Ok(());
     }
-    stored_passes::print_number(b"pair ", k);
-    stored_passes::print_number(b" at byte ", at as u64);
-    io::write_all(
-        STDOUT_FILENO,
-        b": not one sheet with its limit raised, nor with bars added\n",
-    );
+    stored_passes::print_number(rt, b"pair ", k)?;
+    stored_passes::print_number(rt, b" at byte ", at as u64)?;
+    println!(rt; ": not one sheet with its limit raised, nor with bars added")
 }
 
 // One pair more, with so many cells and entries that differ.
@@ -318,15 +318,15 @@ fn tally(t: Totals, change: Change, lower: bool, cells: u64, differ: u64) -> Tot
 }
 
 // The pair of the cases at byte at and at its end, compared.
-fn compare(s: &[u8], at: usize, p: Stored, q: Stored, t: Totals) -> Step
+fn compare(rt: &impl Print, s: &[u8], at: usize, p: Stored, q: Stored, t: Totals) -> Step
     requires { (at + 2 ≤ p.end) × Inside s.now p × (p.next + 2 ≤ q.end) × Inside s.now q × Counted at t }
     ensures { Turned s.now at (compared_at s.now at p q t) result }
 {
     let change = change_at(s, at, p, q);
-    report_sheets(t.pairs, at, change.raised | change.barred);
+    let _ = report_sheets(rt, t.pairs, at, change.raised | change.barred);
     let x = run_pair(s, at, p, q, change.barred);
-    stored_passes::report(b"first of pair ", t.pairs, at, x.first);
-    stored_passes::report(b"second of pair ", t.pairs, p.next, x.second);
+    let _ = stored_passes::report(rt, b"first of pair ", t.pairs, at, x.first);
+    let _ = stored_passes::report(rt, b"second of pair ", t.pairs, p.next, x.second);
     let cells = p.size + q.size;
     let differ = x.first.differ + x.second.differ;
     Step {
@@ -336,12 +336,11 @@ fn compare(s: &[u8], at: usize, p: Stored, q: Stored, t: Totals) -> Step
 }
 
 // A pair that is cut short ends the run, and counts as a difference.
-fn cut(s: &[u8], at: usize, t: Totals) -> Step
+fn cut(rt: &impl Print, s: &[u8], at: usize, t: Totals) -> Step
     requires { (at < length s.now) × Counted at t }
     ensures { Turned s.now at (cut_at s.now t) result }
 {
-    stored_passes::print_number(b"no whole pair at byte ", at as u64);
-    io::write_all(STDOUT_FILENO, b"\n");
+    let _ = println!(rt; "no whole pair at byte {at}");
     Step {
         next: s.len(),
         totals: Totals {
@@ -358,27 +357,27 @@ fn cut(s: &[u8], at: usize, t: Totals) -> Step
 }
 
 // The pair at byte at, whose first case is whole.
-fn second(s: &[u8], at: usize, p: Stored, t: Totals) -> Step
+fn second(rt: &impl Print, s: &[u8], at: usize, p: Stored, t: Totals) -> Step
     requires { (at < length s.now) × (at + 2 ≤ p.end) × Inside s.now p × Counted at t }
     ensures { Turned s.now at (second_by (case_of s.now p.next) s.now at p t) result }
 {
     match stored_passes::case_at(s, p.next) {
-        Place::Whole(q) => compare(s, at, p, q, t),
-        Place::Cut => cut(s, at, t),
+        Place::Whole(q) => compare(rt, s, at, p, q, t),
+        Place::Cut => cut(rt, s, at, t),
     }
 }
 
-fn turn(s: &[u8], at: usize, t: Totals) -> Step
+fn turn(rt: &impl Print, s: &[u8], at: usize, t: Totals) -> Step
     requires { (at < length s.now) × Counted at t }
     ensures { Turned s.now at (turn_of s.now at t) result }
 {
     match stored_passes::case_at(s, at) {
-        Place::Whole(p) => second(s, at, p, t),
-        Place::Cut => cut(s, at, t),
+        Place::Whole(p) => second(rt, s, at, p, t),
+        Place::Cut => cut(rt, s, at, t),
     }
 }
 
-fn run(s: &[u8]) -> Totals
+fn run(rt: &impl Print, s: &[u8]) -> Totals
     ensures { Replayed s.now result }
 {
     let mut t = Totals {
@@ -393,24 +392,25 @@ fn run(s: &[u8]) -> Totals
     };
     let mut at: usize = 0;
     while at < s.len() {
-        let next = turn(s, at, t);
+        let next = turn(rt, s, at, t);
         t = next.totals;
         at = next.next;
     }
     t
 }
 
-fn main() {
+fn main(rt: HostRuntime) -> io::Result<()> {
     let mut buffer = list_buffer();
-    let n = io::read_full(STDIN_FILENO, &mut buffer);
-    let t = run(&buffer[..n]);
-    stored_passes::print_number(b"", t.pairs);
-    stored_passes::print_number(b" pairs compared: ", t.raised);
-    stored_passes::print_number(b" with the limit raised, ", t.lower);
-    stored_passes::print_number(b" of them with a lower total; ", t.barred);
-    stored_passes::print_number(b" with bars added, ", t.limited);
-    stored_passes::print_number(b" of them under a limit, ", t.fallen);
-    stored_passes::print_number(b" of them with a lower total; ", t.cells);
-    stored_passes::print_number(b" cells, ", t.differ);
-    io::write_all(STDOUT_FILENO, b" differences\n");
+    let mut input = rt.reader();
+    let n = lists::read_full(&mut input, &mut buffer)?;
+    let t = run(&rt, &buffer[..n]);
+    stored_passes::print_number(&rt, b"", t.pairs)?;
+    stored_passes::print_number(&rt, b" pairs compared: ", t.raised)?;
+    stored_passes::print_number(&rt, b" with the limit raised, ", t.lower)?;
+    stored_passes::print_number(&rt, b" of them with a lower total; ", t.barred)?;
+    stored_passes::print_number(&rt, b" with bars added, ", t.limited)?;
+    stored_passes::print_number(&rt, b" of them under a limit, ", t.fallen)?;
+    stored_passes::print_number(&rt, b" of them with a lower total; ", t.cells)?;
+    stored_passes::print_number(&rt, b" cells, ", t.differ)?;
+    println!(rt; " differences")
 }

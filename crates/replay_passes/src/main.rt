@@ -7,16 +7,19 @@
 //
 // Sheets are counted from 0. It was tried that it can fail: a bit flipped in a stored number of stops, total, number of held cells, decision, cell
 // or sweep, or in a sheet's edition, is printed with both values, and so is a list without its last byte.
+//
+// Where the list cannot be read or the last line cannot be written, `main` ends with that error; a line before that is passed over where it cannot be
+// written.
 ghost use Rattle.std.specs.Prelude.{◌≡◌, ◌+◌, ◌≤◌, ◌<◌, length};
 ghost use Rattle.laws.specs.Bools.{bit};
 ghost use Rattle.stored_passes.specs.Cases.{Inside};
 ghost use Rattle.stored_passes.specs.Passes.{differs_at};
 ghost use Rattle.replay_passes.specs.Replay.{compared_at, cut_at, Counted, Turned, Replayed};
 
-use libc::{STDIN_FILENO, STDOUT_FILENO};
+use std::io;
 use stored_passes::{Place, Stored, Tally};
 
-#[derive(Drop)]
+#[derive(Clone, Copy)]
 struct Totals {
     sheets: u64,
     built: u64,
@@ -25,7 +28,7 @@ struct Totals {
 }
 
 // Where the next case starts, and the totals so far.
-#[derive(Drop)]
+#[derive(Clone, Copy)]
 struct Step {
     next: usize,
     totals: Totals,
@@ -59,12 +62,12 @@ fn one_if(b: bool) -> u64
 }
 
 // The case at byte at, compared.
-fn compare(s: &[u8], at: usize, p: Stored, t: Totals) -> Step
+fn compare(rt: &impl Print, s: &[u8], at: usize, p: Stored, t: Totals) -> Step
     requires { (at + 2 ≤ p.end) × Inside s.now p × Counted at t }
     ensures { (result ≡ compared_at s.now at p t) × Counted result.next result.totals }
 {
     let d = run_case(s, at, p);
-    stored_passes::report(b"sheet ", t.sheets, at, d);
+    let _ = stored_passes::report(rt, b"sheet ", t.sheets, at, d);
     let last = p.next - 1;
     let built = one_if(s[last] == 1);
     Step {
@@ -79,12 +82,11 @@ fn compare(s: &[u8], at: usize, p: Stored, t: Totals) -> Step
 }
 
 // A case that is cut short ends the run, and counts as a difference.
-fn cut(s: &[u8], at: usize, t: Totals) -> Step
+fn cut(rt: &impl Print, s: &[u8], at: usize, t: Totals) -> Step
     requires { (at < length s.now) × Counted at t }
     ensures { (result ≡ cut_at s.now t) × Counted result.next result.totals }
 {
-    stored_passes::print_number(b"no whole case at byte ", at as u64);
-    io::write_all(STDOUT_FILENO, b"\n");
+    let _ = println!(rt; "no whole case at byte {at}");
     Step {
         next: s.len(),
         totals: Totals {
@@ -96,17 +98,17 @@ fn cut(s: &[u8], at: usize, t: Totals) -> Step
     }
 }
 
-fn turn(s: &[u8], at: usize, t: Totals) -> Step
+fn turn(rt: &impl Print, s: &[u8], at: usize, t: Totals) -> Step
     requires { (at < length s.now) × Counted at t }
     ensures { Turned s.now at t result }
 {
     match stored_passes::case_at(s, at) {
-        Place::Whole(p) => compare(s, at, p, t),
-        Place::Cut => cut(s, at, t),
+        Place::Whole(p) => compare(rt, s, at, p, t),
+        Place::Cut => cut(rt, s, at, t),
     }
 }
 
-fn run(s: &[u8]) -> Totals
+fn run(rt: &impl Print, s: &[u8]) -> Totals
     ensures { Replayed s.now result }
 {
     let mut t = Totals {
@@ -117,20 +119,21 @@ fn run(s: &[u8]) -> Totals
     };
     let mut at: usize = 0;
     while at < s.len() {
-        let next = turn(s, at, t);
+        let next = turn(rt, s, at, t);
         t = next.totals;
         at = next.next;
     }
     t
 }
 
-fn main() {
+fn main(rt: HostRuntime) -> io::Result<()> {
     let mut buffer = list_buffer();
-    let n = io::read_full(STDIN_FILENO, &mut buffer);
-    let t = run(&buffer[..n]);
-    stored_passes::print_number(b"", t.sheets);
-    stored_passes::print_number(b" sheets compared, ", t.built);
-    stored_passes::print_number(b" with a matrix of the Rust's; ", t.cells);
-    stored_passes::print_number(b" cells, ", t.differ);
-    io::write_all(STDOUT_FILENO, b" differences\n");
+    let mut input = rt.reader();
+    let n = lists::read_full(&mut input, &mut buffer)?;
+    let t = run(&rt, &buffer[..n]);
+    stored_passes::print_number(&rt, b"", t.sheets)?;
+    stored_passes::print_number(&rt, b" sheets compared, ", t.built)?;
+    stored_passes::print_number(&rt, b" with a matrix of the Rust's; ", t.cells)?;
+    stored_passes::print_number(&rt, b" cells, ", t.differ)?;
+    println!(rt; " differences")
 }

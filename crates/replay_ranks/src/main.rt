@@ -10,6 +10,9 @@
 //
 // A rank that differs shows: with the last bit of the list's first rank changed, the program prints its car and stop, both ranks, and in its last
 // line that one differs.
+//
+// Where the list cannot be read or the last line cannot be written, `main` ends with that error; a line before that is passed over where it cannot be
+// written.
 ghost use Rattle.std.specs.Prelude.{◌≡◌, ◌+◌, ◌*◌, ◌^◌, ◌≤◌, ◌<◌, length};
 ghost use Rattle.laws.specs.Bools.{bit};
 ghost use Rattle.laws.specs.Folds.{count};
@@ -25,18 +28,18 @@ ghost use Rattle.replay_ranks.specs.TurnLaws.{Turned};
 
 use components::Rank;
 use layout::{Counts, Reading};
-use libc::{STDIN_FILENO, STDOUT_FILENO};
 use pending::StopMasks;
+use std::io;
 
 // A mark, 1 where there is a rank and 0 where there is none, and the rank's bits.
-#[derive(Drop)]
+#[derive(Clone, Copy)]
 struct Answer {
     ranked: u64,
     bits: u64,
 }
 
 // A car record and a stop record, and what is stored of them.
-#[derive(Drop)]
+#[derive(Clone, Copy)]
 struct Pair {
     car: u64,
     stop: u64,
@@ -44,7 +47,7 @@ struct Pair {
 }
 
 // Where a case's sheet ends, how many cars, stops and pairs it has, and where the next case starts.
-#[derive(Drop)]
+#[derive(Clone, Copy)]
 struct Case {
     end: usize,
     cars: usize,
@@ -53,7 +56,7 @@ struct Case {
     next: usize,
 }
 
-#[derive(Drop)]
+#[derive(Clone, Copy)]
 struct Totals {
     sheets: u64,
     ranks: u64,
@@ -61,7 +64,7 @@ struct Totals {
 }
 
 // Where the next case starts, and the totals so far.
-#[derive(Drop)]
+#[derive(Clone, Copy)]
 struct Step {
     next: usize,
     totals: Totals,
@@ -212,37 +215,36 @@ fn pair_at(s: &[u8], case: Case, k: usize) -> Pair
     Pair { car, stop, stored }
 }
 
-fn print_number(text: &[u8], n: u64) {
-    io::write_all(STDOUT_FILENO, text);
-    io::print_decimal(STDOUT_FILENO, n);
+fn print_number(rt: &impl Print, text: &[u8], n: u64) -> io::Result<()> {
+    rt.write_all(text)?;
+    print!(rt; "{n}")
 }
 
 // The bits in hexadecimal, or none. Before bits of what is neither stands its mark.
-fn print_answer(text: &[u8], a: Answer) {
-    io::write_all(STDOUT_FILENO, text);
+fn print_answer(rt: &impl Print, text: &[u8], a: Answer) -> io::Result<()> {
+    rt.write_all(text)?;
     if (a.ranked == 0) & (a.bits == 0) {
-        io::write_all(STDOUT_FILENO, b"none");
-        return;
+        return print!(rt; "none");
     }
     if a.ranked != 1 {
-        print_number(b"mark ", a.ranked);
-        io::write_all(STDOUT_FILENO, b" ");
+        print_number(rt, b"mark ", a.ranked)?;
+        print!(rt; " ")?;
     }
-    io::print_hex(STDOUT_FILENO, a.bits, 16);
+    print!(rt; "{:016x}", a.bits)
 }
 
 // The line of the first pair that differs.
-fn print_pair(at: usize, p: Pair, got: Answer) {
-    print_number(b"the case at byte ", at as u64);
-    print_number(b": car ", p.car);
-    print_number(b" stop ", p.stop);
-    print_answer(b" got ", got);
-    print_answer(b", expected ", p.stored);
-    io::write_all(STDOUT_FILENO, b"\n");
+fn print_pair(rt: &impl Print, at: usize, p: Pair, got: Answer) -> io::Result<()> {
+    print_number(rt, b"the case at byte ", at as u64)?;
+    print_number(rt, b": car ", p.car)?;
+    print_number(rt, b" stop ", p.stop)?;
+    print_answer(rt, b" got ", got)?;
+    print_answer(rt, b", expected ", p.stored)?;
+    println!(rt; "")
 }
 
 // 1 where a pair of the case at byte at differs, else 0. It is printed if it is the first.
-fn differ(s: &[u8], c: Counts, p: Pair, at: usize, first: bool) -> u64
+fn differ(rt: &impl Print, s: &[u8], c: Counts, p: Pair, at: usize, first: bool) -> u64
     requires { verdict s.now ≡ Accepted c }
     ensures { result ≡ bit (differs (sheet_of s.now c) p) }
 {
@@ -252,13 +254,21 @@ fn differ(s: &[u8], c: Counts, p: Pair, at: usize, first: bool) -> u64
         return 0;
     }
     if first {
-        print_pair(at, p, got);
+        let _ = print_pair(rt, at, p, got);
     }
     1
 }
 
 // How many pairs of the case at byte at, which has the accepted sheet b, differ.
-fn count_differ<'a>(s: &'a [u8], b: &'a [u8], c: Counts, case: Case, at: usize, first: bool) -> u64
+fn count_differ<'a>(
+    rt: &impl Print,
+    s: &'a [u8],
+    b: &'a [u8],
+    c: Counts,
+    case: Case,
+    at: usize,
+    first: bool,
+) -> u64
     requires { (verdict b.now ≡ Accepted c) × Inside case }
     ensures { result ≡ count (λ k. differs (sheet_of b.now c) (pair_at s.now case k)) case.pairs }
 {
@@ -267,19 +277,18 @@ fn count_differ<'a>(s: &'a [u8], b: &'a [u8], c: Counts, case: Case, at: usize, 
     let mut k: usize = 0;
     while k < n {
         let p = pair_at(s, case, k);
-        d += differ(b, c, p, at, first & (d == 0));
+        d += differ(rt, b, c, p, at, first & (d == 0));
         k += 1;
     }
     d
 }
 
 // A refused sheet counts as one that differs.
-fn refused(t: Totals, case: Case, at: usize) -> Step
+fn refused(rt: &impl Print, t: Totals, case: Case, at: usize) -> Step
     requires { Counted at t × (at < case.next) × (case.next ≤ 262144) }
     ensures { result ≡ refused_at case t }
 {
-    print_number(b"no sheet at byte ", at as u64);
-    io::write_all(STDOUT_FILENO, b"\n");
+    let _ = println!(rt; "no sheet at byte {at}");
     Step {
         next: case.next,
         totals: Totals {
@@ -291,7 +300,7 @@ fn refused(t: Totals, case: Case, at: usize) -> Step
 }
 
 // The case at byte at, compared; b is its sheet.
-fn compare<'a>(s: &'a [u8], b: &'a [u8], at: usize, case: Case, t: Totals) -> Step
+fn compare<'a>(rt: &impl Print, s: &'a [u8], b: &'a [u8], at: usize, case: Case, t: Totals) -> Step
     requires { Counted at t × Inside case × (at + 4 + 9 * case.pairs ≤ case.next) }
     ensures { result ≡ compared_by (verdict b.now) s.now b.now case t }
 {
@@ -299,9 +308,9 @@ fn compare<'a>(s: &'a [u8], b: &'a [u8], at: usize, case: Case, t: Totals) -> St
     let ranks = t.ranks;
     let before = t.differ;
     match sheet::read(b) {
-        Reading::Refused { number, offset } => refused(t, case, at),
+        Reading::Refused { number, offset } => refused(rt, t, case, at),
         Reading::Accepted(c) => {
-            let d = count_differ(s, b, c, case, at, before == 0);
+            let d = count_differ(rt, s, b, c, case, at, before == 0);
             Step {
                 next: case.next,
                 totals: Totals {
@@ -315,12 +324,11 @@ fn compare<'a>(s: &'a [u8], b: &'a [u8], at: usize, case: Case, t: Totals) -> St
 }
 
 // A case that is cut short ends the run, and counts as one that differs.
-fn cut(s: &[u8], at: usize, t: Totals) -> Step
+fn cut(rt: &impl Print, s: &[u8], at: usize, t: Totals) -> Step
     requires { (at < length s.now) × (length s.now ≤ 262144) × Counted at t }
     ensures { result ≡ cut_at s.now t }
 {
-    print_number(b"no whole case at byte ", at as u64);
-    io::write_all(STDOUT_FILENO, b"\n");
+    let _ = println!(rt; "no whole case at byte {at}");
     Step {
         next: s.len(),
         totals: Totals {
@@ -331,20 +339,20 @@ fn cut(s: &[u8], at: usize, t: Totals) -> Step
     }
 }
 
-fn turn(s: &[u8], at: usize, t: Totals) -> Step
+fn turn(rt: &impl Print, s: &[u8], at: usize, t: Totals) -> Step
     requires { (at < length s.now) × (length s.now ≤ 262144) × Counted at t }
     ensures { Turned s.now at t result }
 {
     let case = case_at(s, at);
     if s.len() < case.next {
-        return cut(s, at, t);
+        return cut(rt, s, at, t);
     }
     let start = at + 2;
     let end = case.end;
-    compare(s, &s[start..end], at, case, t)
+    compare(rt, s, &s[start..end], at, case, t)
 }
 
-fn run(s: &[u8]) -> Totals
+fn run(rt: &impl Print, s: &[u8]) -> Totals
     requires { length s.now ≤ 262144 }
     ensures { Replayed s.now result }
 {
@@ -355,19 +363,20 @@ fn run(s: &[u8]) -> Totals
     };
     let mut at: usize = 0;
     while at < s.len() {
-        let next = turn(s, at, t);
+        let next = turn(rt, s, at, t);
         t = next.totals;
         at = next.next;
     }
     t
 }
 
-fn main() {
+fn main(rt: HostRuntime) -> io::Result<()> {
     let mut buffer = list_buffer();
-    let n = io::read_full(STDIN_FILENO, &mut buffer);
-    let t = run(&buffer[..n]);
-    print_number(b"", t.sheets);
-    print_number(b" sheets, ", t.ranks);
-    print_number(b" ranks compared, ", t.differ);
-    io::write_all(STDOUT_FILENO, b" differ\n");
+    let mut input = rt.reader();
+    let n = lists::read_full(&mut input, &mut buffer)?;
+    let t = run(&rt, &buffer[..n]);
+    print_number(&rt, b"", t.sheets)?;
+    print_number(&rt, b" sheets, ", t.ranks)?;
+    print_number(&rt, b" ranks compared, ", t.differ)?;
+    println!(rt; " differ")
 }

@@ -6,28 +6,31 @@
 // and random ones of each number and kind, each table full and with one record too many, every cut of a small sheet, counts too low and too
 // high, each bit of the tail, limits at their ends, and each bit of a policy before its weights flipped. A case is the sheet's length in 16 bits,
 // its bytes, the number in 8 bits and the offset in 32, both 0 where the sheet is accepted; the most significant byte comes first.
+//
+// Where the list cannot be read or the last line cannot be written, `main` ends with that error; a line before that is passed over where it cannot be
+// written.
 ghost use Rattle.std.specs.Prelude.{◌≡◌, ◌+◌, ◌≤◌, ◌<◌, length};
 ghost use Rattle.laws.specs.Bools.{bit};
 ghost use Rattle.replay_refusals.specs.Cases.{answer_of, case_at, agree, compared_at, cut_at, Counted, Turned, Replayed};
 
 use layout::Reading;
-use libc::{STDIN_FILENO, STDOUT_FILENO};
+use std::io;
 
 // A refusal's number and offset; both 0 where the sheet is accepted.
-#[derive(Drop)]
+#[derive(Clone, Copy)]
 struct Answer {
     number: u64,
     offset: u64,
 }
 
 // What the reader answers, and what is stored.
-#[derive(Drop)]
+#[derive(Clone, Copy)]
 struct Case {
     got: Answer,
     expected: Answer,
 }
 
-#[derive(Drop)]
+#[derive(Clone, Copy)]
 struct Totals {
     compared: u64,
     accepted: u64,
@@ -35,7 +38,7 @@ struct Totals {
 }
 
 // Where the next case starts, and the totals so far.
-#[derive(Drop)]
+#[derive(Clone, Copy)]
 struct Step {
     next: usize,
     totals: Totals,
@@ -78,15 +81,20 @@ fn case_at(s: &[u8], at: usize, n: usize) -> Case
     Case { got, expected }
 }
 
-fn print_answer(before: &[u8], a: Answer) {
-    io::write_all(STDOUT_FILENO, before);
-    io::print_decimal(STDOUT_FILENO, a.number);
-    io::write_all(STDOUT_FILENO, b" at ");
-    io::print_decimal(STDOUT_FILENO, a.offset);
+fn print_answer(rt: &impl Print, before: &[u8], a: Answer) -> io::Result<()> {
+    rt.write_all(before)?;
+    print!(rt; "{} at {}", a.number, a.offset)
+}
+
+fn print_difference(rt: &impl Print, at: usize, got: Answer, expected: Answer) -> io::Result<()> {
+    print!(rt; "the case at byte {at}")?;
+    print_answer(rt, b": got ", got)?;
+    print_answer(rt, b", expected ", expected)?;
+    println!(rt; "")
 }
 
 // Whether the two answers are equal; where not, both are printed.
-fn agrees(c: Case, at: usize) -> bool
+fn agrees(rt: &impl Print, c: Case, at: usize) -> bool
     ensures { result ≡ agree c }
 {
     let got = c.got;
@@ -94,11 +102,7 @@ fn agrees(c: Case, at: usize) -> bool
     if (got.number == expected.number) & (got.offset == expected.offset) {
         return true;
     }
-    io::write_all(STDOUT_FILENO, b"the case at byte ");
-    io::print_decimal(STDOUT_FILENO, at as u64);
-    print_answer(b": got ", got);
-    print_answer(b", expected ", expected);
-    io::write_all(STDOUT_FILENO, b"\n");
+    let _ = print_difference(rt, at, got, expected);
     false
 }
 
@@ -109,7 +113,7 @@ fn one_if(b: bool) -> u64
 }
 
 // The case at byte at, with a sheet of n bytes, compared.
-fn compare(s: &[u8], at: usize, n: usize, t: Totals) -> Step
+fn compare(rt: &impl Print, s: &[u8], at: usize, n: usize, t: Totals) -> Step
     requires { (at + 7 + n ≤ length s.now) × Counted at t }
     ensures { result ≡ compared_at s.now at n t }
 {
@@ -118,7 +122,7 @@ fn compare(s: &[u8], at: usize, n: usize, t: Totals) -> Step
     let differ = t.differ;
     let c = case_at(s, at, n);
     let took = one_if(c.got.number == 0);
-    let agree = agrees(c, at);
+    let agree = agrees(rt, c, at);
     Step {
         next: at + 7 + n,
         totals: Totals {
@@ -130,13 +134,11 @@ fn compare(s: &[u8], at: usize, n: usize, t: Totals) -> Step
 }
 
 // A case that is cut short ends the run, and counts as one that differs.
-fn cut(s: &[u8], at: usize, t: Totals) -> Step
+fn cut(rt: &impl Print, s: &[u8], at: usize, t: Totals) -> Step
     requires { (at < length s.now) × Counted at t }
     ensures { result ≡ cut_at s.now t }
 {
-    io::write_all(STDOUT_FILENO, b"no whole case at byte ");
-    io::print_decimal(STDOUT_FILENO, at as u64);
-    io::write_all(STDOUT_FILENO, b"\n");
+    let _ = println!(rt; "no whole case at byte {at}");
     Step {
         next: s.len(),
         totals: Totals {
@@ -147,22 +149,22 @@ fn cut(s: &[u8], at: usize, t: Totals) -> Step
     }
 }
 
-fn turn(s: &[u8], at: usize, t: Totals) -> Step
+fn turn(rt: &impl Print, s: &[u8], at: usize, t: Totals) -> Step
     requires { (at < length s.now) × Counted at t }
     ensures { Turned s.now at t result }
 {
     let left = s.len() - at;
     if left < 7 {
-        return cut(s, at, t);
+        return cut(rt, s, at, t);
     }
     let n = lists::number(s, at, 2) as usize;
     if left - 7 < n {
-        return cut(s, at, t);
+        return cut(rt, s, at, t);
     }
-    compare(s, at, n, t)
+    compare(rt, s, at, n, t)
 }
 
-fn run(s: &[u8]) -> Totals
+fn run(rt: &impl Print, s: &[u8]) -> Totals
     ensures { Replayed s.now result }
 {
     let mut t = Totals {
@@ -172,21 +174,22 @@ fn run(s: &[u8]) -> Totals
     };
     let mut at: usize = 0;
     while at < s.len() {
-        let next = turn(s, at, t);
+        let next = turn(rt, s, at, t);
         t = next.totals;
         at = next.next;
     }
     t
 }
 
-fn main() {
+fn main(rt: HostRuntime) -> io::Result<()> {
     let mut buffer = list_buffer();
-    let n = io::read_full(STDIN_FILENO, &mut buffer);
-    let t = run(&buffer[..n]);
-    io::print_decimal(STDOUT_FILENO, t.compared);
-    io::write_all(STDOUT_FILENO, b" sheets compared, ");
-    io::print_decimal(STDOUT_FILENO, t.accepted);
-    io::write_all(STDOUT_FILENO, b" accepted, ");
-    io::print_decimal(STDOUT_FILENO, t.differ);
-    io::write_all(STDOUT_FILENO, b" differ\n");
+    let mut input = rt.reader();
+    let n = lists::read_full(&mut input, &mut buffer)?;
+    let t = run(&rt, &buffer[..n]);
+    let Totals {
+        compared,
+        accepted,
+        differ,
+    } = t;
+    println!(rt; "{compared} sheets compared, {accepted} accepted, {differ} differ")
 }

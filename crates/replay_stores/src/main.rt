@@ -11,16 +11,19 @@
 //
 // A weight that differs shows. With the last bit of the list changed the program prints the case at byte 241155, with what it got and expected, and
 //     614 stores compared, 245 answered, 1 differ
+//
+// Where the list cannot be read or the last line cannot be written, `main` ends with that error; a line before that is passed over where it cannot be
+// written.
 ghost use Rattle.std.specs.Prelude.{◌≡◌, ◌+◌, ◌≤◌, ◌<◌, length};
 ghost use Rattle.laws.specs.Bools.{bit};
 ghost use Rattle.replay_stores.specs.Cases.{found_of, answer_of, stored_at, case_at, agree, compared_at, cut_at, Counted, Turned, Replayed};
 
 use components::Strategy;
-use libc::{STDIN_FILENO, STDOUT_FILENO};
+use std::io;
 use weights::answer::{SixWeights, Weights};
 
 // A refusal's number and offset, both 0 where there is none; the bits of the six weights, 0 where there is one.
-#[derive(Drop)]
+#[derive(Clone, Copy)]
 struct Answer {
     number: u64,
     offset: u64,
@@ -33,13 +36,13 @@ struct Answer {
 }
 
 // What the look-up answers, and what is stored.
-#[derive(Drop)]
+#[derive(Clone, Copy)]
 struct Case {
     got: Answer,
     expected: Answer,
 }
 
-#[derive(Drop)]
+#[derive(Clone, Copy)]
 struct Totals {
     compared: u64,
     answered: u64,
@@ -47,7 +50,7 @@ struct Totals {
 }
 
 // Where the next case starts, and the totals so far.
-#[derive(Drop)]
+#[derive(Clone, Copy)]
 struct Step {
     next: usize,
     totals: Totals,
@@ -124,22 +127,26 @@ fn case_at(s: &[u8], at: usize, n: usize) -> Case
     Case { got, expected }
 }
 
-fn print_weight(bits: u64) {
-    io::write_all(STDOUT_FILENO, b" ");
-    io::print_hex(STDOUT_FILENO, bits, 16);
+fn print_weight(rt: &impl Print, bits: u64) -> io::Result<()> {
+    print!(rt; " {bits:016x}")
 }
 
-fn print_answer(before: &[u8], a: Answer) {
-    io::write_all(STDOUT_FILENO, before);
-    io::print_decimal(STDOUT_FILENO, a.number);
-    io::write_all(STDOUT_FILENO, b" at ");
-    io::print_decimal(STDOUT_FILENO, a.offset);
-    print_weight(a.w0);
-    print_weight(a.w1);
-    print_weight(a.w2);
-    print_weight(a.w3);
-    print_weight(a.w4);
-    print_weight(a.w5);
+fn print_answer(rt: &impl Print, before: &[u8], a: Answer) -> io::Result<()> {
+    rt.write_all(before)?;
+    print!(rt; "{} at {}", a.number, a.offset)?;
+    print_weight(rt, a.w0)?;
+    print_weight(rt, a.w1)?;
+    print_weight(rt, a.w2)?;
+    print_weight(rt, a.w3)?;
+    print_weight(rt, a.w4)?;
+    print_weight(rt, a.w5)
+}
+
+fn print_difference(rt: &impl Print, at: usize, got: Answer, expected: Answer) -> io::Result<()> {
+    print!(rt; "the case at byte {at}")?;
+    print_answer(rt, b": got ", got)?;
+    print_answer(rt, b", expected ", expected)?;
+    println!(rt; "")
 }
 
 fn same(a: Answer, b: Answer) -> bool
@@ -152,7 +159,7 @@ fn same(a: Answer, b: Answer) -> bool
 }
 
 // Whether the two answers are equal; where not, both are printed.
-fn agrees(c: Case, at: usize) -> bool
+fn agrees(rt: &impl Print, c: Case, at: usize) -> bool
     ensures { result ≡ agree c.got c.expected }
 {
     let got = c.got;
@@ -160,11 +167,7 @@ fn agrees(c: Case, at: usize) -> bool
     if same(got, expected) {
         return true;
     }
-    io::write_all(STDOUT_FILENO, b"the case at byte ");
-    io::print_decimal(STDOUT_FILENO, at as u64);
-    print_answer(b": got ", got);
-    print_answer(b", expected ", expected);
-    io::write_all(STDOUT_FILENO, b"\n");
+    let _ = print_difference(rt, at, got, expected);
     false
 }
 
@@ -175,7 +178,7 @@ fn one_if(b: bool) -> u64
 }
 
 // The case at byte at, with a store of n bytes, compared.
-fn compare(s: &[u8], at: usize, n: usize, t: Totals) -> Step
+fn compare(rt: &impl Print, s: &[u8], at: usize, n: usize, t: Totals) -> Step
     requires { (at + 60 + n ≤ length s.now) × Counted at t }
     ensures { result ≡ compared_at s.now at n t }
 {
@@ -184,7 +187,7 @@ fn compare(s: &[u8], at: usize, n: usize, t: Totals) -> Step
     let differ = t.differ;
     let c = case_at(s, at, n);
     let took = one_if(c.got.number == 0);
-    let agree = agrees(c, at);
+    let agree = agrees(rt, c, at);
     Step {
         next: at + 60 + n,
         totals: Totals {
@@ -196,13 +199,11 @@ fn compare(s: &[u8], at: usize, n: usize, t: Totals) -> Step
 }
 
 // A case that is cut short ends the run, and counts as one that differs.
-fn cut(s: &[u8], at: usize, t: Totals) -> Step
+fn cut(rt: &impl Print, s: &[u8], at: usize, t: Totals) -> Step
     requires { (at < length s.now) × Counted at t }
     ensures { result ≡ cut_at s.now t }
 {
-    io::write_all(STDOUT_FILENO, b"no whole case at byte ");
-    io::print_decimal(STDOUT_FILENO, at as u64);
-    io::write_all(STDOUT_FILENO, b"\n");
+    let _ = println!(rt; "no whole case at byte {at}");
     Step {
         next: s.len(),
         totals: Totals {
@@ -213,22 +214,22 @@ fn cut(s: &[u8], at: usize, t: Totals) -> Step
     }
 }
 
-fn turn(s: &[u8], at: usize, t: Totals) -> Step
+fn turn(rt: &impl Print, s: &[u8], at: usize, t: Totals) -> Step
     requires { (at < length s.now) × Counted at t }
     ensures { Turned s.now at t result }
 {
     let left = s.len() - at;
     if left < 60 {
-        return cut(s, at, t);
+        return cut(rt, s, at, t);
     }
     let n = lists::number(s, at, 2) as usize;
     if left - 60 < n {
-        return cut(s, at, t);
+        return cut(rt, s, at, t);
     }
-    compare(s, at, n, t)
+    compare(rt, s, at, n, t)
 }
 
-fn run(s: &[u8]) -> Totals
+fn run(rt: &impl Print, s: &[u8]) -> Totals
     ensures { Replayed s.now result }
 {
     let mut t = Totals {
@@ -238,21 +239,20 @@ fn run(s: &[u8]) -> Totals
     };
     let mut at: usize = 0;
     while at < s.len() {
-        let next = turn(s, at, t);
+        let next = turn(rt, s, at, t);
         t = next.totals;
         at = next.next;
     }
     t
 }
 
-fn main() {
+fn main(rt: HostRuntime) -> io::Result<()> {
     let mut buffer = list_buffer();
-    let n = io::read_full(STDIN_FILENO, &mut buffer);
-    let t = run(&buffer[..n]);
-    io::print_decimal(STDOUT_FILENO, t.compared);
-    io::write_all(STDOUT_FILENO, b" stores compared, ");
-    io::print_decimal(STDOUT_FILENO, t.answered);
-    io::write_all(STDOUT_FILENO, b" answered, ");
-    io::print_decimal(STDOUT_FILENO, t.differ);
-    io::write_all(STDOUT_FILENO, b" differ\n");
+    let mut input = rt.reader();
+    let n = lists::read_full(&mut input, &mut buffer)?;
+    let t = run(&rt, &buffer[..n]);
+    println!(rt;
+        "{} stores compared, {} answered, {} differ",
+        t.compared, t.answered, t.differ
+    )
 }

@@ -9,11 +9,11 @@ ghost use Rattle.stored_passes.specs.Passes.{pass_differs};
 ghost use Rattle.stored_passes.specs.Tallies.{met_of, tallied_of, case_tally, pass_tally};
 
 use bench::Answer;
-use libc::STDOUT_FILENO;
+use std::io;
 
 // Where the parts of a case lie: the sheet's end, the decisions, the cells, the sweeps and the next case, by byte; and how many idle cars, cells and
 // car records are stored.
-#[derive(Drop)]
+#[derive(Clone, Copy)]
 pub struct Stored {
     pub end: usize,
     pub cars: usize,
@@ -25,14 +25,14 @@ pub struct Stored {
     pub next: usize,
 }
 
-#[derive(Drop)]
+#[derive(Clone, Copy)]
 pub enum Place {
     Whole(Stored),
     Cut,
 }
 
 // How many entries differ, and the first that does: its kind (of `print_kind`), its index, and both values.
-#[derive(Drop)]
+#[derive(Clone, Copy)]
 pub struct Tally {
     pub differ: u64,
     pub kind: u8,
@@ -248,36 +248,36 @@ pub fn answered<'a>(
     }
 }
 
-fn print_kind(kind: u8) {
+fn print_kind(rt: &impl Print, kind: u8) -> io::Result<()> {
     match kind {
-        0 => io::write_all(STDOUT_FILENO, b"cars"),
-        1 => io::write_all(STDOUT_FILENO, b"stops"),
-        2 => io::write_all(STDOUT_FILENO, b"total"),
-        3 => io::write_all(STDOUT_FILENO, b"held"),
-        4 => io::write_all(STDOUT_FILENO, b"decision"),
-        5 => io::write_all(STDOUT_FILENO, b"cell"),
-        6 => io::write_all(STDOUT_FILENO, b"sweep"),
-        _ => io::write_all(STDOUT_FILENO, b"refusal"),
-    };
+        0 => print!(rt; "cars"),
+        1 => print!(rt; "stops"),
+        2 => print!(rt; "total"),
+        3 => print!(rt; "held"),
+        4 => print!(rt; "decision"),
+        5 => print!(rt; "cell"),
+        6 => print!(rt; "sweep"),
+        _ => print!(rt; "refusal"),
+    }
 }
 
 // A text, and a number after it.
-pub fn print_number(before: &[u8], n: u64) {
-    io::write_all(STDOUT_FILENO, before);
-    io::print_decimal(STDOUT_FILENO, n);
+pub fn print_number(rt: &impl Print, before: &[u8], n: u64) -> io::Result<()> {
+    rt.write_all(before)?;
+    print!(rt; "{n}")
 }
 
 // The first difference of case number k, at byte at, where it has one.
-pub fn report(name: &[u8], k: u64, at: usize, t: Tally) {
+pub fn report(rt: &impl Print, name: &[u8], k: u64, at: usize, t: Tally) -> io::Result<()> {
     if t.differ == 0 {
-        return;
+        return Ok(());
     }
-    print_number(name, k);
-    print_number(b" at byte ", at as u64);
-    io::write_all(STDOUT_FILENO, b": ");
-    print_kind(t.kind);
-    print_number(b" ", t.index);
-    print_number(b", ours ", t.ours);
-    print_number(b", theirs ", t.theirs);
-    io::write_all(STDOUT_FILENO, b"\n");
+    print_number(rt, name, k)?;
+    print_number(rt, b" at byte ", at as u64)?;
+    print!(rt; ": ")?;
+    print_kind(rt, t.kind)?;
+    print_number(rt, b" ", t.index)?;
+    print_number(rt, b", ours ", t.ours)?;
+    print_number(rt, b", theirs ", t.theirs)?;
+    println!(rt; "")
 }

@@ -1,19 +1,24 @@
 // Runs scale_cost and field on vectors that Rust evaluated (tools/vectors), and prints how many it compared and each that differs.
+//
+// Where the vectors cannot be read or a line of the report cannot be written, `main` ends with that error; a line before those is passed over where it
+// cannot be written.
+#![tactic(auto)]
+
 ghost use Rattle.std.specs.Prelude.{◌≡◌, ◌+◌, ◌≤◌, ◌<◌, length};
 ghost use Rattle.laws.specs.Bools.{bit};
 ghost use Rattle.vectors.specs.declared.Vector.TheVariants.{Scale, Field};
 ghost use Rattle.vectors.specs.Vectors.{Whole, Counted, field_vector, vector_at, scale_case, field_case, agree, step_by, Turned, Replayed};
 
-use libc::{STDIN_FILENO, STDOUT_FILENO};
+use std::io;
 
 // What the proved function answers, and what Rust gave.
-#[derive(Drop)]
+#[derive(Clone, Copy)]
 struct Case {
     got: u64,
     expected: u64,
 }
 
-#[derive(Drop)]
+#[derive(Clone, Copy)]
 enum Vector {
     // A cost and its cell, 17 bytes.
     Scale,
@@ -22,7 +27,7 @@ enum Vector {
     Unknown,
 }
 
-#[derive(Drop)]
+#[derive(Clone, Copy)]
 struct Totals {
     scales: u64,
     scales_differ: u64,
@@ -31,7 +36,7 @@ struct Totals {
 }
 
 // Where the next vector starts, and the totals so far.
-#[derive(Drop)]
+#[derive(Clone, Copy)]
 struct Step {
     next: usize,
     totals: Totals,
@@ -109,7 +114,7 @@ fn field_case(s: &[u8], at: usize, w: usize, n: usize) -> Case
 }
 
 // Whether the two are equal; where not, both are printed.
-fn agrees(c: Case, at: usize) -> bool
+fn agrees(rt: &impl Print, c: Case, at: usize) -> bool
     ensures { result ≡ agree c }
 {
     let got = c.got;
@@ -117,13 +122,7 @@ fn agrees(c: Case, at: usize) -> bool
     if got == expected {
         return true;
     }
-    io::write_all(STDOUT_FILENO, b"at byte ");
-    io::print_decimal(STDOUT_FILENO, at as u64);
-    io::write_all(STDOUT_FILENO, b" got ");
-    io::print_decimal(STDOUT_FILENO, got);
-    io::write_all(STDOUT_FILENO, b" expected ");
-    io::print_decimal(STDOUT_FILENO, expected);
-    io::write_all(STDOUT_FILENO, b"\n");
+    let _ = println!(rt; "at byte {at} got {got} expected {expected}");
     false
 }
 
@@ -134,11 +133,11 @@ fn one_if(b: bool) -> u64
 }
 
 // The cost at byte at, compared.
-fn compare_scale(s: &[u8], at: usize, t: Totals) -> Step
+fn compare_scale(rt: &impl Print, s: &[u8], at: usize, t: Totals) -> Step
     requires { (at + 17 ≤ length s.now) × Counted at t }
     ensures { result ≡ step_by Scale s.now at t }
 {
-    let agree = agrees(scale_case(s, at), at);
+    let agree = agrees(rt, scale_case(s, at), at);
     Step {
         next: at + 17,
         totals: Totals {
@@ -151,11 +150,11 @@ fn compare_scale(s: &[u8], at: usize, t: Totals) -> Step
 }
 
 // The field at byte at, of w bits in n bytes, compared.
-fn compare_field(s: &[u8], at: usize, w: usize, n: usize, t: Totals) -> Step
+fn compare_field(rt: &impl Print, s: &[u8], at: usize, w: usize, n: usize, t: Totals) -> Step
     requires { (w ≤ 64) × (at + 19 + n ≤ length s.now) × Counted at t }
     ensures { result ≡ step_by (Field w n) s.now at t }
 {
-    let agree = agrees(field_case(s, at, w, n), at);
+    let agree = agrees(rt, field_case(s, at, w, n), at);
     Step {
         next: at + 19 + n,
         totals: Totals {
@@ -168,17 +167,15 @@ fn compare_field(s: &[u8], at: usize, w: usize, n: usize, t: Totals) -> Step
 }
 
 // The vector at byte at, compared. One that is cut short or has another tag ends the run.
-fn turn(s: &[u8], at: usize, t: Totals) -> Step
+fn turn(rt: &impl Print, s: &[u8], at: usize, t: Totals) -> Step
     requires { (at < length s.now) × Counted at t }
     ensures { Turned s.now at t result }
 {
     match read(s, at) {
-        Vector::Scale => compare_scale(s, at, t),
-        Vector::Field { width, count } => compare_field(s, at, width, count, t),
+        Vector::Scale => compare_scale(rt, s, at, t),
+        Vector::Field { width, count } => compare_field(rt, s, at, width, count, t),
         Vector::Unknown => {
-            io::write_all(STDOUT_FILENO, b"no vector at byte ");
-            io::print_decimal(STDOUT_FILENO, at as u64);
-            io::write_all(STDOUT_FILENO, b"\n");
+            let _ = println!(rt; "no vector at byte {at}");
             Step {
                 next: s.len(),
                 totals: t,
@@ -187,7 +184,7 @@ fn turn(s: &[u8], at: usize, t: Totals) -> Step
     }
 }
 
-fn run(s: &[u8]) -> Totals
+fn run(rt: &impl Print, s: &[u8]) -> Totals
     ensures { Replayed s.now result }
 {
     let mut t = Totals {
@@ -198,7 +195,7 @@ fn run(s: &[u8]) -> Totals
     };
     let mut at: usize = 0;
     while at < s.len() {
-        let next = turn(s, at, t);
+        let next = turn(rt, s, at, t);
         t = next.totals;
         at = next.next;
     }
@@ -206,18 +203,16 @@ fn run(s: &[u8]) -> Totals
 }
 
 // A line of the report.
-fn report(name: &[u8], compared: u64, differ: u64) {
-    io::write_all(STDOUT_FILENO, name);
-    io::print_decimal(STDOUT_FILENO, compared);
-    io::write_all(STDOUT_FILENO, b" compared, ");
-    io::print_decimal(STDOUT_FILENO, differ);
-    io::write_all(STDOUT_FILENO, b" differ\n");
+fn report(rt: &impl Print, name: &[u8], compared: u64, differ: u64) -> io::Result<()> {
+    rt.write_all(name)?;
+    println!(rt; "{compared} compared, {differ} differ")
 }
 
-fn main() {
-    let mut buffer = io::large_buffer();
-    let n = io::read_full(STDIN_FILENO, &mut buffer);
-    let t = run(&buffer[..n]);
-    report(b"scale ", t.scales, t.scales_differ);
-    report(b"field ", t.fields, t.fields_differ);
+fn main(rt: HostRuntime) -> io::Result<()> {
+    let mut buffer = [0u8; 65536];
+    let mut input = rt.reader();
+    let n = lists::read_full(&mut input, &mut buffer)?;
+    let t = run(&rt, &buffer[..n]);
+    report(&rt, b"scale ", t.scales, t.scales_differ)?;
+    report(&rt, b"field ", t.fields, t.fields_differ)
 }

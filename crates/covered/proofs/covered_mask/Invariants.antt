@@ -1,0 +1,16 @@
+-- covered::covered_mask meets its contract.
+use Prim.Native.Nat.{ℕ, ◌≤◌, ◌-◌}
+use Rattle.covered.specs.Same.{covered_in}
+use Rattle.mask.specs.MaskLaws.{past_some, past_none}
+use Rattle.mask.specs.UpTo.{built_to, none_yet, one_more, up_to}
+use borrow.Author.Rules.{rules}
+use mathlib.Core.Path.{◌≡◌, refl, sym, ◌∙◌}
+use native.Mathlib.Omega.{arith}
+use Rattle.covered.proofs.covered_mask.Given as goal
+
+abbrev pub invariant-loop-covered : goal.invariant-loop-covered
+invariant-loop-covered l =
+    (l.j ≤ 64) × (l.m ≡ built_to (covered_in l.targets l.lines l.rooms l.n l.ids l.nl l.stops l.required l.weights l.nw l.asked l.names) l.j)
+
+abbrev pub decreases-loop-covered : goal.decreases-loop-covered
+decreases-loop-covered l = 64 - l.j

@@ -1,0 +1,29 @@
+-- pending::riders_bound meets its contract.
+use Prim.Native.Nat.{ℕ, ◌+◌, ◌*◌, ◌≤◌, ◌-◌}
+use mathlib.Core.Bool.{Bool, ◌&&◌}
+use mathlib.Core.Path.{◌≡◌, sym, ap, ◌∙◌}
+use native.Mathlib.Omega.{arith}
+use lib.Dec.{eqb}
+use borrow.Author.Rules.{rules}
+use Rattle.assignment.specs.Pending.{idle, idle_bound}
+use Rattle.components.specs.declared.Kind.TheVariants.{Aboard}
+use Rattle.components.specs.Sheet.{Sheet}
+use Rattle.fields.specs.Named.{contains}
+use Rattle.laws.specs.Folds.{any, ended}
+use Rattle.layout.specs.Offsets.{record_length}
+use Rattle.layout.specs.Records.{aboard_of, from, sheet_of}
+use Rattle.manifest.specs.World.{stop_id}
+use Rattle.covered.specs.Walk.{walk_start}
+use Rattle.pending.specs.Masks.{stop_mask, names_rise, with_bound}
+use Rattle.pending.specs.Same.{named_next}
+use Rattle.pending.proofs.riders_bound.Given as goal
+
+-- rider a of an idle car is bound for stop j
+abbrev pub bound : Sheet → ℕ → ℕ → Bool
+bound s j a = eqb (s.aboard a).destination (stop_id s j) && any (λ i. idle s i && eqb (s.car i).id (s.aboard a).car) s.cars
+
+abbrev pub invariant-loop-a : goal.invariant-loop-a
+invariant-loop-a l = (l.a ≤ l.c.aboards) × (l.m ≡ stop_mask (sheet_of l.s l.c) (λ j. any (bound (sheet_of l.s l.c) j) l.a))
+
+abbrev pub decreases-loop-a : goal.decreases-loop-a
+decreases-loop-a l = l.c.aboards - l.a

@@ -1,0 +1,14 @@
+-- replay_travel::compare meets its contract.
+use Rattle.laws.specs.Bools.{bit-lt}
+use Rattle.replay_travel.specs.Cases.{compared_by}
+use mathlib.Core.Bool.{not}
+use native.Mathlib.Omega.{arith}
+use Rattle.replay_travel.proofs.compare.Goals as goal
+
+pub overflow_add-result-4 : goal.overflow_add-result-4
+overflow_add-result-4 g c = let p = c.requires in omega (arith, c.one_if.ensures, bit-lt (not c.agrees-agree.result), bit-lt c.agrees-agree.result, p.1.differ, p.0)
+
+pub returns : goal.returns
+returns g c =
+    let a = c.args in
+    compared_by a.s.now a.at a.t c.case_at-c.ensures c.one_if-took.ensures c.agrees-agree.ensures c.one_if.ensures
