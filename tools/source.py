@@ -1,6 +1,7 @@
-"""Reads the crates: the declarations of specs/, the types and contracts of src/, the proof files; and to what each name refers.
+"""Reads the crates: the declarations of specs/ and of the files of lemmas in proofs/, the types and contracts of src/, the proof files; and to what each
+name refers.
 
-A module of specs/ is split by its layout into declarations; a name is resolved as the language does: a local (parameter, pattern, λ, let), a
+A module of specs/, or a file of lemmas, is split by its layout into declarations; a name is resolved as the language does: a local (parameter, pattern, λ, let), a
 declaration of the same file, or what a `use` line brings in, renamed or qualified. What cannot be resolved is an error, never passed over.
 """
 
@@ -87,6 +88,10 @@ class Tree:
         """The files of a crate's folder src, specs or proofs, by their names in it."""
         start = f"crates/{crate}/{part}/"
         return {path[len(start):]: text for path, text in self.files.items() if path.startswith(start)}
+
+    def lemmas_of(self, crate):
+        """The files of lemmas in a crate's proofs/, by their names; what stands deeper is of one function each."""
+        return {path: text for path, text in self.of(crate, "proofs").items() if "/" not in path and path != "Lib.antt"}
 
     def in_order(self):
         """The crates, each after those below it, otherwise as crates.txt lists them."""
@@ -198,10 +203,10 @@ def is_comment(line):
 
 
 class Module:
-    """A file of specs/."""
+    """A file of specs/, or a file of lemmas in proofs/, which has a name of its own where specs/ has one of its name."""
 
-    def __init__(self, crate, name, text):
-        self.crate, self.name = crate, name
+    def __init__(self, crate, name, text, part="specs"):
+        self.crate, self.name, self.part = crate, name, part
         self.uses = {}         # a name -> (path, name there)
         self.use_lines = {}    # a name -> how its `use` line renames it, where it does
         self.aliases = {}      # a qualifier -> path
@@ -220,7 +225,8 @@ class Module:
                 each.fixity = [self.fixities[each.name]]
 
     def where(self, line):
-        return f"crates/{self.crate}/specs/{self.name.replace('.', '/')}.antt:{line}"
+        name = self.name.removeprefix("proofs.") if self.part == "proofs" else self.name
+        return f"crates/{self.crate}/{self.part}/{name.replace('.', '/')}.antt:{line}"
 
     def split(self, at, end, indent, sections, into=None):
         """The declarations of the lines from at to end, whose own lines stand at indent."""
@@ -820,22 +826,31 @@ class Project:
         for crate in tree.below:
             for path, text in tree.of(crate, "specs").items():
                 name = path[:-len(".antt")].replace("/", ".")
-                module = Module(crate, name, text)
-                self.modules[(crate, name)] = module
-                for each in module.declarations:
-                    self.declarations.setdefault(each.key, each)
+                self.put(Module(crate, name, text))
+            for path, text in tree.lemmas_of(crate).items():
+                name = path[:-len(".antt")]
+                if (crate, name) in self.modules:
+                    name = "proofs." + name
+                self.put(Module(crate, name, text, "proofs"))
             for path, text in tree.of(crate, "src").items():
                 code = Code(crate, path, text)
                 self.codes[(crate, path)] = code
                 for each in code.types:
                     self.declarations[each.key] = each
 
+    def put(self, module):
+        self.modules[(module.crate, module.name)] = module
+        for each in module.declarations:
+            self.declarations.setdefault(each.key, each)
+
     def at(self, path, name, where):
         """What `path.{name}` of a `use` line is."""
-        match = re.fullmatch(r"Rattle[.·](\w+?)(?:·specs)?\.specs\.(.+)", path)
+        match = re.fullmatch(r"Rattle[.·](\w+?)(?:·(?:specs|proofs))?\.(specs|proofs)\.(.+)", path)
         if not match or match.group(1) not in self.tree.below:
             return ("library", path, name)
-        crate, module = match.groups()
+        crate, part, module = match.groups()
+        if part == "proofs" and (crate, "proofs." + module) in self.modules:
+            module = "proofs." + module
         if module.startswith("declared."):
             variants = module.endswith((".TheVariants", ".the-variants"))
             if variants:
@@ -846,7 +861,7 @@ class Project:
                 raise Problem(f"{where}: {path} has no {name}")
             return key
         found = self.modules.get((crate, module))
-        if found is None or name not in found.names:
+        if found is None or found.part != part or name not in found.names:
             raise Problem(f"{where}: {path} has no {name}")
         return found.names[name].key
 

@@ -1,4 +1,6 @@
 // From an accepted sheet to its cells: what is read of it once, and the rows of its idle cars.
+#![tactic(auto)]
+
 ghost use Rattle.std.specs.Prelude.{◌≡◌, ◌++◌, ◌+◌, ◌≤◌, ◌<◌, length, get_or, drop};
 ghost use Rattle.std.specs.Float.{nan};
 ghost use Rattle.laws.specs.Tables.{tab};

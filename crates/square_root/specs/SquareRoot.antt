@@ -1,4 +1,4 @@
--- The square root of a double: IEEE 754's square_root at binary64. Rust's f64::sqrt. Request F-11: "Square root is the IEEE one, correctly rounded,
+-- The square root of a double: IEEE 754's squareRoot at binary64. Rust's f64::sqrt. Request F-11: "Square root is the IEEE one, correctly rounded,
 -- proved by comparing squares of whole numbers." Assumes nothing.
 use Rattle.std.specs.Prelude.{ℕ, zero, suc, ◌+◌, ◌-◌, ◌*◌, ◌/◌, ◌^◌, false, cond, ltb, leb, eqb, Float}
 use Rattle.std.specs.Float.{nan, inf, fin, binary64}

@@ -1,4 +1,4 @@
-// The square root of a double, correctly rounded, from the bits: IEEE 754's square_root. A finite double above zero is taken apart and written as
+// The square root of a double, correctly rounded, from the bits: IEEE 754's squareRoot. A finite double above zero is taken apart and written as
 // digits * 4^half (unpack). The whole root of its digits is found two binary digits a turn, as by hand, and has the 53 digits of a double
 // (whole_root). What is left of the digits says whether the root lies above the middle to the next double (root_bits).
 #![tactic(auto)]

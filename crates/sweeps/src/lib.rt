@@ -1,4 +1,6 @@
 // The sweeps of all cars after the pass, as the sheet codes them.
+#![tactic(auto)]
+
 ghost use Rattle.std.specs.Prelude.{◌≡◌, ◌++◌, ℕ, ◌≤◌, length, drop};
 ghost use Rattle.laws.specs.Tables.{tab};
 ghost use Rattle.layout.specs.Offsets.{Small};

@@ -4,7 +4,6 @@ use Rattle.fp.specs.Fields.{not_nan}
 use denote.Floats.{passes}
 use lib.Ieee.{binary64, to_bits}
 use lib.Ieee.Compare.{differs_from_itself}
-use borrow.Author.Rules.{rules}
 use mathlib.Core.Path.{sym, ap}
 use Rattle.double_bits.proofs.bits_of.Goals as goal
 

@@ -1,6 +1,6 @@
 -- scale::scale_cost meets its contract.
 use Prim.Native.Nat.{ℕ}
-use mathlib.Core.Path.{◌≡◌, refl, sym, ◌∙◌}
+use mathlib.Core.Path.{◌≡◌, sym, ◌∙◌}
 use mathlib.Core.Bool.{Bool, true, false}
 use lib.Ieee.{Float, lt}
 use Rattle.fp.specs.Num.{zero, million, times, finite}

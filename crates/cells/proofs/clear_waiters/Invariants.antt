@@ -1,0 +1,13 @@
+-- cells::clear_waiters meets its contract.
+use Prim.Native.Nat.{ℕ, ◌≤◌, ◌-◌}
+use Rattle.rows.specs.Gathered.{Cleared, cleared_start, cleared_next}
+use borrow.Author.Rules.{rules}
+use mathlib.Core.Path.{◌≡◌, refl, ◌∙◌}
+use native.Mathlib.Omega.{arith}
+use Rattle.cells.proofs.clear_waiters.Given as goal
+
+abbrev pub invariant-loop-j : goal.invariant-loop-j
+invariant-loop-j l = (l.j ≤ l.n) × Cleared l.j l.initial.sums l.sums
+
+abbrev pub decreases-loop-j : goal.decreases-loop-j
+decreases-loop-j l = l.n - l.j

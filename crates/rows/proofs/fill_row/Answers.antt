@@ -1,0 +1,57 @@
+-- rows::fill_row meets its contract.
+use Prim.Native.Nat.{ℕ, ◌≤◌, ◌+◌, ◌-◌}
+use Rattle.laws.specs.Tables.{tab, tab_next}
+use Rattle.laws.specs.Bools.{bit-lt}
+use Rattle.laws.specs.Folds.{count, count-le, count_step}
+use Rattle.rows.specs.Gathered.{waiters_at}
+use Rattle.rows.specs.RowLaws.{row_cell, row_held}
+use borrow.Author.Rules.{rules}
+use lib.ListN.{length, drop, length-set}
+use mathlib.Core.List.{List, ◌++◌}
+use mathlib.Core.Path.{◌≡◌, refl, ap, ◌∙◌}
+use native.Mathlib.Omega.{arith}
+use Rattle.rows.proofs.fill_row.Goals as goal
+
+pub loop-k-init : goal.loop-k-init
+unfolding tab count
+loop-k-init c = (omega arith, refl, refl, refl)
+
+pub waiters_at-v-requires : goal.waiters_at-v-requires
+waiters_at-v-requires c = let p = c.requires in (omega (arith, p.6 c.loop-k.k c.loop-k-test.true, p.2), p.8)
+
+pub cell-scaled-requires : goal.cell-scaled-requires
+cell-scaled-requires c = let p = c.requires in (p.0, p.1, p.2, p.3, p.6 c.loop-k.k c.loop-k-test.true, p.7)
+
+pub overflow_add-held : goal.overflow_add-held
+overflow_add-held c =
+    let l = c.loop-k in
+    let a = c.args in
+    let p = c.requires in
+    let few = count-le (row_held a.row a.dests.now a.sides.now (waiters_at a.someone a.calls a.sums.now) a.xs.now a.n a.stops) l.k in
+    omega (arith, l.invariant.3, few, c.held_count-held.ensures, bit-lt c.cell-scaled.result.held, c.loop-k-test.true, p.5)
+
+pub loop-k-preserved : goal.loop-k-preserved
+unfolding row_cell row_held
+loop-k-preserved c =
+    let l = c.loop-k in
+    let a = c.args in
+    let cell = c.cell-scaled in (
+      omega arith,
+      simp length-set l.invariant.1,
+      tab_next (row_cell a.row a.dests.now a.sides.now (waiters_at a.someone a.calls a.sums.now) a.xs.now a.n a.stops) a.out.now l.out l.k cell.result.cell (omega (arith, c.requires.4, c.loop-k-test.true))
+          l.invariant.2 (cell.ensures.0 ∙ rw c.waiters_at-v.ensures refl),
+      ap (λ (z : ℕ). l.held + z) c.held_count-held.ensures
+          ∙ count_step (row_held a.row a.dests.now a.sides.now (waiters_at a.someone a.calls a.sums.now) a.xs.now a.n a.stops) l.k l.invariant.3 (cell.ensures.1 ∙ rw c.waiters_at-v.ensures refl),
+    )
+
+pub returns : goal.returns
+returns c =
+    let l = c.loop-k in
+    let a = c.args in
+    let e : l.k ≡ a.stops.count = omega arith in record {
+      cells = (
+        l.invariant.1,
+        l.invariant.2 ∙ ap (λ (n : ℕ). tab (row_cell a.row a.dests.now a.sides.now (waiters_at a.someone a.calls a.sums.now) a.xs.now a.n a.stops) n ++ drop n a.out.now) e,
+      );
+      held = l.invariant.3 ∙ ap (count (row_held a.row a.dests.now a.sides.now (waiters_at a.someone a.calls a.sums.now) a.xs.now a.n a.stops)) e;
+    }

@@ -1,0 +1,9 @@
+-- sweeps::sweep_at meets its contract.
+use Rattle.layout.specs.Records.{from, car_of}
+use borrow.Author.Rules.{rules}
+use mathlib.Core.Path.{◌≡◌, refl}
+use Rattle.sweeps.proofs.sweep_at.Goals as goal
+
+pub returns : goal.returns
+unfolding car_of
+returns c w = rw (c.of_bit.ensures.0, c.of_bit-2.ensures.0, c.flag.ensures, c.flag-2.ensures) refl
