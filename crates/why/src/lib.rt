@@ -1,4 +1,6 @@
 // Why a pair of a car and a stop costs what it does, or has no rank: the terms of its cost, or the reason, by the functions that fill the matrix.
+#![tactic(auto)]
+
 ghost use Rattle.std.specs.Prelude.{◌≡◌, cond, ◌+◌, ◌≤◌, ◌<◌, length};
 ghost use Rattle.layout.specs.declared.Reading.TheVariants.{Accepted};
 ghost use Rattle.layout.specs.Records.{sheet_of, limit_of};

@@ -1,0 +1,19 @@
+-- why::car_record meets its contract.
+use Prim.Native.Nat.{ℕ, ◌-◌, ◌≤◌}
+use Rattle.components.specs.declared.Car.{Car}
+use Rattle.laws.specs.Folds.{lookup, lookup_step, ended}
+use Rattle.layout.specs.Records.{sheet_of}
+use Rattle.why.specs.Why.{car_record}
+use borrow.Author.Rules.{rules}
+use lib.Dec.{eqb}
+use mathlib.Core.Bool.{cond}
+use mathlib.Core.Path.{◌≡◌, refl, ap, ◌∙◌}
+use native.Mathlib.Omega.{arith}
+use Rattle.why.proofs.car_record.Given as goal
+
+abbrev pub invariant-loop-i : goal.invariant-loop-i
+invariant-loop-i l =
+    (l.i ≤ l.c.cars) × (l.found ≡ lookup (λ k. eqb ((sheet_of l.s l.c).car k).id l.id) (λ k. k) l.c.cars l.i)
+
+abbrev pub decreases-loop-i : goal.decreases-loop-i
+decreases-loop-i l = l.c.cars - l.i

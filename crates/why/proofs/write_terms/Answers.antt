@@ -1,0 +1,30 @@
+-- why::write_terms meets its contract.
+use Rattle.why.specs.Places.{eight_stores}
+use borrow.Author.Rules.{rules}
+use lib.ListN.{length-set}
+use native.Mathlib.Omega.{arith}
+use Rattle.why.proofs.write_terms.Goals as goal
+
+pub bounds-places-1 : goal.bounds-places-1
+bounds-places-1 c = simp length-set (omega arith)
+
+pub bounds-places-2 : goal.bounds-places-2
+bounds-places-2 c = simp length-set (omega arith)
+
+pub bounds-places-3 : goal.bounds-places-3
+bounds-places-3 c = simp length-set (omega arith)
+
+pub bounds-places-4 : goal.bounds-places-4
+bounds-places-4 c = simp length-set (omega arith)
+
+pub bounds-places-5 : goal.bounds-places-5
+bounds-places-5 c = simp length-set (omega arith)
+
+pub bounds-places-6 : goal.bounds-places-6
+bounds-places-6 c = simp length-set (omega arith)
+
+pub bounds-places-7 : goal.bounds-places-7
+bounds-places-7 c = simp length-set (omega arith)
+
+pub returns : goal.returns
+returns c = eight_stores c.args.places.now _ _ _ _ _ _ _ _ c.requires
