@@ -6,7 +6,8 @@ use borrow.Author.Tests.{eqb-true}
 use Rattle.laws.specs.Bools.{both_left, both_right}
 use Rattle.bits.specs.Field.{bit_at, field_at}
 use Rattle.put.specs.Put.{put_at}
-use Rattle.put.specs.PutLaws.{put_length, put_elsewhere, put_read, field_same}
+use Rattle.put.specs.PutLaws.{field_same}
+use Rattle.put.proofs.PutLaws.{put_length, put_elsewhere, put_read}
 use Rattle.layout.specs.Table.{Field, covers}
 use Rattle.encoder.specs.Encoded.{fields_put}
 

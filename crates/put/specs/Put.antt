@@ -1,5 +1,5 @@
 -- A field of bits put into a list of bytes. Document 01: "Fields are packed bits, most significant first." As fieldAt reads a field from its first
--- bit to its last, put_at puts it: the last bit of the number goes to the last place, the number without it before. PutLaws says what the bits of the
+-- bit to its last, put_at puts it: the last bit of the number goes to the last place, the number without it before. proofs/PutLaws says what the bits of the
 -- result are: those of the number inside the field, those of the list everywhere else. What lies past the end is not put. Assumes nothing.
 use Rattle.std.specs.Prelude.{ℕ, zero, suc, ◌+◌, ◌-◌, ◌*◌, ◌/◌, ◌%◌, ◌^◌, List, get_or, set}
 

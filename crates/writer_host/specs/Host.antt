@@ -8,7 +8,7 @@ use Rattle.std.proofs.Math.Dec.{ltb}
 use borrow.Author.Tests.{leb-true, eqb-true, ltb-false}
 use Rattle.bits.specs.Field.{field_at}
 use Rattle.put.specs.Put.{put_at}
-use Rattle.put.specs.PutLaws.{put_back}
+use Rattle.put.proofs.PutLaws.{put_back}
 use Rattle.laws.specs.Bools.{both_left, both_right, either, which}
 use Rattle.layout.specs.declared.Counts.{Counts}
 use Rattle.layout.specs.Offsets.{Small}

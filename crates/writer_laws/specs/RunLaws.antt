@@ -13,7 +13,8 @@ use borrow.Author.Tests.{ltb-false, leb-false}
 use Rattle.laws.specs.Bools.{never, same?}
 use Rattle.bits.specs.Field.{bit_at, field_at, field_take}
 use Rattle.put.specs.Put.{put_at}
-use Rattle.put.specs.PutLaws.{put_length, put_kept, put_read, put_back, field_same}
+use Rattle.put.specs.PutLaws.{field_same}
+use Rattle.put.proofs.PutLaws.{put_length, put_kept, put_read, put_back}
 use Rattle.components.specs.declared.Kind.{Kind}
 use Rattle.components.specs.declared.Kind.TheVariants.{Policy, Stop, Line, Car, Aboard, Waiting, Demand, Closed, Unknown}
 use Rattle.components.specs.Codes.{kind_code}

@@ -1,6 +1,5 @@
 -- put::bits_here meets its contract.
 use native.Mathlib.Omega.{arith}
-use borrow.Author.Rules.{rules}
 use Rattle.put.proofs.bits_here.Goals as goal
 
 pub returns-then-room-w : goal.returns-then-room-w

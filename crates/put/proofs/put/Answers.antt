@@ -1,11 +1,8 @@
 -- put::put meets its contract. The loop's invariant: what is put from here on makes what was to be put.
-use Prim.Native.Nat.{◌+◌, ◌≤◌}
-use mathlib.Core.Path.{◌≡◌, refl, sym, ap, ◌∙◌}
+use mathlib.Core.Path.{refl, sym, ap, ◌∙◌}
 use native.Mathlib.Omega.{arith}
 use lib.ListN.{length}
-use borrow.Author.Rules.{rules}
-use Rattle.put.specs.Put.{put_at}
-use Rattle.put.specs.PutLaws.{put_on, put_nothing, put_length}
+use Rattle.put.proofs.PutLaws.{put_on, put_nothing, put_length}
 use Rattle.put.proofs.put.Goals as goal
 
 pub loop-left-init : goal.loop-left-init

@@ -1,11 +1,8 @@
 -- put::put meets its contract. The loop's invariant: what is put from here on makes what was to be put.
 use Prim.Native.Nat.{◌+◌, ◌≤◌}
-use mathlib.Core.Path.{◌≡◌, refl, sym, ap, ◌∙◌}
-use native.Mathlib.Omega.{arith}
+use mathlib.Core.Path.{◌≡◌}
 use lib.ListN.{length}
-use borrow.Author.Rules.{rules}
 use Rattle.put.specs.Put.{put_at}
-use Rattle.put.specs.PutLaws.{put_on, put_nothing, put_length}
 use Rattle.put.proofs.put.Given as goal
 
 abbrev pub invariant-loop-left : goal.invariant-loop-left

@@ -3,8 +3,7 @@ use mathlib.Core.Path.{◌≡◌, sym}
 use Prim.Native.Nat.{ℕ, ◌-◌, ◌/◌, ◌%◌, ◌^◌}
 use native.Mathlib.Omega.{arith}
 use lib.Bits.{bit_and, and_mask}
-use borrow.Author.Rules.{rules}
-use Rattle.put.specs.PutLaws.{put_chunk}
+use Rattle.put.proofs.PutLaws.{put_chunk}
 use Rattle.put.proofs.put_first.Goals as goal
 
 mask : (p : ℕ) → bit_and p 7 ≡ p % 8

@@ -1,7 +1,6 @@
 -- put::put_in meets its contract.
 use mathlib.Core.Path.{sym}
 use lib.Seq.{set_out}
-use borrow.Author.Rules.{rules}
 use Rattle.put.proofs.put_in.Goals as goal
 
 pub returns-then-k-s : goal.returns-then-k-s

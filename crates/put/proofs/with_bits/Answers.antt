@@ -4,7 +4,6 @@ use mathlib.Core.Path.{◌≡◌, subst}
 use native.Mathlib.Nat.{mod-lt, lt_of_le_of_lt}
 use native.Mathlib.Omega.{arith}
 use lib.Pow.{shl_exact, pow_pos, shr_le}
-use borrow.Author.Rules.{rules}
 use Rattle.put.specs.Put.{inserted}
 use Rattle.put.specs.PutLaws.{inserted_lt}
 use Rattle.put.proofs.with_bits.Goals as goal

@@ -1,0 +1,2 @@
+-- Laws of a field that was put (PutLaws).
+pub mod PutLaws
