@@ -15,7 +15,7 @@ use Rattle.text.specs.Text.{decimal, decimal_of}
 use Rattle.plain_matcher.specs.declared.Columns.{Columns}
 use Rattle.plain_matcher.specs.declared.Plain.TheVariants.{Chosen, Refused}
 use Rattle.plain_matcher.specs.Promise.{four_of, chosen_of, plain_of}
-use Rattle.plain_matcher.specs.Fits.{all_fits}
+use Rattle.plain_matcher.proofs.Fits.{all_fits}
 use Rattle.every_matrix.specs.EveryMatrix.{matrix_of, line_text, line_of}
 
 -- each cell is below 3

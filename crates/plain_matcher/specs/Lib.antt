@@ -1,5 +1,3 @@
--- The plain matcher's promise, what its recursion holds, and that it chooses as the fast one does.
+-- The plain matcher's promise, and what its recursion holds. That it chooses as the fast one does stands in proofs/AsTheFast.
 pub mod Promise
 pub mod Held
-pub mod Fits
-pub mod AsTheFast

@@ -1,7 +1,7 @@
 -- plain_matcher::assign meets its contract.
 use native.Mathlib.Omega.{arith}
 use mathlib.Core.Path.{sym, ◌∙◌}
-use Rattle.plain_matcher.specs.Fits.{small, many_cars, many_columns, few_columns, wrong_count, large_cell, all_fits, small_product}
+use Rattle.plain_matcher.proofs.Fits.{small, many_cars, many_columns, few_columns, wrong_count, large_cell, all_fits, small_product}
 use Rattle.plain_matcher.proofs.assign.Goals as goal
 
 pub returns-then-cars-gt4 : goal.returns-then-cars-gt4

@@ -3,7 +3,7 @@ use borrow.Author.Rules.{rules}
 use native.Mathlib.Omega.{arith}
 use mathlib.Core.Path.{sym, ◌∙◌}
 use lib.ListN.{length}
-use Rattle.plain_matcher.specs.Fits.{few_places, enough_places, chosen_few, left_by}
+use Rattle.plain_matcher.proofs.Fits.{few_places, enough_places, chosen_few, left_by}
 use Rattle.plain_matcher.proofs.fill_columns.Goals as goal
 
 pub returns-then-places-lt4 : goal.returns-then-places-lt4

@@ -1,4 +1,5 @@
 -- hungarian::lowest::visit meets its contract.
+use Rattle.std.proofs.Common.{arith}
 use Rattle.equality_graph.specs.Settled.{visit_push, push_space}
 use Rattle.hungarian.proofs.lowest.visit.Goals as goal
 
@@ -9,6 +10,6 @@ returns c =
     let out = c.if-seen-y-ne0.false in
     let may = c.may.ensures.yes_may c.if-not-may.false in
     record {
-      visited = λ h top se so. visit_push g.x g.r g.y rd se so out c.if-row_of-y.false may;
+      visited = λ h top se so. visit_push g.x g.r g.y rd se so out (omega arith) may;
       space = push_space g.len rd c.requires.y_lt_cols.0 out;
     }
