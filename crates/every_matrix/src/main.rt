@@ -4,6 +4,8 @@
 // What is proved: `lines` puts into its buffer the text that specs/EveryMatrix.antt defines, character by character; line k of it is matrix k with
 // the choice's columns and total, and each matrix has one line, in order (specs/Once.antt). No contract can say what is written to a file: that
 // `main` writes that text to standard output is tested, not proved.
+#![tactic(auto)]
+
 ghost use Rattle.std.specs.Prelude.{◌≡◌, ◌++◌, ◌+◌, ◌≤◌, ◌<◌, length, drop};
 ghost use Rattle.text.specs.Counts.{IsPrefixLen as Counted};
 ghost use Rattle.text.specs.Text.{Put};
