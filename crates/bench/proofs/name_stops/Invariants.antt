@@ -1,0 +1,18 @@
+-- bench::name_stops meets its contract.
+use Prim.Native.Nat.{ℕ, ◌≤◌, ◌-◌}
+use Rattle.laws.specs.Folds.{ended}
+use Rattle.laws.specs.Tables.{tab, tab_next}
+use Rattle.bench.specs.PendingStops.{listed_id}
+use borrow.Author.Rules.{rules}
+use lib.ListN.{length, get_or, drop, length-set}
+use mathlib.Core.List.{◌++◌}
+use mathlib.Core.Path.{◌≡◌, refl}
+use native.Mathlib.Omega.{arith}
+use Rattle.bench.proofs.name_stops.Given as goal
+
+abbrev pub invariant-loop-k : goal.invariant-loop-k
+invariant-loop-k l =
+    (l.k ≤ l.listed.count) × (length l.stops ≡ length l.initial.stops) × (l.stops ≡ tab (listed_id l.listed l.ids) l.k ++ drop l.k l.initial.stops)
+
+abbrev pub decreases-loop-k : goal.decreases-loop-k
+decreases-loop-k l = l.listed.count - l.k
