@@ -27,7 +27,7 @@ use Rattle.sweep.specs.Sweeps.{sweep_code}
 use Rattle.assignment_problem.specs.Recursion.{column_of, least_total}
 use Rattle.assignment.specs.Pending.{closed_at, covered, covered_by_cars, idle_bound, pending, idle_cars, row_car, pending_stops}
 use Rattle.assignment.specs.Cells.{rank_held}
-use Rattle.assignment.specs.Decided.{never_closed}
+use Rattle.assignment.proofs.Decided.{never_closed}
 use Rattle.assignment.specs.Variants.{shut, shut_opened}
 use Rattle.outcome.specs.Written.{decided}
 use Rattle.bench.specs.declared.Answer.{Answer}

@@ -13,7 +13,7 @@ use Rattle.layout.specs.Verdict.{verdict}
 use Rattle.assignment_problem.specs.Choice.{cell_at}
 use Rattle.assignment.specs.Pending.{idle_cars, columns}
 use Rattle.assignment.specs.Cells.{matrix}
-use Rattle.assignment.specs.CellLaws.{SmallSheet, matrix_le, idle_le, columns_le, cells_fit}
+use Rattle.assignment.proofs.CellLaws.{SmallSheet, matrix_le, idle_le, columns_le, cells_fit}
 use Rattle.outcome.specs.Outcome.{cells_of}
 use Rattle.shown.specs.Shown.{shown, shown_same}
 use Rattle.shown.specs.Fits.{price_at, column_of, Priced, Inside}

@@ -14,7 +14,7 @@ use Rattle.prices.specs.Price.{in_range}
 use Rattle.assignment_problem.specs.Choice.{IsChoice, total}
 use Rattle.assignment.specs.Pending.{idle_cars, columns}
 use Rattle.assignment.specs.Cells.{matrix}
-use Rattle.assignment.specs.CellLaws.{matrix_le, rows_fit}
+use Rattle.assignment.proofs.CellLaws.{matrix_le, rows_fit}
 use Rattle.bench.specs.Done.{past_one}
 use Rattle.shown.specs.Shown.{shown, shown_same}
 use Rattle.shown.specs.Fits.{price_at, column_of}
