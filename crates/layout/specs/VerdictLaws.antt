@@ -45,18 +45,6 @@ clean s c e =
 pub before_all : (a i n : ℕ) → i < n → a * i ≤ a * n
 before_all a i n l = mul-le-mul_left a (omega arith)
 
--- the next record starts past this one
-pub end_next : (c : Counts) (k : Kind) → refusal4 k ≡ false → end_of (next c k) ≡ end_of c + record_length c.across k
-end_next c Policy h = omega arith
-end_next c Stop h = omega arith
-end_next c Line h = omega arith
-end_next c Car h = omega arith
-end_next c Aboard h = omega arith
-end_next c Waiting h = omega arith
-end_next c Demand h = omega arith
-end_next c Closed h = omega arith
-end_next c Unknown h = never (sym h)
-
 -- ---- the records that are left
 
 one_less : (n : ℕ) → 0 < n → n ≡ suc (n - 1)
