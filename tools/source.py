@@ -497,11 +497,11 @@ class Promise:
     def shown(self):
         return f"{self.code.crate}::{self.code.inner().replace('.', '::')}{self.name}"
 
-    def tokens(self):
+    def tokens(self, words_of=None):
         """The signature and the clauses, each as words. Labels of clauses are no part of what is promised."""
         words = re.findall(r"\w+|[^\w\s]", self.signature)
         for sort, _, text in self.clauses:
-            words += [sort] + [w.text for w in tokens_of(text)]
+            words += [sort] + (words_of(text) if words_of else [w.text for w in tokens_of(text)])
         # what layout alone puts in
         return [w for k, w in enumerate(words) if not (w == "," and words[k + 1:k + 2] == [")"])]
 

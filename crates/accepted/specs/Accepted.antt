@@ -763,33 +763,6 @@ module _ (s : List ℕ) (c : Counts) (h : Records s c) where
         wait = f.wait;
       }
 
-  sound_sheet : SoundPolicy (policy_of (from s head_length)) → SoundSheet (sheet_of s c)
-  unfolding sheet_of stop_of line_of car_of aboard_of waiting_of demand_of
-  sound_sheet p =
-      let m = small in
-      record {
-        most_stops = m.stops;
-        most_lines = m.lines;
-        most_cars = m.cars;
-        most_aboards = m.aboards;
-        most_waits = m.waits;
-        most_demands = few_demands;
-        most_closures = few_closures;
-        policy = p;
-        stop = λ j l. (the_stop j l).sound;
-        rising = all_rising stop_ids c.stops stops_rise;
-        line = sound_line;
-        line_ids = distinct_lines;
-        car = sound_car;
-        car_ids = distinct_cars;
-        aboard = λ r l. found s (cars_from c) (record_length c.across kind.Car) c.cars (read (from s (aboard_start c r)) aboard_car_field) (the_aboard r l);
-        waiting = sound_waiting;
-        demand = demand_found;
-        demand_stops = distinct_demands;
-        closed = closed_found;
-        closed_stops = distinct_closures;
-      }
-
 -- the bytes end with the byte where the last record ends
 tail_length : (s : List ℕ) (c : Counts) → tail_fits s c ≡ true → length s ≡ (end_of c + 7) / 8
 unfolding tail_fits
@@ -799,7 +772,7 @@ tail_length s c h =
     omega arith
 
 pub accepted : (s : List ℕ) (c : Counts) → verdict s ≡ Accepted c → Sound s c
-unfolding limit_of
+unfolding limit_of sheet_of stop_of line_of car_of aboard_of waiting_of demand_of
 accepted s c e =
     let w = whole s c e in
     let p = sound_policy (from s head_length) s (counts c.across 0 0 0 0 0 0 0 0)
@@ -810,5 +783,31 @@ accepted s c e =
       one_policy = let f = w.first in let g = m.policies in omega arith;
       limit = p.1;
       whole = tail_length s c w.tail;
-      sheet = sound_sheet s c w.records p.0;
+      sheet = sound_sheet w.records p.0;
     }
+  where
+    sound_sheet : Records s c → SoundPolicy (policy_of (from s head_length)) → SoundSheet (sheet_of s c)
+    sound_sheet h p =
+        let m = small s c h in
+        record {
+          most_stops = m.stops;
+          most_lines = m.lines;
+          most_cars = m.cars;
+          most_aboards = m.aboards;
+          most_waits = m.waits;
+          most_demands = few_demands s c h;
+          most_closures = few_closures s c h;
+          policy = p;
+          stop = λ j l. (the_stop s c h j l).sound;
+          rising = all_rising (stop_ids s c h) c.stops (stops_rise s c h);
+          line = sound_line s c h;
+          line_ids = distinct_lines s c h;
+          car = sound_car s c h;
+          car_ids = distinct_cars s c h;
+          aboard = λ r l. found s (cars_from c) (record_length c.across kind.Car) c.cars (read (from s (aboard_start c r)) aboard_car_field) (the_aboard s c h r l);
+          waiting = sound_waiting s c h;
+          demand = demand_found s c h;
+          demand_stops = distinct_demands s c h;
+          closed = closed_found s c h;
+          closed_stops = distinct_closures s c h;
+        }

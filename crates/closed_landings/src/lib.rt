@@ -1,1 +1,2 @@
 // Theorems about closed landings; no code.
+#![tactic(auto)]

@@ -80,5 +80,10 @@ distance_size k p q l a b =
     rw e at s
 
 pub distance_finite : (p q : Point) → is_placed p ≡ true → is_placed q ≡ true → finite (distance p q) ≡ true
+unfolding distance
 distance_finite p q a b =
-    size_finite (2 ^ 22) (distance p q) (distance_size 20 p q (omega arith) (placed_size p a) (placed_size q b))
+    let x = placed_size p a in
+    let y = placed_size q b in
+    let s = plus_size 21 (apart p.along q.along) (apart p.across q.across) (omega arith)
+    (apart_size 20 p.along q.along (omega arith) x.along y.along) (apart_size 20 p.across q.across (omega arith) x.across y.across) in
+    size_finite (2 ^ 22) (plus (apart p.along q.along) (apart p.across q.across)) s

@@ -1,4 +1,6 @@
 // Grading a site's choice (document 02, F-8): u are the prices of cars, v those of columns.
+#![tactic(auto)]
+
 ghost use Rattle.std.specs.Prelude.{◌≡◌, ◌≤◌, length};
 ghost use Rattle.layout.specs.declared.Reading.TheVariants.{Accepted};
 ghost use Rattle.layout.specs.Verdict.{verdict};

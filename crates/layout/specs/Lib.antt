@@ -8,7 +8,5 @@ pub mod VerdictLaws
 pub mod Open
 pub mod Readings
 pub mod Conditions
-pub mod ConditionLaws
-pub mod Earliest
 pub mod PlaceLaws
 pub mod Smallest

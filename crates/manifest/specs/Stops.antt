@@ -180,16 +180,6 @@ found p xs n (suc k) l = by (p k) (found p xs n k (omega arith))
     by true h = rw (lt-ltb k n (omega arith))
     by false h = h
 
-goal_of_cong : (f g : ℕ → Place) → ((id : ℕ) → f id ≡ g id) → (p : Phase) → goal_of f p ≡ goal_of g p
-goal_of_cong f g h Idle = refl
-goal_of_cong f g h (MovingToStop id) = h id
-goal_of_cong f g h (Repositioning id) = h id
-goal_of_cong f g h DoorOpening = refl
-goal_of_cong f g h Loading = refl
-goal_of_cong f g h DoorClosing = refl
-goal_of_cong f g h Stopped = refl
-goal_of_cong f g h Unknown = refl
-
 module _ (s : Sheet) (ids : List ℕ) (xs : List Float) (n : ℕ) (h : HoldsStops s ids xs n) where
   pub point_is : (j : ℕ) → j < n → point_in xs j ≡ stop_at s j
   unfolding point_in
@@ -197,11 +187,11 @@ module _ (s : Sheet) (ids : List ℕ) (xs : List Float) (n : ℕ) (h : HoldsStop
 
   -- the place by the lists is the sheet's
   pub position_is : (id : ℕ) → position_in ids xs n id ≡ stop_position s id
-  unfolding position_in stop_index stop_position
+  unfolding position_in stop_index stop_position point_in
   position_is id =
       found (λ j. eqb (get_or ids j 0) id) xs n n (omega arith)
       ∙ lookup_cong (λ j. eqb (get_or ids j 0) id) (λ j. eqb (stop_id s j) id) (λ j. At (point_in xs j)) (λ j. At (stop_at s j)) Nowhere n
-      (λ k l. ap (λ (z : ℕ). eqb z id) (h.id_of k l)) (λ k l. ap At (point_is k l))
+      (λ k l. ap (λ (z : ℕ). eqb z id) (h.id_of k l)) (λ k l. ap At (ap₂ point_of (h.at k l) (h.side k l)))
       ∙ ap (λ (z : ℕ). lookup (λ j. eqb (stop_id s j) id) (λ j. At (stop_at s j)) Nowhere z) h.counted
 
   -- the ids rise where the sheet's do
@@ -215,8 +205,25 @@ module _ (s : Sheet) (ids : List ℕ) (xs : List Float) (n : ℕ) (h : HoldsStop
       }
 
   pub goal_is : (i : ℕ) → goal_of (position_in ids xs n) (s.car i).phase ≡ goal s i
-  unfolding goal
-  goal_is i = goal_of_cong (position_in ids xs n) (stop_position s) position_is (s.car i).phase
+  unfolding goal position_in stop_index stop_position point_in
+  goal_is i = goal_of_cong (position_in ids xs n) (stop_position s) same (s.car i).phase
+    where
+      same : (id : ℕ) → position_in ids xs n id ≡ stop_position s id
+      same id =
+          found (λ j. eqb (get_or ids j 0) id) xs n n (omega arith)
+          ∙ lookup_cong (λ j. eqb (get_or ids j 0) id) (λ j. eqb (stop_id s j) id) (λ j. At (point_in xs j)) (λ j. At (stop_at s j)) Nowhere n
+          (λ k l. ap (λ (z : ℕ). eqb z id) (h.id_of k l)) (λ k l. ap At (ap₂ point_of (h.at k l) (h.side k l)))
+          ∙ ap (λ (z : ℕ). lookup (λ j. eqb (stop_id s j) id) (λ j. At (stop_at s j)) Nowhere z) h.counted
+
+      goal_of_cong : (f g : ℕ → Place) → ((id : ℕ) → f id ≡ g id) → (p : Phase) → goal_of f p ≡ goal_of g p
+      goal_of_cong f g h Idle = refl
+      goal_of_cong f g h (MovingToStop id) = h id
+      goal_of_cong f g h (Repositioning id) = h id
+      goal_of_cong f g h DoorOpening = refl
+      goal_of_cong f g h Loading = refl
+      goal_of_cong f g h DoorClosing = refl
+      goal_of_cong f g h Stopped = refl
+      goal_of_cong f g h Unknown = refl
 
   -- where ids are distinct, an id's index is j exactly where the id is stop j's
   pub index_is : DistinctStops s → (j id : ℕ) → j < n → (ltb (stop_index ids n id) n && eqb j (stop_index ids n id)) ≡ eqb id (stop_id s j)

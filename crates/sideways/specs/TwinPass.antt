@@ -23,7 +23,7 @@ use Rattle.alike.specs.Alike.{Alike, LikeStop, LikeCar, other}
 use Rattle.alike.specs.Zeros.{is_zero, apart_zeros}
 use Rattle.bench.specs.Done.{Lent, lent, outcome_of, written, done_of, pass_of, past_one}
 use Rattle.twins.specs.Twin.{twin, under, flat, flat_stop, flat_car, SameRecords}
-use Rattle.twins.specs.Twins.{twin_accepted, twin_records}
+use Rattle.twins.proofs.Twins.{twin_accepted, twin_records}
 use Rattle.sideways.specs.Written.{same_written}
 
 -- "With all second coordinates zero", of either sign

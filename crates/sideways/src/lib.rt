@@ -1,1 +1,2 @@
 // Theorems of request F-12, shuttles that also run sideways: specs/. No code.
+#![tactic(auto)]

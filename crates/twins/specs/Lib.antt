@@ -3,6 +3,4 @@ pub mod Twin
 pub mod Views
 pub mod Looks
 pub mod Bodies
-pub mod Steps
-pub mod Twins
 pub mod Worked

@@ -22,7 +22,7 @@ use Rattle.layout.specs.declared.Counts.{Counts}
 use Rattle.layout.specs.Offsets.{next, end_of, record_length}
 use Rattle.layout.specs.Table.{covers, bits_covered, head_covered}
 use Rattle.layout.specs.Refusals.{refusal4, refusal6, refusal7}
-use Rattle.layout.specs.VerdictLaws.{end_next}
+use Rattle.layout.proofs.PlaceLaws.{end_next}
 use Rattle.layout.specs.PlaceLaws.{all}
 use Rattle.encoder.specs.Encoded.{record_fields, record_values, record_at}
 use Rattle.encoder.specs.EncodedLaws.{Reads, fields_length, fields_elsewhere, fields_read, reads_same}

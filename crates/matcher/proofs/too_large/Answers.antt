@@ -1,5 +1,4 @@
 -- matcher::too_large meets its contract.
-use borrow.Author.Rules.{rules}
 use native.Mathlib.Omega.{arith}
 use Prim.Native.Nat.{ℕ, ◌+◌, ◌<◌}
 use lib.Dec.{eqb}
@@ -10,7 +9,7 @@ use borrow.Author.Tests.{ne_eqb, ltb-true, ltb-false}
 use lib.Bits.{bit_or, or_zero_r, or_add_and, and_le_l}
 use lib.ListN.{get_or}
 use Rattle.laws.specs.Bools.{which}
-use Rattle.laws.specs.Folds.{any, any_yes, any_no, ended}
+use Rattle.laws.specs.Folds.{any, any_yes, any_no}
 use Rattle.assignment_problem.specs.Choice.{sentinel}
 use Rattle.matcher.specs.Promise.{too_large}
 use Rattle.matcher.proofs.too_large.Goals as goal
@@ -28,21 +27,6 @@ pub loop-k-init : goal.loop-k-init
 unfolding any
 loop-k-init c = (omega arith, refl)
 
-pub offset_bounds-cells-k : goal.offset_bounds-cells-k
-offset_bounds-cells-k c = search rules
-
-pub bounds-cells-k : goal.bounds-cells-k
-bounds-cells-k c = search rules
-
-pub excess-over-requires : goal.excess-over-requires
-excess-over-requires c = search rules
-
-pub overflow_add-k : goal.overflow_add-k
-overflow_add-k c = search rules
-
-pub loop-k-smaller : goal.loop-k-smaller
-loop-k-smaller c = omega (arith, c.loop-k-test.true)
-
 pub loop-k-preserved : goal.loop-k-preserved
 loop-k-preserved c =
     let l = c.loop-k in
@@ -52,8 +36,3 @@ loop-k-preserved c =
       next (too_large cells) l.k l.over c.excess-over.result (λ t. c.excess-over.ensures.above (ltb-true sentinel x t))
           (λ f. c.excess-over.ensures.at_most (ltb-false sentinel x f)) l.invariant.1,
     )
-
-pub returns : goal.returns
-returns c =
-    let cells = c.args.cells.now in
-    ended (any (too_large cells)) c.loop-k.invariant.0 c.loop-k-test.false c.loop-k.invariant.1

@@ -1,7 +1,6 @@
 -- plain_matcher::assign meets its contract.
-use native.Mathlib.Omega.{arith}
 use mathlib.Core.Path.{sym, ◌∙◌}
-use Rattle.plain_matcher.proofs.Fits.{small, many_cars, many_columns, few_columns, wrong_count, large_cell, all_fits, small_product}
+use Rattle.plain_matcher.proofs.Fits.{small, many_cars, many_columns, few_columns, wrong_count, large_cell, all_fits}
 use Rattle.plain_matcher.proofs.assign.Goals as goal
 
 pub returns-then-cars-gt4 : goal.returns-then-cars-gt4
@@ -12,11 +11,6 @@ returns-then-columns-gt5 c = let a = c.args in many_columns a.cars a.columns a.c
 
 pub returns-then-columns-cars : goal.returns-then-columns-cars
 returns-then-columns-cars c = let a = c.args in few_columns a.cars a.columns a.cells.now c.if-columns-cars.true
-
-pub overflow_mul-cars : goal.overflow_mul-cars
-overflow_mul-cars c =
-    let a = c.args in
-    omega (arith, small_product a.cars a.columns c.if-cars-gt4.false c.if-columns-gt5.false)
 
 pub returns-then-cells-cars : goal.returns-then-cells-cars
 returns-then-cells-cars c = let a = c.args in wrong_count a.cars a.columns a.cells.now c.if-cells-cars.true

@@ -1,13 +1,10 @@
 -- plain_matcher::choose meets its contract.
-use mathlib.Core.Path.{refl, sym, ◌∙◌}
+use mathlib.Core.Path.{sym, ◌∙◌}
 use mathlib.Core.Bool.{false}
 use mathlib.Core.List.{[]}
 use lib.ListN.{get_or-replicate}
-use Rattle.plain_matcher.specs.Held.{rest_all, choice_some, never_none}
+use Rattle.plain_matcher.specs.Held.{choice_some, never_none}
 use Rattle.plain_matcher.proofs.choose.Goals as goal
-
-pub best-requires : goal.best-requires
-best-requires c = rest_all c.requires refl
 
 pub returns-in-None : goal.returns-in-None
 returns-in-None c =

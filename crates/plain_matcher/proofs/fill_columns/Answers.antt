@@ -1,5 +1,4 @@
 -- plain_matcher::fill_columns meets its contract.
-use borrow.Author.Rules.{rules}
 use native.Mathlib.Omega.{arith}
 use mathlib.Core.Path.{sym, ◌∙◌}
 use lib.ListN.{length}
@@ -15,9 +14,6 @@ pub put_columns-requires : goal.put_columns-requires
 put_columns-requires c =
     let a = c.args in
     omega (arith, chosen_few a.cars a.columns a.cells.now (sym c.in-Chosen.is ∙ c.assign.ensures), c.if-places-lt4.false)
-
-pub shape_of-places : goal.shape_of-places
-shape_of-places c = search rules
 
 pub returns-in-Chosen : goal.returns-in-Chosen
 returns-in-Chosen c =

@@ -1,10 +1,7 @@
 -- plain_matcher::put_columns meets its contract.
 use native.Mathlib.Omega.{arith}
 use mathlib.Core.Path.{refl}
-use mathlib.Core.List.{◌++◌}
-use Prim.Native.Nat.{ℕ}
-use lib.ListN.{drop, length-set}
-use Rattle.laws.specs.Folds.{ended}
+use lib.ListN.{length-set}
 use Rattle.laws.specs.Tables.{tab, tab_next}
 use Rattle.plain_matcher.specs.Promise.{column_at}
 use Rattle.plain_matcher.proofs.put_columns.Goals as goal
@@ -12,9 +9,6 @@ use Rattle.plain_matcher.proofs.put_columns.Goals as goal
 pub loop-k-init : goal.loop-k-init
 unfolding tab
 loop-k-init c = (omega arith, refl, refl)
-
-pub bounds-places-k : goal.bounds-places-k
-bounds-places-k c = omega (arith, c.loop-k.invariant.1, c.loop-k-test.true, c.requires)
 
 pub loop-k-preserved : goal.loop-k-preserved
 loop-k-preserved c =
@@ -25,12 +19,3 @@ loop-k-preserved c =
       tab_next (column_at a.args.columns) a.args.places.now l.places l.k c.column_at.result
           (omega (arith, a.requires, c.loop-k-test.true)) l.invariant.2 c.column_at.ensures,
     )
-
-pub shape_of-places : goal.shape_of-places
-shape_of-places c = c.loop-k.invariant.1
-
-pub returns : goal.returns
-returns c =
-    let l = c.loop-k in
-    let a = c.args in
-    ended (λ (x : ℕ). tab (column_at a.columns) x ++ drop x a.places.now) l.invariant.0 c.loop-k-test.false l.invariant.2

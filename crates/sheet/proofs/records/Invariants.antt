@@ -9,7 +9,8 @@ use Rattle.layout.specs.Table.{first}
 use Rattle.layout.specs.Records.{from, read}
 use Rattle.layout.specs.Refusals.{edition, kind_at, length_at, refusal5}
 use Rattle.layout.specs.Verdict.{record_refusal, records_verdict}
-use Rattle.layout.specs.VerdictLaws.{Clean, clean, end_next, verdict_on, verdict_stop, verdict_end}
+use Rattle.layout.specs.VerdictLaws.{Clean, clean, verdict_on, verdict_stop, verdict_end}
+use Rattle.layout.proofs.PlaceLaws.{end_next}
 use Rattle.layout.specs.declared.Counts.{Counts}
 use Rattle.layout.specs.declared.Reading.TheVariants.{Refused}
 use Rattle.sheet.specs.Kept.{kept, kept_length, keeps, Before, last_next, stops_kept, cars_kept, demands_kept, closures_kept}

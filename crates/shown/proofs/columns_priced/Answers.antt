@@ -3,7 +3,7 @@ use Prim.Native.Nat.{ℕ}
 use mathlib.Core.Path.{refl, ap, ap₂, ◌∙◌}
 use mathlib.Core.Bool.{Bool, ◌&&◌, ◌||◌}
 use native.Mathlib.Omega.{arith}
-use Rattle.laws.specs.Folds.{every, every_step, ended}
+use Rattle.laws.specs.Folds.{every, every_step}
 use Rattle.prices.specs.Price.{zero_or_less, is_zero}
 use Rattle.prices.specs.PriceLaws.{same_price}
 use Rattle.shown.specs.Shown.{taken, columns_priced}
@@ -13,18 +13,6 @@ use Rattle.shown.proofs.columns_priced.Goals as goal
 pub loop-j-init : goal.loop-j-init
 unfolding columns_priced every
 loop-j-init c = (omega arith, refl)
-
-pub offset_bounds-v-j : goal.offset_bounds-v-j
-offset_bounds-v-j c = omega (arith, c.requires.2, c.loop-j-test.true)
-
-pub bounds-v-j : goal.bounds-v-j
-bounds-v-j c = omega (arith, c.requires.1, c.loop-j-test.true)
-
-pub taken-some-requires : goal.taken-some-requires
-taken-some-requires c = c.requires.0
-
-pub overflow_add-j : goal.overflow_add-j
-overflow_add-j c = omega (arith, c.requires.2, c.loop-j-test.true)
 
 pub loop-j-preserved : goal.loop-j-preserved
 unfolding columns_priced taken
@@ -40,9 +28,3 @@ loop-j-preserved c =
           (ap₂ (λ (p q : Bool). p && q) (c.zero_or_less.ensures ∙ ap zero_or_less y)
           (ap₂ (λ (p q : Bool). p || q) c.taken-some.ensures (c.is_zero.ensures ∙ ap is_zero y)))),
     )
-
-pub returns : goal.returns
-returns c =
-    let a = c.args in
-    ended (λ (k : ℕ). columns_priced a.n k (column_of a.columns.now) (price_at a.v.now)) c.loop-j.invariant.0 c.loop-j-test.false
-    c.loop-j.invariant.1

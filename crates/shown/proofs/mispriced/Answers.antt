@@ -9,7 +9,6 @@ use Rattle.laws.specs.Folds.{any, any_step, ended}
 use Rattle.prices.specs.Price.{in_range}
 use Rattle.shown.specs.Fits.{price_at}
 use Rattle.shown.specs.Refusals.{other_count, same_count}
-use borrow.Author.Rules.{rules}
 use Rattle.shown.proofs.mispriced.Goals as goal
 
 pub returns-then-sent-k : goal.returns-then-sent-k
@@ -18,15 +17,6 @@ returns-then-sent-k c = let a = c.args in other_count a.k a.sent.now c.if-sent-k
 pub loop-i-init : goal.loop-i-init
 unfolding any
 loop-i-init c = (omega arith, refl)
-
-pub offset_bounds-sent-i : goal.offset_bounds-sent-i
-offset_bounds-sent-i c = search rules
-
-pub bounds-sent-i : goal.bounds-sent-i
-bounds-sent-i c = omega (arith, c.if-sent-k.false, c.loop-i-test.true)
-
-pub overflow_add-i : goal.overflow_add-i
-overflow_add-i c = search rules
 
 pub loop-i-preserved : goal.loop-i-preserved
 loop-i-preserved c =

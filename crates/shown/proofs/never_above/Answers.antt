@@ -3,7 +3,7 @@ use Prim.Native.Nat.{ℕ}
 use mathlib.Core.Path.{refl, ap}
 use mathlib.Core.Bool.{Bool, ◌&&◌}
 use native.Mathlib.Omega.{arith}
-use Rattle.laws.specs.Folds.{every, every_step, ended}
+use Rattle.laws.specs.Folds.{every, every_step}
 use Rattle.prices.specs.Price.{within}
 use Rattle.assignment_problem.specs.Choice.{cell_at}
 use Rattle.shown.specs.Shown.{never_above}
@@ -14,12 +14,6 @@ pub loop-i-init : goal.loop-i-init
 unfolding never_above every
 loop-i-init c = (omega arith, refl)
 
-pub row_within-ok-requires : goal.row_within-ok-requires
-row_within-ok-requires c = (c.requires, c.loop-i-test.true)
-
-pub overflow_add-i : goal.overflow_add-i
-overflow_add-i c = omega (arith, c.requires.few_cars, c.loop-i-test.true)
-
 pub loop-i-preserved : goal.loop-i-preserved
 unfolding never_above
 loop-i-preserved c =
@@ -29,9 +23,3 @@ loop-i-preserved c =
       every_step (λ (i : ℕ). every (λ (j : ℕ). within (price_at a.u.now i) (price_at a.v.now j) (cell_at a.cells.now a.w i j)) a.w)
           l.i l.invariant.1 (ap (λ (b : Bool). l.ok && b) c.row_within-ok.ensures),
     )
-
-pub returns : goal.returns
-returns c =
-    let a = c.args in
-    ended (λ (k : ℕ). never_above k a.w (cell_at a.cells.now a.w) (price_at a.u.now) (price_at a.v.now)) c.loop-i.invariant.0
-    c.loop-i-test.false c.loop-i.invariant.1

@@ -17,15 +17,6 @@ pub loop-i-init : goal.loop-i-init
 unfolding any
 loop-i-init c = (omega arith, refl)
 
-pub bounds-columns-i : goal.bounds-columns-i
-bounds-columns-i c = omega (arith, c.if-columns-n.false, c.loop-i-test.true)
-
-pub overflow_cast-j : goal.overflow_cast-j
-overflow_cast-j c = omega (arith, c.shared_slice_known-in-loop-i-1.given c.loop-i.i)
-
-pub taken-requires : goal.taken-requires
-taken-requires c = omega (arith, c.if-columns-n.false, c.loop-i-test.true)
-
 pub loop-i-preserved : goal.loop-i-preserved
 unfolding outside repeats taken
 loop-i-preserved c =

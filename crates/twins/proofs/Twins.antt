@@ -22,7 +22,7 @@ use Rattle.twins.specs.Written.{holds_field, holds_number, bits_of_lem, digits_b
 use Rattle.twins.specs.Twin.{record_of, records_of, twin_bits, twin, under, SameRecords}
 use Rattle.twins.specs.Views.{policy_same, limit_same, stop_same, line_same, car_same, aboard_same, waiting_same, demand_same, closed_same}
 use Rattle.twins.specs.Looks.{Pair, the_policy, the_stop, the_line, the_car, the_aboard, the_waiting, the_demand, the_closed}
-use Rattle.twins.specs.Steps.{under_next, end_next, record_length_lem, records_bits, kind_same, pair, record_clean}
+use Rattle.twins.proofs.Steps.{under_next, end_next, record_length_lem, records_bits, kind_same, pair, record_clean}
 
 -- ---- the records that are left
 

@@ -1,0 +1,4 @@
+-- Theorems of the verdict and of the places of a sheet.
+pub mod ConditionLaws
+pub mod Earliest
+pub mod PlaceLaws

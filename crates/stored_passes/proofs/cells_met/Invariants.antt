@@ -1,0 +1,14 @@
+-- stored_passes::cells_met meets its contract.
+use Prim.Native.Nat.{ℕ, ◌+◌, ◌-◌, ◌≤◌}
+use Rattle.stored_passes.specs.Cases.{differing, differing_none, differing_next, differing_le}
+use Rattle.stored_passes.specs.Tallies.{tallied_of, tallied_none, tallied_next}
+use borrow.Author.Rules.{rules}
+use mathlib.Core.Path.{◌≡◌, refl, ap, ◌∙◌}
+use native.Mathlib.Omega.{arith}
+use Rattle.stored_passes.proofs.cells_met.Given as goal
+
+abbrev pub invariant-loop-k : goal.invariant-loop-k
+invariant-loop-k l = (l.k ≤ l.n) × (l.d.differ ≡ l.initial.d.differ + differing l.s l.at 8 l.ours l.k) × (l.d ≡ tallied_of l.s l.at 8 5 l.ours l.initial.d l.k)
+
+abbrev pub decreases-loop-k : goal.decreases-loop-k
+decreases-loop-k l = l.n - l.k
