@@ -45,23 +45,24 @@ module _ (s : Sheet) (stop : ℕ → Stop) (line : ℕ → Line) (car : ℕ → 
       )
 
 module _ (s : Sheet) (stop : ℕ → Stop) (line : ℕ → Line) (car : ℕ → Car) (aboard : ℕ → Aboard) (waiting : ℕ → Waiting)
-    (demand : ℕ → Demand) (closed : ℕ → ℕ) (h : Alike s stop line car aboard waiting demand closed)
-    (more : (i j : ℕ) → i < s.cars → j < s.stops → has (s.car i).restricted j ≡ true → has (car i).restricted j ≡ true) where
+    (demand : ℕ → Demand) (closed : ℕ → ℕ) (h : Alike s stop line car aboard waiting demand closed) where
   abbrev t : Sheet
   t = other s stop line car aboard waiting demand closed
 
-  cell_grows : (i j : ℕ) → i < s.cars → j < s.stops → cell s no_limit i j ≤ cell t no_limit i j
-  cell_grows i j li lj =
+  cell_grows : (i j : ℕ) → i < s.cars → j < s.stops → (has (s.car i).restricted j ≡ true → has (car i).restricted j ≡ true)
+      → cell s no_limit i j ≤ cell t no_limit i j
+  cell_grows i j li lj more =
       ⊎_elim
       (λ (b : has (car i).restricted j ≡ true). omega (arith, cell_barred t no_limit i j b, cell_le s no_limit i j))
       (λ (b : has (car i).restricted j ≡ false).
-      let e = contrary (has (s.car i).restricted j) (λ x. not_both (more i j li lj x) b) in
+      let e = contrary (has (s.car i).restricted j) (λ x. not_both (more x) b) in
       omega (arith, cell_same s stop line car aboard waiting demand closed h i j li lj (e ∙ sym b)))
       (which (has (car i).restricted j))
 
-  matrix_grows : (r c : ℕ) → r < idle_cars s → matrix s no_limit r c ≤ matrix t no_limit r c
+  matrix_grows : ((i j : ℕ) → i < s.cars → j < s.stops → has (s.car i).restricted j ≡ true → has (car i).restricted j ≡ true)
+      → (r c : ℕ) → r < idle_cars s → matrix s no_limit r c ≤ matrix t no_limit r c
   unfolding matrix
-  matrix_grows r c lr =
+  matrix_grows more r c lr =
       rw (
         ← same_row s stop line car aboard waiting demand closed h r,
         ← same_column s stop line car aboard waiting demand closed h c,
@@ -70,13 +71,15 @@ module _ (s : Sheet) (stop : ℕ → Stop) (line : ℕ → Line) (car : ℕ → 
       (⊎_elim
       (λ (l : c < pending_stops s).
       rw (lt-ltb c (pending_stops s) l)
-      (cell_grows (row_car s r) (column_stop s c) (row_below s stop line car aboard waiting demand closed h r lr)
-      (column_below s stop line car aboard waiting demand closed h c l)))
+      (let lc = row_below s stop line car aboard waiting demand closed h r lr in
+      let ls = column_below s stop line car aboard waiting demand closed h c l in
+      cell_grows (row_car s r) (column_stop s c) lc ls (more (row_car s r) (column_stop s c) lc ls)))
       (λ (l : pending_stops s ≤ c). rw (le-ltb c (pending_stops s) l) (omega arith))
       (less? c (pending_stops s)))
 
-  pub total_grows : answered_total s no_limit ≤ answered_total t no_limit
-  unfolding answered_total
-  total_grows =
-      rw (← same_cars s stop line car aboard waiting demand closed h, ← same_columns s stop line car aboard waiting demand closed h)
-      (least_total_mono (matrix t no_limit) (matrix s no_limit) (idle_cars s) (columns s) (rows_fit s) (λ r c lr lc. matrix_grows r c lr))
+  module _ (more : (i j : ℕ) → i < s.cars → j < s.stops → has (s.car i).restricted j ≡ true → has (car i).restricted j ≡ true) where
+    pub total_grows : answered_total s no_limit ≤ answered_total t no_limit
+    unfolding answered_total
+    total_grows =
+        rw (← same_cars s stop line car aboard waiting demand closed h, ← same_columns s stop line car aboard waiting demand closed h)
+        (least_total_mono (matrix t no_limit) (matrix s no_limit) (idle_cars s) (columns s) (rows_fit s) (λ r c lr lc. matrix_grows more r c lr))
