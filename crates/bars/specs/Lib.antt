@@ -4,8 +4,5 @@
 --   one more bar changes one cell; the total never falls      Barred
 --   the claim of two passes                                   NeverCheaper
 pub mod Agree
-pub mod Clear
-pub mod SameCounts
 pub mod SameRecords
-pub mod Barred
 pub mod NeverCheaper

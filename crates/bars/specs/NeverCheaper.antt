@@ -4,18 +4,13 @@
 --   never-cheaper    it holds
 --   one-bar          one more bit is such a set
 use Rattle.std.specs.Prelude.{ℕ, ◌≤◌, ◌≡◌}
-use Rattle.std.proofs.Common.{sym, ap, ◌∙◌, arith}
 use Rattle.layout.specs.declared.Counts.{Counts}
 use Rattle.layout.specs.declared.Reading.TheVariants.{Accepted}
-use Rattle.layout.specs.Records.{sheet_of, limit_of}
-use Rattle.accepted.specs.Accepted.{accepted}
+use Rattle.layout.specs.Records.{limit_of}
 use Rattle.assignment.specs.Candidates.{no_limit}
-use Rattle.assignment.specs.Cells.{answered_total}
 use Rattle.bench.specs.Answers.{total_of}
-use Rattle.bench.specs.Done.{Lent, Done, outcome_of, pass_of, is_written}
-use Rattle.bench.specs.TwoPasses.{verdict_of}
+use Rattle.bench.specs.Done.{Lent, Done, outcome_of}
 use Rattle.bars.specs.Agree.{AgreeButBars, OneBar, one_agrees}
-use Rattle.bars.specs.Barred.{limit_same, total_grows}
 
 -- two sheets, c and d their counts
 pub record BarPair (first second : Lent) (c d : Counts) : Type 0 where
@@ -29,25 +24,6 @@ pub record BarPair (first second : Lent) (c d : Counts) : Type 0 where
 -- "never lowers the total"
 pub record NeverCheaper (first second : Lent) (x y : Done) : Type 0 where
   pub holds : (c d : Counts) → BarPair first second c d → total_of x.answer ≤ total_of y.answer
-
-pub never_cheaper : (first second : Lent) {x y : Done} → x ≡ pass_of first → y ≡ pass_of second → NeverCheaper first second x y
-never_cheaper first second h k =
-    record {
-      holds = λ c d p.
-          let e = verdict_of first c p.first_accepted in
-          let f = verdict_of second d p.second_accepted in
-          let s = sheet_of first.bytes c in
-          let t = sheet_of second.bytes d in
-          let two = sym (limit_same first.bytes second.bytes c p.agree (accepted first.bytes c e).one_policy) ∙ p.no_limit_lem in
-          omega (
-            arith,
-            ap (λ (z : Done). total_of z.answer) (is_written first h c p.first_accepted),
-            ap (λ (z : Done). total_of z.answer) (is_written second k d p.second_accepted),
-            ap (answered_total s) p.no_limit_lem,
-            ap (answered_total t) two,
-            total_grows first.bytes second.bytes c p.agree d e f,
-          );
-    }
 
 pub one_bar : (first second : Lent) (c d : Counts) (i k : ℕ) → outcome_of first ≡ Accepted c → outcome_of second ≡ Accepted d
     → OneBar first.bytes second.bytes c i k → limit_of first.bytes ≡ no_limit → BarPair first second c d

@@ -20,9 +20,9 @@ use Rattle.layout.specs.Records.{limit_of}
 use Rattle.layout.specs.Verdict.{verdict}
 use Rattle.assignment.specs.Candidates.{no_limit}
 use Rattle.bench.specs.Done.{Lent, outcome_of}
-use Rattle.bench.specs.TwoPasses.{verdict_of}
+use Rattle.bench.proofs.TwoPasses.{verdict_of}
 use Rattle.bars.specs.Agree.{bar_bit, AgreeButBars}
-use Rattle.bars.specs.Clear.{fits}
+use Rattle.bars.proofs.Clear.{fits}
 use Rattle.bars.specs.NeverCheaper.{BarPair}
 use Rattle.replay_pairs.specs.Pairs.{agree}
 

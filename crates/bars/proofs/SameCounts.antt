@@ -1,5 +1,5 @@
 -- Two accepted byte lists that agree but in bars have the same counts: no record's kind holds a bar. Assumes nothing.
-use Rattle.std.specs.Prelude.{ℕ, zero, suc, ◌+◌, ◌*◌, ◌≤◌, ◌<◌, ◌≡◌, List, ◌⊎◌, ltb}
+use Rattle.std.specs.Prelude.{ℕ, zero, suc, ◌+◌, ◌*◌, ◌≤◌, ◌<◌, ◌≡◌, List, ltb}
 use Rattle.std.proofs.Math.Path.{refl}
 use Rattle.std.proofs.Common.{sym, ap, ap₂, ◌∙◌, subst, inl, inr, ⊎_elim, mul-le-mul_left, arith, ltb-false}
 use Rattle.laws.specs.Bools.{less?, neither_left}
@@ -15,7 +15,7 @@ use Rattle.layout.specs.Verdict.{records_verdict, at_first, verdict}
 use Rattle.layout.specs.VerdictLaws.{Clean}
 use Rattle.accepted.specs.Accepted.{Last, last, on, headed, at_end}
 use Rattle.bars.specs.Agree.{AgreeButBars, Clear, field_same}
-use Rattle.bars.specs.Clear.{fits, clear_before}
+use Rattle.bars.proofs.Clear.{fits, clear_before}
 
 -- ---- what was read first
 

@@ -1,6 +1,6 @@
 -- Two accepted byte lists that agree but in bars hold sheets that are alike but in bars; without a candidate limit the total of the second is no
 -- lower. One more bar changes one cell, to the sentinel. Assumes nothing.
-use Rattle.std.specs.Prelude.{ℕ, suc, ◌+◌, ◌-◌, ◌/◌, ◌%◌, ◌^◌, ◌≤◌, ◌<◌, ◌≡◌, refl, true, List, ◌⊎◌, ◌≢◌}
+use Rattle.std.specs.Prelude.{ℕ, suc, ◌+◌, ◌-◌, ◌/◌, ◌%◌, ◌^◌, ◌≤◌, ◌<◌, ◌≡◌, true, List, ◌⊎◌, ◌≢◌}
 use Rattle.std.proofs.Math.Path.{sym, ap, ap₂}
 use Rattle.std.proofs.Common.{◌∙◌, subst, arith, eqb-true, eq-eqb}
 use Rattle.std.proofs.Math.Dec.{eqb}
@@ -23,10 +23,10 @@ use Rattle.accepted.specs.Accepted.{accepted}
 use Rattle.assignment.specs.Candidates.{no_limit}
 use Rattle.assignment.specs.Cells.{cell, answered_total}
 use Rattle.alike.specs.Alike.{Alike, other}
-use Rattle.alike.specs.Bars as bars
+use Rattle.alike.proofs.Bars as bars
 use Rattle.bars.specs.Agree.{bar_bit, AgreeButBars, OneBar, one_agrees, field_same}
-use Rattle.bars.specs.Clear.{fits, bars_apart, clear_before, clear_after, clear_front, clear_calls}
-use Rattle.bars.specs.SameCounts.{counts_same}
+use Rattle.bars.proofs.Clear.{fits, bars_apart, clear_before, clear_after, clear_front, clear_calls}
+use Rattle.bars.proofs.SameCounts.{counts_same}
 use Rattle.bars.specs.SameRecords.{SameFields, policy_same, stop_same, line_same, aboard_same, waiting_same, demand_same, place_same, car_like}
 
 -- ---- the bits of a mask
