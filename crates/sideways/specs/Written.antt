@@ -9,8 +9,8 @@ use Rattle.components.specs.declared.Demand.{Demand}
 use Rattle.components.specs.Sheet.{Sheet}
 use Rattle.alike.specs.Alike.{Alike, other}
 use Rattle.alike.specs.Stops.{same_cars, same_stops}
-use Rattle.alike.specs.Rows.{same_held, same_ranked}
-use Rattle.alike.specs.Buffers.{same_total, same_decisions, same_cells, same_sweeps}
+use Rattle.alike.proofs.Rows.{same_held, same_ranked}
+use Rattle.alike.proofs.Buffers.{same_total, same_decisions, same_cells, same_sweeps}
 use Rattle.bench.specs.declared.Answer.TheVariants.{Passed}
 use Rattle.bench.specs.Done.{Lent, written, answer_of, same_done}
 

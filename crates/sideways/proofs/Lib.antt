@@ -1,0 +1,2 @@
+-- That a twin passes as its sheet.
+pub mod TwinPass
