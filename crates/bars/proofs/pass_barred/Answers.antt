@@ -1,6 +1,5 @@
 -- bars::pass_barred meets its contract.
 use Rattle.bars.specs.NeverCheaper.{never_cheaper}
-use borrow.Author.Rules.{rules}
 use Rattle.bars.proofs.pass_barred.Goals as goal
 
 pub returns : goal.returns
