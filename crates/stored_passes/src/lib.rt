@@ -3,6 +3,8 @@
 // A case is the sheet's length in 16 bits, its bytes, n and m in 8 bits each, the total in 64, the number of held cells in 16, n decisions of 32,
 // n × max(n, m) cells of 64, the number of car records in 8, as many sweeps of 8, and 8 bits that are 1 where the Rust built the matrix; the most
 // significant byte comes first.
+#![tactic(auto)]
+
 ghost use Rattle.std.specs.Prelude.{◌≡◌, ◌+◌, ◌≤◌, ◌<◌, ◌*◌, max, length};
 ghost use Rattle.stored_passes.specs.Cases.{apart, differing, Inside, Placed, parts_of, case_of, case_differs};
 ghost use Rattle.stored_passes.specs.Passes.{pass_differs};
