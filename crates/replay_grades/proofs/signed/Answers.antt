@@ -1,6 +1,5 @@
 -- replay_grades::signed meets its contract.
 use Prim.Native.Nat.{ℕ, zero, suc, ◌+◌, ◌-◌, ◌<◌}
-use borrow.Author.Rules.{rules}
 use borrow.Author.Tests.{lt-ltb, le-ltb}
 use lib.IntN.{ℤ, pos, negsuc, ◌-ℤ◌}
 use mathlib.Core.Path.{◌≡◌, refl, sym, ap, ◌∙◌, subst}
@@ -9,8 +8,7 @@ use mir.Syntax.{w64}
 use mir.Val.{SFits, to_z, of_z}
 use native.Mathlib.Omega.{arith}
 use Rattle.replay_grades.specs.Cases.{signed}
-use Rattle.replay_grades.proofs.signed.Statement.{statement}
-use Rattle.replay_grades.proofs.signed.Tie as tie
+use Rattle.replay_grades.proofs.signed.Goals as goal
 
 -- so far below -1
 below : (m : ℕ) → negsuc 0 -ℤ pos m ≡ negsuc m
@@ -23,23 +21,20 @@ below_is m l = ap (λ (z : ℤ). negsuc 0 -ℤ z) (to_z_pos w64 {n = m} (omega a
 fits : (m : ℕ) → m < 9_223_372_036_854_775_808 → SFits w64 (negsuc m)
 fits m l = record { sfits = omega arith }
 
-returns : tie.Need-returns
+pub returns-then-x-lt9223372036854775808 : goal.returns-then-x-lt9223372036854775808
 unfolding signed
-returns c = rw (lt-ltb c.before.args.x 9_223_372_036_854_775_808 c.if1.true)
+returns-then-x-lt9223372036854775808 c = rw (lt-ltb c.args.x 9_223_372_036_854_775_808 c.if-x-lt9223372036854775808.true)
 
-sub-result : tie.Need-overflow-sub-result
-sub-result c =
-    let m = c.before.args.x - 9_223_372_036_854_775_808 in
-    let l : m < 9_223_372_036_854_775_808 = omega (arith, c.before.ranges.x) in
+pub overflow_sub-result : goal.overflow_sub-result
+overflow_sub-result c =
+    let m = c.args.x - 9_223_372_036_854_775_808 in
+    let l : m < 9_223_372_036_854_775_808 = omega (arith, c.ranges.x) in
     subst (λ (z : ℤ). SFits w64 z) (sym (below_is m l)) (fits m l)
 
-returns-2 : tie.Need-returns-2
+pub returns : goal.returns
 unfolding signed
-returns-2 c =
-    let m = c.before.args.x - 9_223_372_036_854_775_808 in
-    let l : m < 9_223_372_036_854_775_808 = omega (arith, c.before.ranges.x) in
-    rw (le-ltb c.before.args.x 9_223_372_036_854_775_808 c.if1.false)
+returns c =
+    let m = c.args.x - 9_223_372_036_854_775_808 in
+    let l : m < 9_223_372_036_854_775_808 = omega (arith, c.ranges.x) in
+    rw (le-ltb c.args.x 9_223_372_036_854_775_808 c.if-x-lt9223372036854775808.false)
     (ap (λ (z : ℤ). to_z w64 (of_z w64 z)) (below_is m l) ∙ to_z-of_z (fits m l))
-
-pub signed_spec : {M : Type 1} → statement M
-signed_spec = tie.close (tie.spec (λ c. search rules) returns (λ c. search rules) sub-result returns-2)
