@@ -1,5 +1,5 @@
 -- The limit is bytes 6 and 7, whole. Two accepted byte lists that agree everywhere else have the same counts and the same sheet. Assumes nothing.
-use Rattle.std.specs.Prelude.{ℕ, zero, suc, ◌+◌, ◌*◌, ◌≤◌, ◌<◌, ◌≡◌, List, ◌⊎◌, ◌≢◌, get_or}
+use Rattle.std.specs.Prelude.{ℕ, zero, suc, ◌+◌, ◌*◌, ◌≤◌, ◌<◌, ◌≡◌, List, ◌⊎◌}
 use Rattle.std.proofs.Common.{sym, ap, ◌∙◌, subst, inl, inr, ⊎_elim, mul-zero, mul-one, mul-le-mul_left, arith}
 use Rattle.std.proofs.Math.Path.{fun_ext}
 use Rattle.laws.specs.Bools.{less?}

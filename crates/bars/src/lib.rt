@@ -1,4 +1,6 @@
 // Bars added to a sheet: request F-14.
+#![tactic(auto)]
+
 ghost use Rattle.std.specs.Prelude.{◌≡◌};
 ghost use Rattle.bench.specs.Done.{lent, done, pass_of};
 ghost use Rattle.bars.specs.NeverCheaper.{NeverCheaper};

@@ -1,5 +1,5 @@
 -- What is held of a car's riders is the sheet's, and so is pair_is_useful from what is held. Assumes nothing.
-use Rattle.std.specs.Prelude.{ℕ, ◌<◌, ◌≤◌, ◌≡◌, Bool, ◌&&◌, ◌||◌, cond, ltb, Float}
+use Rattle.std.specs.Prelude.{ℕ, ◌<◌, ◌≤◌, ◌≡◌, Bool, ◌&&◌, cond, ltb, Float}
 use Rattle.std.proofs.Common.{arith, sym, ◌∙◌}
 use Rattle.std.proofs.Math.Path.{refl, ap, ap₂}
 use Rattle.std.proofs.Math.Bool.{true, false, not, and_assoc}
@@ -9,7 +9,7 @@ use Rattle.std.proofs.Math.ListN.{get_or, drop}
 use Rattle.std.specs.Float.Ieee.{nan}
 use Rattle.laws.specs.Bools.{both_right}
 use Rattle.laws.specs.Folds.{any, any_cong, count, count_cong}
-use Rattle.laws.specs.Collected.{collected, collected_cong, any_collected}
+use Rattle.laws.specs.Collected.{collected, collected_cong}
 use Rattle.mask.specs.Mask.{has}
 use Rattle.mask.specs.MaskLaws.{has_built}
 use Rattle.components.specs.declared.Point.{Point}
@@ -17,15 +17,12 @@ use Rattle.components.specs.declared.Place.{Place}
 use Rattle.components.specs.declared.Place.TheVariants.{At, Nowhere}
 use Rattle.components.specs.Points.{point_of}
 use Rattle.components.specs.Sheet.{Sheet}
-use Rattle.manifest.specs.declared.Waiters.{Waiters}
-use Rattle.manifest.specs.World.{stop_id, stop_at, stop_position, goal, rides}
+use Rattle.manifest.specs.World.{stop_id, stop_position, rides}
 use Rattle.manifest.specs.Stops.{HoldsStops, DistinctStops, stop_index, point_in, sides_of, side_of, place_at, position_in, position_is, index_is}
 use Rattle.manifest.specs.Holds.{HoldsAboard}
 use Rattle.riders.specs.declared.Riders.{Riders}
 use Rattle.riders.specs.Riders.{known_at, exits_at, exits_in, dests_in, routed, routed_in, riders_in, Seats}
-use Rattle.dispatch.specs.Useful.{on_path, on_path_to, can_exit_here, on_aboard_path, obstacle, pair_is_useful}
-use Rattle.dispatch.specs.Pairs.{on_path_in, path_allows, useful_by, obstacle_by}
-use Rattle.dispatch.specs.WaitersLaws.{HoldsWaiters, Weighed, servable_is}
+use Rattle.dispatch.specs.Useful.{can_exit_here}
 
 abbrev pub is_at : Place → Bool
 is_at Nowhere = false
@@ -140,41 +137,3 @@ module _ (s : Sheet) (ids : List ℕ) (xs : List Float) (n : ℕ) (hs : HoldsSto
         rest_aside = drop r.count sides;
         aside = h.aside ∙ ap (λ (l : List Float). l ++ drop r.count sides) (dests_are (sides_of xs) (λ p. p.across) across_of);
       }
-
--- ---- pair_is_useful
-
-module _ (s : Sheet) (i j : ℕ) (weighed : Weighed s i) (r : Riders) (dests sides : List Float) (hr : HoldsRiders s i r dests sides) (v : Waiters)
-    (hv : HoldsWaiters s j v)
-  where
-    abbrev passes : Float → Bool
-    passes d = on_path (s.car i).position.along (stop_at s j).along d
-
-    on_path_is : on_path_in (s.car i).position.along (stop_at s j).along dests r.count
-        ≡ any (λ a. rides s i a && on_path_to (s.car i).position.along (stop_at s j).along (bound_for s i a)) s.aboards
-    unfolding on_path_in
-    on_path_is =
-        ap₂ (λ (l : List Float) (m : ℕ). any (λ k. passes (get_or l k nan)) m) hr.held hr.counted
-        ∙ any_collected (rides_to s i) (λ a. (stands_at (bound_for s i a)).along) passes s.aboards hr.rest nan
-        ∙ any_cong (λ a. rides_to s i a && passes (stands_at (bound_for s i a)).along)
-        (λ a. rides s i a && on_path_to (s.car i).position.along (stop_at s j).along (bound_for s i a)) s.aboards
-        (λ a l. by (rides s i a) (bound_for s i a))
-      where
-        by : (b : Bool) (d : Place)
-            → ((b && is_at d) && passes (stands_at d).along) ≡ (b && on_path_to (s.car i).position.along (stop_at s j).along d)
-        by false d = refl
-        by true Nowhere = refl
-        by true (At x) = refl
-
-    path_is : (path : Bool) → path_allows (s.car i) r dests (stop_at s j).along path ≡ (not path || on_aboard_path s i j)
-    unfolding path_allows on_aboard_path
-    path_is path = rw (hr.routed, on_path_is)
-
-    pub useful_is : (path : Bool) → j < s.stops
-        → useful_by (s.car i) (goal s i) r dests v (has r.exits j) (stop_at s j).along path ≡ pair_is_useful s i j path
-    unfolding useful_by pair_is_useful
-    useful_is path l = rw (hr.exits j l, servable_is s i j weighed v hv, path_is path)
-
-    pub obstacle_is : (path : Bool) → j < s.stops
-        → obstacle_by (s.car i) (goal s i) r dests v (has r.exits j) (stop_at s j).along path ≡ obstacle s i j path
-    unfolding obstacle_by obstacle
-    obstacle_is path l = rw (hr.exits j l, servable_is s i j weighed v hv, path_is path)

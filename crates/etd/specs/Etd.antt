@@ -3,13 +3,13 @@
 use Rattle.std.specs.Prelude.{ℕ, ◌+◌, ◌*◌, Bool, false, ◌&&◌, cond, Float}
 use Rattle.std.specs.Float.Ieee.{lt, le, neg}
 use Rattle.laws.specs.Folds.{fold, count}
-use Rattle.fp.specs.Num.{zero, half, three_tenths, epsilon, plus, minus, times, over, max_zero, fma, finite, natural}
+use Rattle.fp.specs.Num.{zero, half, three_tenths, epsilon, plus, minus, times, over, max_zero, fma, natural}
 use Rattle.components.specs.declared.Point.{Point}
 use Rattle.components.specs.declared.Place.{Place}
 use Rattle.components.specs.declared.Place.TheVariants.{At, Nowhere}
 use Rattle.components.specs.declared.Phase.{Phase}
 use Rattle.components.specs.declared.Rank.{Rank}
-use Rattle.components.specs.declared.Rank.TheVariants.{Cost, Never}
+use Rattle.components.specs.declared.Rank.TheVariants.{Never}
 use Rattle.components.specs.Cars.{is_moving, is_idle}
 use Rattle.components.specs.Points.{distance}
 use Rattle.components.specs.Sheet.{Sheet}

@@ -24,7 +24,8 @@ use Rattle.manifest.specs.Manifest.{demand_stop}
 use Rattle.manifest.specs.Stops.{HoldsStops, HoldsDemand, point_is}
 use Rattle.riders.specs.declared.Riders.{Riders}
 use Rattle.dispatch.specs.WaitersLaws.{HoldsWaiters, Weighed}
-use Rattle.dispatch.specs.RidersLaws.{HoldsRiders, is_at, stands_at, bound_for, rides_to, useful_is}
+use Rattle.dispatch.specs.RidersLaws.{HoldsRiders, is_at, stands_at, bound_for, rides_to}
+use Rattle.dispatch.proofs.RidersLaws.{useful_is}
 use Rattle.etd.specs.Etd.{intervenes, extra_delay, add_delay, travel_time, intervening_stops, rider_delay, compute_cost, etd_terms, etd_rank}
 use Rattle.etd.specs.Pairs.{intervening_in, halts_at, delay_in, cost_by, fair_cost_by, terms_by, rank_by}
 

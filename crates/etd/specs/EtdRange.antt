@@ -1,6 +1,6 @@
 -- ETD's ranks are finite and never below zero, on every sheet; and in document 01's admitted ranges a useful pair of a car that can move has a rank:
 -- its cost passes the test that it is finite. Assumes nothing.
-use Rattle.std.specs.Prelude.{ℕ, ◌+◌, ◌*◌, ◌^◌, ◌≤◌, ◌<◌, ◌≡◌, refl, Bool, ◌&&◌, Float}
+use Rattle.std.specs.Prelude.{ℕ, ◌+◌, ◌*◌, ◌^◌, ◌≤◌, ◌<◌, ◌≡◌, Bool, ◌&&◌, Float}
 use Rattle.std.proofs.Common.{arith, lit≤}
 use Rattle.std.proofs.Math.Nat.{le_trans}
 use Rattle.std.proofs.Math.Bool.{true, false, cond}
@@ -16,7 +16,7 @@ use Rattle.components.specs.declared.Point.{Point}
 use Rattle.components.specs.declared.Place.{Place}
 use Rattle.components.specs.declared.Place.TheVariants.{At, Nowhere}
 use Rattle.components.specs.declared.Phase.{Phase}
-use Rattle.components.specs.declared.Rank.TheVariants.{Cost, Never}
+use Rattle.components.specs.declared.Rank.TheVariants.{Cost}
 use Rattle.components.specs.Cars.{is_moving, is_idle}
 use Rattle.components.specs.Points.{distance, Sized, distance_size, placed_size}
 use Rattle.components.specs.Sheet.{Sheet}
@@ -24,7 +24,8 @@ use Rattle.manifest.specs.World.{stop_at, stop_position, goal, rides}
 use Rattle.manifest.specs.Manifest.{demand_stop}
 use Rattle.dispatch.specs.Useful.{pair_is_useful}
 use Rattle.dispatch.specs.Waits.{with_bonus, wait_ticks_sum, wait_ticks_squared_sum}
-use Rattle.dispatch.specs.Admitted.{Admitted, Placed, placed, grow, fma_size, with_bonus_size, with_bonus_nonneg, zero_size, waitsum_size, squares_size}
+use Rattle.dispatch.specs.Admitted.{Admitted, Placed, placed, grow, fma_size, with_bonus_size, with_bonus_nonneg, zero_size}
+use Rattle.dispatch.proofs.Admitted.{waitsum_size, squares_size}
 use Rattle.etd.specs.Etd.{intervenes, door_cost, extra_delay, add_delay, is_ahead, moving_bonus, direction_bonus, weighted, travel_time}
 use Rattle.etd.specs.Etd.{intervening_stops, rider_delay, compute_cost, fair_cost, etd_rank}
 use Rattle.dispatch.specs.FiniteRank.{finite_rank, ranked}

@@ -1,6 +1,6 @@
 -- ETD's cost and rank from what is held: the number of demand stops between, and the riders' destinations as two lists, of first and of second
 -- coordinates; that number from the demand stops as a mask over n stops. Assumes nothing.
-use Rattle.std.specs.Prelude.{ℕ, ◌≡◌, refl, Bool, true, false, ◌&&◌, cond, List, get_or, Float}
+use Rattle.std.specs.Prelude.{ℕ, ◌≡◌, Bool, true, false, ◌&&◌, cond, List, get_or, Float}
 use Rattle.std.proofs.Common.{sym, ◌∙◌}
 use Rattle.std.proofs.Math.Path.{ap}
 use Rattle.std.specs.Float.{nan}

@@ -1,8 +1,8 @@
 -- Of the 729 lines each matrix has one, and they rise. Assumes nothing.
---   lines-whole line-of                     729 lines of 13 characters; line k stands at its place
---   number-of matrix-number                 matrix k has the digits of k in base 3, so that later lines have larger matrices
---   every-matrix only_one                   each matrix of cells 0 to 2 has one line
---   first-line last_line                    the first and the last line
+--   lines_whole line_of_lem                 729 lines of 13 characters; line k stands at its place
+--   number_of matrix_number                 matrix k has the digits of k in base 3, so that later lines have larger matrices
+--   every_matrix_lem only_one               each matrix of cells 0 to 2 has one line
+--   first_line last_line                    the first and the last line
 use Rattle.std.specs.Prelude.{ℕ, ◌+◌, ◌*◌, ◌<◌, ◌/◌, ◌%◌, ◌≡◌, refl, [], ◌∷◌, length, take, drop}
 use Rattle.std.proofs.Common.{sym, ap, ◌∙◌, arith}
 use Rattle.std.proofs.Math.Nat.{div-div-eq-div-mul, div-add-mod}

@@ -1,14 +1,11 @@
 -- Laws of the verdict: what a record without a refusal says, and one record more. Assumes nothing.
-use Rattle.std.specs.Prelude.{ℕ, suc, ◌+◌, ◌-◌, ◌*◌, ◌≤◌, ◌<◌, ◌≡◌, refl, Bool, true, false, List, ◌≢◌}
-use Rattle.std.proofs.Common.{sym, ◌∙◌, mul-le-mul_left, arith, eq-eqb, ne_eqb}
+use Rattle.std.specs.Prelude.{ℕ, suc, ◌-◌, ◌*◌, ◌≤◌, ◌<◌, ◌≡◌, refl, Bool, true, false, List, ◌≢◌}
+use Rattle.std.proofs.Common.{◌∙◌, mul-le-mul_left, arith, eq-eqb, ne_eqb}
 use Rattle.std.proofs.Math.Path.{ap}
-use Rattle.laws.specs.Bools.{never}
-use Rattle.components.specs.declared.Kind.{Kind}
-use Rattle.components.specs.declared.Kind.TheVariants.{Policy, Stop, Line, Car, Aboard, Waiting, Demand, Closed, Unknown}
 use Rattle.components.specs.Codes.{kind_of}
 use Rattle.layout.specs.declared.Counts.{Counts}
 use Rattle.layout.specs.declared.Reading.TheVariants.{Refused}
-use Rattle.layout.specs.Offsets.{next, end_of, record_length}
+use Rattle.layout.specs.Offsets.{next, end_of}
 use Rattle.layout.specs.Records.{from}
 use Rattle.layout.specs.Refusals.{kind_at, length_at, refusal2, refusal4, refusal5, refusal6, refusal7}
 use Rattle.layout.specs.Verdict.{pick, first_of, body_refusal, record_refusal, tail_verdict, records_verdict}

@@ -15,7 +15,8 @@ use Rattle.manifest.specs.Stops.{HoldsStops, HoldsDemand, point_is}
 use Rattle.scan.specs.Scan.{prepared_sweep, rank_of, scan_rank}
 use Rattle.scan.specs.ScanLaws.{prepared_is}
 use Rattle.dispatch.specs.WaitersLaws.{HoldsWaiters, Weighed}
-use Rattle.dispatch.specs.RidersLaws.{HoldsRiders, useful_is}
+use Rattle.dispatch.specs.RidersLaws.{HoldsRiders}
+use Rattle.dispatch.proofs.RidersLaws.{useful_is}
 use Rattle.etd.specs.Etd.{etd_rank}
 use Rattle.etd.specs.Pairs.{rank_by as etdBy}
 use Rattle.rsr.specs.Pairs.{rank_by as rsrBy}

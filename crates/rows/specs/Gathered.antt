@@ -22,7 +22,8 @@ use Rattle.manifest.specs.Waiters.{with_rider, meet, waiters_in}
 use Rattle.manifest.specs.Holds.{HoldsWaiting}
 use Rattle.manifest.specs.Stops.{HoldsStops, Ascending, stop_index, position_in, index_has, index_at}
 use Rattle.dispatch.specs.Waits.{wait_ticks_sum, wait_ticks_squared_sum}
-use Rattle.dispatch.specs.WaitersLaws.{HoldsWaiters, waits_up, waits_down, waits_level, weight_of, waiters_held}
+use Rattle.dispatch.specs.WaitersLaws.{HoldsWaiters, waits_up, waits_down, waits_level, weight_of}
+use Rattle.dispatch.proofs.WaitersLaws.{waiters_held}
 use Rattle.pending.specs.Masks.{stop_mask}
 use Rattle.rows.specs.HeldLaws.{below_has}
 

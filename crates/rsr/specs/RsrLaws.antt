@@ -9,7 +9,8 @@ use Rattle.manifest.specs.World.{stop_at, goal}
 use Rattle.manifest.specs.Stops.{HoldsStops, point_is}
 use Rattle.riders.specs.declared.Riders.{Riders}
 use Rattle.dispatch.specs.WaitersLaws.{HoldsWaiters, Weighed}
-use Rattle.dispatch.specs.RidersLaws.{HoldsRiders, useful_is}
+use Rattle.dispatch.specs.RidersLaws.{HoldsRiders}
+use Rattle.dispatch.proofs.RidersLaws.{useful_is}
 use Rattle.rsr.specs.Rsr.{rsr_cost_of, rsr_cost, rsr_rank}
 use Rattle.rsr.specs.Pairs.{rank_by}
 

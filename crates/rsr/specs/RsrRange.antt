@@ -24,7 +24,8 @@ use Rattle.components.specs.Sheet.{Sheet}
 use Rattle.manifest.specs.World.{stop_at, goal}
 use Rattle.dispatch.specs.Useful.{pair_is_useful}
 use Rattle.dispatch.specs.Waits.{with_bonus, wait_ticks_sum}
-use Rattle.dispatch.specs.Admitted.{Admitted, grow, with_bonus_size, waitsum_size}
+use Rattle.dispatch.specs.Admitted.{Admitted, grow, with_bonus_size}
+use Rattle.dispatch.proofs.Admitted.{waitsum_size}
 use Rattle.dispatch.specs.FiniteRank.{finite_rank, ranked}
 use Rattle.rsr.specs.Rsr.{wrong_direction, peak_scaling, with_penalty, with_coincident_call, held_ratio, with_load, rsr_cost_of, rsr_cost, rsr_rank}
 
@@ -110,27 +111,6 @@ module _ (s : Sheet) (a : Admitted s) (i j : ℕ) (li : i < s.cars) (lj : j < s.
       (placed_size (s.car i).position (a.car_at i li)) (placed_size (stop_at s j) (a.stop_at_lem j lj)))
       (speed_power (s.car i).speed (a.speed i li) moves))
 
-  cost_finite : finite (rsr_cost s i j) ≡ true
-  unfolding rsr_cost_of
-  cost_finite =
-      let eta = times s.policy.w0 (over (distance (s.car i).position (stop_at s j)) (s.car i).speed) in
-      let scaling = peak_scaling s.policy.traffic s.policy.w5 in
-      let wrong = wrong_direction (goal s i) (s.car i).position.along (stop_at s j).along in
-      let reversed = with_penalty eta s.policy.w1 scaling wrong in
-      let called = with_coincident_call reversed s.policy.w2 (has (s.car i).calls j) in
-      let loaded = with_load called s.policy.w3 (is_idle (s.car i).phase) (s.car i).load (s.car i).capacity in
-      size_finite (2 ^ 596) (rsr_cost s i j)
-      (max_zero_size (2 ^ 596) (with_bonus loaded s.policy.w4 (wait_ticks_sum s j))
-      (with_bonus_size 565 595 loaded s.policy.w4 (wait_ticks_sum s j) (lit≤ tt) (lit≤ tt)
-      (grow 65 595 loaded (lit≤ tt)
-      (load_size called s.policy.w3 (is_idle (s.car i).phase) (s.car i).load (s.car i).capacity
-      (call_size reversed s.policy.w2 (has (s.car i).calls j)
-      (penalty_size eta s.policy.w1 scaling wrong eta_size (mass_power s.policy.w1 a.w1)
-      (scaling_size s.policy.traffic s.policy.w5 (mass_power s.policy.w5 a.w5)))
-      (mass_power s.policy.w2 a.w2))
-      (mass_power s.policy.w3 a.w3) (a.load i li) (a.capacity i li)))
-      (mass_power s.policy.w4 a.w4) (waitsum_size s a j)))
-
   above_zero : le (s.car i).speed Num.zero ≡ false
   above_zero = by (le (s.car i).speed Num.zero) refl
     where
@@ -140,5 +120,25 @@ module _ (s : Sheet) (a : Admitted s) (i j : ℕ) (li : i < s.cars) (lj : j < s.
 
   -- "In the admitted ranges every rank is finite": a useful pair has one
   pub rsr_ranked : pair_is_useful s i j true ≡ true → rsr_rank s i j ≡ Cost (rsr_cost s i j)
-  unfolding rsr_rank finite_rank
+  unfolding rsr_rank finite_rank rsr_cost_of
   rsr_ranked u = rw (u, above_zero, cost_finite)
+    where
+      cost_finite : finite (rsr_cost s i j) ≡ true
+      cost_finite =
+          let eta = times s.policy.w0 (over (distance (s.car i).position (stop_at s j)) (s.car i).speed) in
+          let scaling = peak_scaling s.policy.traffic s.policy.w5 in
+          let wrong = wrong_direction (goal s i) (s.car i).position.along (stop_at s j).along in
+          let reversed = with_penalty eta s.policy.w1 scaling wrong in
+          let called = with_coincident_call reversed s.policy.w2 (has (s.car i).calls j) in
+          let loaded = with_load called s.policy.w3 (is_idle (s.car i).phase) (s.car i).load (s.car i).capacity in
+          size_finite (2 ^ 596) (rsr_cost s i j)
+          (max_zero_size (2 ^ 596) (with_bonus loaded s.policy.w4 (wait_ticks_sum s j))
+          (with_bonus_size 565 595 loaded s.policy.w4 (wait_ticks_sum s j) (lit≤ tt) (lit≤ tt)
+          (grow 65 595 loaded (lit≤ tt)
+          (load_size called s.policy.w3 (is_idle (s.car i).phase) (s.car i).load (s.car i).capacity
+          (call_size reversed s.policy.w2 (has (s.car i).calls j)
+          (penalty_size eta s.policy.w1 scaling wrong eta_size (mass_power s.policy.w1 a.w1)
+          (scaling_size s.policy.traffic s.policy.w5 (mass_power s.policy.w5 a.w5)))
+          (mass_power s.policy.w2 a.w2))
+          (mass_power s.policy.w3 a.w3) (a.load i li) (a.capacity i li)))
+          (mass_power s.policy.w4 a.w4) (waitsum_size s a j)))

@@ -25,7 +25,7 @@ use Rattle.manifest.specs.World.{stop_id, stop_at, goal}
 use Rattle.manifest.specs.Stops.{HoldsStops, stop_index, point_in, point_is}
 use Rattle.riders.specs.declared.Riders.{Riders}
 use Rattle.dispatch.specs.WaitersLaws.{HoldsWaiters, Weighed}
-use Rattle.dispatch.specs.RidersLaws.{obstacle_is}
+use Rattle.dispatch.proofs.RidersLaws.{obstacle_is}
 use Rattle.dispatch.specs.Pairs.{servable_by, path_allows, obstacle_by}
 use Rattle.dispatch.specs.Useful.{bypass, obstacle}
 use Rattle.etd.specs.Pairs.{terms_by as etdBy}

@@ -1,7 +1,6 @@
 -- bench::limit meets its contract.
 use Rattle.bits.specs.Field.{field_lt}
 use Rattle.layout.specs.Records.{limit_of}
-use borrow.Author.Rules.{rules}
 use native.Mathlib.Omega.{arith}
 use Rattle.bench.proofs.limit.Goals as goal
 

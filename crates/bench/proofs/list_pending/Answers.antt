@@ -4,7 +4,6 @@ use Rattle.bench.specs.Passing.{small_of}
 use Rattle.bench.specs.PendingStops.{same_pending, found, most, below, ids_are}
 use Rattle.cells.specs.Begun.{stops_seen}
 use Rattle.layout.specs.Records.{sheet_of}
-use borrow.Author.Rules.{rules}
 use mathlib.Core.Path.{refl, ap}
 use Rattle.bench.proofs.list_pending.Goals as goal
 

@@ -1,9 +1,7 @@
 -- bench::pass meets its contract.
 use Rattle.bench.specs.Done.{lent}
 use Rattle.bench.specs.Passing.{short, long, room, is_pass}
-use borrow.Author.Rules.{rules}
-use lib.ListN.{length}
-use mathlib.Core.Path.{◌≡◌, refl, sym, ◌∙◌}
+use mathlib.Core.Path.{refl, sym, ◌∙◌}
 use Rattle.bench.proofs.pass.Goals as goal
 
 pub returns-then-too_short : goal.returns-then-too_short

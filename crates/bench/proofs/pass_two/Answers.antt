@@ -1,6 +1,5 @@
 -- bench::pass_two meets its contract.
 use Rattle.bench.specs.TwoPasses.{demand3}
-use borrow.Author.Rules.{rules}
 use Rattle.bench.proofs.pass_two.Goals as goal
 
 pub returns : goal.returns

@@ -1,6 +1,5 @@
 -- bench::passed meets its contract.
-use borrow.Author.Rules.{rules}
-use mathlib.Core.Path.{◌≡◌, refl}
+use mathlib.Core.Path.{refl}
 use Rattle.bench.proofs.passed.Goals as goal
 
 pub returns : goal.returns

@@ -1,6 +1,5 @@
 -- bench::pending_ids meets its contract.
 use Rattle.bench.specs.PendingStops.{is_pending, few, enough, at_least}
-use borrow.Author.Rules.{rules}
 use mathlib.Core.Path.{refl, sym, ◌∙◌}
 use Rattle.bench.proofs.pending_ids.Goals as goal
 

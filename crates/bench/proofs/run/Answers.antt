@@ -4,7 +4,6 @@ use Rattle.bench.specs.Done.{same_done}
 use Rattle.cells.specs.Begun.{stops_seen}
 use Rattle.layout.specs.Records.{sheet_of}
 use Rattle.outcome.specs.Outcome.{sweeps_of}
-use borrow.Author.Rules.{rules}
 use mathlib.Core.Path.{refl}
 use Rattle.bench.proofs.run.Goals as goal
 

@@ -4,9 +4,7 @@ use Rattle.bench.specs.Passing.{small_of, survey, under, prefix_length, car_numb
 use Rattle.bench.specs.Passing.{kept_are, held_is, can_decide, total_is, decisions_are, answered}
 use Rattle.layout.specs.Records.{sheet_of, limit_of}
 use Rattle.outcome.specs.KeptPairs.{ranked_kept}
-use borrow.Author.Rules.{rules}
-use lib.ListN.{length}
-use mathlib.Core.Path.{◌≡◌, refl, ◌∙◌}
+use mathlib.Core.Path.{refl, ◌∙◌}
 use native.Mathlib.Omega.{arith}
 use Rattle.bench.proofs.send.Goals as goal
 

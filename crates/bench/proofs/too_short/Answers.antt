@@ -1,7 +1,6 @@
 -- bench::too_short meets its contract.
 use Rattle.outcome.specs.Outcome.{refusal1}
-use borrow.Author.Rules.{rules}
-use mathlib.Core.Path.{◌≡◌, refl}
+use mathlib.Core.Path.{refl}
 use Rattle.bench.proofs.too_short.Goals as goal
 
 pub returns : goal.returns

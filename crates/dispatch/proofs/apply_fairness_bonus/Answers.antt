@@ -1,7 +1,6 @@
 -- dispatch::apply_fairness_bonus meets its contract.
 use Rattle.dispatch.specs.Waits.{fairness_bonus}
 use Rattle.fp.specs.Num.{fma, max_zero}
-use borrow.Author.Rules.{rules}
 use lib.Ieee.{neg}
 use mathlib.Core.Path.{◌≡◌, ap, ◌∙◌}
 use Rattle.dispatch.proofs.apply_fairness_bonus.Goals as goal

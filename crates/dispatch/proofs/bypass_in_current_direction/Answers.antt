@@ -1,5 +1,4 @@
 -- dispatch::bypass_in_current_direction meets its contract.
-use borrow.Author.Rules.{rules}
 use Rattle.dispatch.proofs.bypass_in_current_direction.Goals as goal
 
 pub returns-in-Nowhere : goal.returns-in-Nowhere

@@ -6,7 +6,6 @@ use Rattle.components.specs.declared.Car.{Car}
 use Rattle.components.specs.declared.Point.{Point}
 use Rattle.components.specs.declared.Place.TheVariants.{At}
 use Rattle.dispatch.specs.Useful.{loaded_to, bypass}
-use borrow.Author.Rules.{rules}
 use Rattle.dispatch.proofs.bypass_to.Goals as goal
 
 -- dispatch::bypass_to meets its contract.

@@ -1,6 +1,5 @@
 -- dispatch::can_board meets its contract.
 use Rattle.dispatch.specs.Pairs.{can_board}
-use borrow.Author.Rules.{rules}
 use mathlib.Core.Path.{refl}
 use Rattle.dispatch.proofs.can_board.Goals as goal
 

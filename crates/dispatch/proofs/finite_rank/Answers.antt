@@ -1,6 +1,5 @@
 -- dispatch::finite_rank meets its contract.
 use Rattle.dispatch.specs.FiniteRank.{finite_rank}
-use borrow.Author.Rules.{rules}
 use Rattle.dispatch.proofs.finite_rank.Goals as goal
 
 pub returns-then-finite : goal.returns-then-finite

@@ -1,5 +1,4 @@
 -- dispatch::loaded_to meets its contract.
-use borrow.Author.Rules.{rules}
 use Rattle.dispatch.proofs.loaded_to.Goals as goal
 
 pub returns-in-Absent : goal.returns-in-Absent

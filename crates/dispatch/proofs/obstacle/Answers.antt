@@ -1,6 +1,5 @@
 -- dispatch::obstacle meets its contract.
 use Rattle.dispatch.specs.Pairs.{obstacle_by}
-use borrow.Author.Rules.{rules}
 use Rattle.dispatch.proofs.obstacle.Goals as goal
 
 pub returns-then-here : goal.returns-then-here

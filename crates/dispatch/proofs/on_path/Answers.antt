@@ -1,10 +1,7 @@
 -- dispatch::on_path meets its contract.
-use Prim.Native.Nat.{◌≤◌, ◌-◌}
 use Rattle.dispatch.specs.Pairs.{on_path_in}
 use Rattle.laws.specs.Folds.{any, any_at, any_no, ended}
-use borrow.Author.Rules.{rules}
-use mathlib.Core.Bool.{false}
-use mathlib.Core.Path.{◌≡◌, sym, ◌∙◌, refl}
+use mathlib.Core.Path.{sym, ◌∙◌, refl}
 use native.Mathlib.Omega.{arith}
 use Rattle.dispatch.proofs.on_path.Goals as goal
 

@@ -1,11 +1,8 @@
 -- dispatch::on_path meets its contract.
 use Prim.Native.Nat.{◌≤◌, ◌-◌}
 use Rattle.dispatch.specs.Pairs.{on_path_in}
-use Rattle.laws.specs.Folds.{any, any_at, any_no, ended}
-use borrow.Author.Rules.{rules}
 use mathlib.Core.Bool.{false}
-use mathlib.Core.Path.{◌≡◌, sym, ◌∙◌, refl}
-use native.Mathlib.Omega.{arith}
+use mathlib.Core.Path.{◌≡◌}
 use Rattle.dispatch.proofs.on_path.Given as goal
 
 abbrev pub invariant-loop-k : goal.invariant-loop-k

@@ -1,7 +1,6 @@
 -- dispatch::on_path_to meets its contract.
 use Rattle.dispatch.specs.Useful.{on_path}
 use Rattle.fp.specs.Num.{zero, minus, times, abs}
-use borrow.Author.Rules.{rules}
 use lib.Ieee.{Float, le}
 use mathlib.Core.Bool.{true, false}
 use mathlib.Core.Path.{◌≡◌}

@@ -1,6 +1,5 @@
 -- dispatch::pair_is_useful meets its contract.
 use Rattle.dispatch.specs.Pairs.{useful_by_lem}
-use borrow.Author.Rules.{rules}
 use Rattle.dispatch.proofs.pair_is_useful.Goals as goal
 
 pub returns : goal.returns

@@ -1,6 +1,5 @@
 -- dispatch::path_allows meets its contract.
 use Rattle.dispatch.specs.Pairs.{path_allows}
-use borrow.Author.Rules.{rules}
 use Rattle.dispatch.proofs.path_allows.Goals as goal
 
 pub returns-then-riders : goal.returns-then-riders

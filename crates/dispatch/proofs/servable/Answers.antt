@@ -1,6 +1,5 @@
 -- dispatch::servable meets its contract.
 use Rattle.dispatch.specs.Pairs.{servable_by}
-use borrow.Author.Rules.{rules}
 use Rattle.dispatch.proofs.servable.Goals as goal
 
 pub returns-then-waiters : goal.returns-then-waiters

@@ -1,6 +1,5 @@
 -- dispatch::with_bonus meets its contract.
 use Rattle.dispatch.specs.Waits.{with_bonus}
-use borrow.Author.Rules.{rules}
 use Rattle.dispatch.proofs.with_bonus.Goals as goal
 
 pub returns-then-weight : goal.returns-then-weight

@@ -1,6 +1,5 @@
 -- etd::cost_terms meets its contract.
 use Rattle.etd.specs.Pairs.{terms_by_lem}
-use borrow.Author.Rules.{rules}
 use Rattle.etd.proofs.cost_terms.Goals as goal
 
 pub returns : goal.returns

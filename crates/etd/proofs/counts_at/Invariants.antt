@@ -1,15 +1,7 @@
 -- etd::counts_at meets its contract.
-use Prim.Native.Nat.{ℕ, ◌≤◌, ◌<◌, ◌+◌, ◌-◌, ◌*◌}
-use mathlib.Core.Path.{◌≡◌, refl, ap, ap₂, ◌∙◌}
-use mathlib.Core.Bool.{Bool, not}
-use native.Mathlib.Omega.{arith}
-use borrow.Author.Rules.{rules}
-use lib.ListN.{get_or}
-use lib.Ieee.{nan, lt}
-use Rattle.laws.specs.Bools.{bit, bit-lt}
-use Rattle.laws.specs.Folds.{count, count_step, ended}
-use Rattle.fp.specs.Num.{epsilon, plus, minus}
-use Rattle.etd.specs.Halts.{short_of, up_to, counts_at}
+use Prim.Native.Nat.{◌≤◌, ◌-◌}
+use mathlib.Core.Path.{◌≡◌}
+use Rattle.etd.specs.Halts.{short_of, up_to}
 use Rattle.etd.proofs.counts_at.Given as goal
 
 abbrev pub invariant-loop-k : goal.invariant-loop-k

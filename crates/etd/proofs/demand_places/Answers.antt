@@ -1,14 +1,11 @@
 -- etd::demand_places meets its contract.
-use Prim.Native.Nat.{ℕ, ◌≤◌, ◌+◌, ◌-◌}
-use mathlib.Core.Path.{◌≡◌, refl, ap, ◌∙◌}
-use mathlib.Core.List.{List, ◌++◌}
+use mathlib.Core.Path.{refl, ap, ◌∙◌}
+use mathlib.Core.List.{◌++◌}
 use native.Mathlib.Omega.{arith}
-use borrow.Author.Rules.{rules}
-use lib.ListN.{length, get_or, drop, replicate, length-set}
-use lib.Ieee.{Float, nan}
+use lib.ListN.{get_or, drop, replicate, length-set}
+use lib.Ieee.{nan}
 use Rattle.laws.specs.Folds.{ended}
 use Rattle.laws.specs.Tables.{tab, tab_next}
-use Rattle.mask.specs.Mask.{has}
 use Rattle.fp.specs.Num.{infinity}
 use Rattle.etd.specs.Halts.{place_of, demand_places}
 use Rattle.etd.proofs.demand_places.Goals as goal

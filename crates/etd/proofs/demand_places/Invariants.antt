@@ -1,16 +1,13 @@
 -- etd::demand_places meets its contract.
-use Prim.Native.Nat.{ℕ, ◌≤◌, ◌+◌, ◌-◌}
-use mathlib.Core.Path.{◌≡◌, refl, ap, ◌∙◌}
+use Prim.Native.Nat.{ℕ, ◌≤◌, ◌-◌}
+use mathlib.Core.Path.{◌≡◌}
 use mathlib.Core.List.{List, ◌++◌}
-use native.Mathlib.Omega.{arith}
-use borrow.Author.Rules.{rules}
-use lib.ListN.{length, get_or, drop, replicate, length-set}
+use lib.ListN.{length, get_or, drop, replicate}
 use lib.Ieee.{Float, nan}
-use Rattle.laws.specs.Folds.{ended}
-use Rattle.laws.specs.Tables.{tab, tab_next}
+use Rattle.laws.specs.Tables.{tab}
 use Rattle.mask.specs.Mask.{has}
 use Rattle.fp.specs.Num.{infinity}
-use Rattle.etd.specs.Halts.{place_of, demand_places}
+use Rattle.etd.specs.Halts.{place_of}
 use Rattle.etd.proofs.demand_places.Given as goal
 
 abbrev pub place : ℕ → List Float → ℕ → Float

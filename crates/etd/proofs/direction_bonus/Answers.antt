@@ -1,6 +1,5 @@
 -- etd::direction_bonus meets its contract.
 use Rattle.etd.specs.Etd.{direction_bonus}
-use borrow.Author.Rules.{rules}
 use Rattle.etd.proofs.direction_bonus.Goals as goal
 
 pub returns-then-is_moving : goal.returns-then-is_moving

@@ -1,6 +1,5 @@
 -- etd::door_cost meets its contract.
 use Rattle.etd.specs.Etd.{door_cost}
-use borrow.Author.Rules.{rules}
 use Rattle.etd.proofs.door_cost.Goals as goal
 
 pub returns : goal.returns

@@ -1,10 +1,8 @@
 -- etd::existing_rider_delay meets its contract.
-use Prim.Native.Nat.{◌≤◌, ◌-◌}
 use Rattle.etd.specs.Pairs.{delay_in}
 use Rattle.laws.specs.Folds.{fold, fold_step, ended}
-use borrow.Author.Rules.{rules}
 use lib.Ieee.{binary64, add}
-use mathlib.Core.Path.{◌≡◌, refl, ap}
+use mathlib.Core.Path.{refl, ap}
 use native.Mathlib.Omega.{arith}
 use Rattle.etd.proofs.existing_rider_delay.Goals as goal
 

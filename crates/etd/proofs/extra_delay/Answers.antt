@@ -1,6 +1,5 @@
 -- etd::extra_delay meets its contract.
 use Rattle.etd.specs.Etd.{extra_delay}
-use borrow.Author.Rules.{rules}
 use Rattle.etd.proofs.extra_delay.Goals as goal
 
 pub returns : goal.returns

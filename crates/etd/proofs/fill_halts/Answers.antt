@@ -1,14 +1,12 @@
 -- etd::fill_halts meets its contract.
-use Prim.Native.Nat.{◌≤◌, ◌-◌}
-use mathlib.Core.Path.{◌≡◌, refl, ◌∙◌}
+use mathlib.Core.Path.{refl, ◌∙◌}
 use mathlib.Core.List.{◌++◌}
 use native.Mathlib.Omega.{arith}
-use borrow.Author.Rules.{rules}
-use lib.ListN.{length, drop, length-set}
+use lib.ListN.{drop, length-set}
 use Rattle.laws.specs.Folds.{ended}
 use Rattle.laws.specs.Tables.{tab, tab_next}
 use Rattle.etd.specs.Pairs.{halts_at}
-use Rattle.etd.specs.Halts.{halts_at_lem}
+use Rattle.etd.proofs.Halts.{halts_at_lem}
 use Rattle.etd.proofs.fill_halts.Goals as goal
 
 pub loop-j-init : goal.loop-j-init

@@ -1,14 +1,10 @@
 -- etd::fill_halts meets its contract.
 use Prim.Native.Nat.{◌≤◌, ◌-◌}
-use mathlib.Core.Path.{◌≡◌, refl, ◌∙◌}
+use mathlib.Core.Path.{◌≡◌}
 use mathlib.Core.List.{◌++◌}
-use native.Mathlib.Omega.{arith}
-use borrow.Author.Rules.{rules}
-use lib.ListN.{length, drop, length-set}
-use Rattle.laws.specs.Folds.{ended}
-use Rattle.laws.specs.Tables.{tab, tab_next}
+use lib.ListN.{length, drop}
+use Rattle.laws.specs.Tables.{tab}
 use Rattle.etd.specs.Pairs.{halts_at}
-use Rattle.etd.specs.Halts.{halts_at_lem}
 use Rattle.etd.proofs.fill_halts.Given as goal
 
 abbrev pub invariant-loop-j : goal.invariant-loop-j

@@ -1,14 +1,10 @@
 -- etd::fill_table meets its contract.
 use Prim.Native.Nat.{◌≤◌, ◌-◌}
-use mathlib.Core.Path.{◌≡◌, refl, ap, ◌∙◌}
-use mathlib.Core.List.{List, ◌++◌}
-use native.Mathlib.Omega.{arith}
-use borrow.Author.Rules.{rules}
-use lib.ListN.{length, get_or, drop, length-set}
-use lib.Ieee.{Float, nan}
-use Rattle.laws.specs.Folds.{ended}
-use Rattle.laws.specs.Tables.{tab, tab_next}
-use Rattle.etd.specs.Halts.{counts_at, stop_counts}
+use mathlib.Core.Path.{◌≡◌}
+use mathlib.Core.List.{◌++◌}
+use lib.ListN.{length, drop}
+use Rattle.laws.specs.Tables.{tab}
+use Rattle.etd.specs.Halts.{stop_counts}
 use Rattle.etd.proofs.fill_table.Given as goal
 
 abbrev pub invariant-loop-j : goal.invariant-loop-j

@@ -1,6 +1,5 @@
 -- etd::halts_between meets its contract.
 use Rattle.etd.specs.Halts.{halts_between}
-use borrow.Author.Rules.{rules}
 use Rattle.etd.proofs.halts_between.Goals as goal
 
 pub returns-then-x-p : goal.returns-then-x-p

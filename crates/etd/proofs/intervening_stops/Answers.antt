@@ -1,12 +1,11 @@
 -- etd::intervening_stops meets its contract.
-use Prim.Native.Nat.{ℕ, ◌≤◌, ◌<◌, ◌+◌, ◌-◌}
-use mathlib.Core.Path.{◌≡◌, refl, ap, ◌∙◌}
+use Prim.Native.Nat.{ℕ, ◌+◌}
+use mathlib.Core.Path.{refl, ap, ◌∙◌}
 use mathlib.Core.Bool.{Bool, ◌&&◌}
 use native.Mathlib.Omega.{arith}
-use borrow.Author.Rules.{rules}
 use lib.ListN.{get_or}
 use lib.Ieee.{nan}
-use Rattle.laws.specs.Bools.{bit, bit-lt}
+use Rattle.laws.specs.Bools.{bit-lt}
 use Rattle.laws.specs.Folds.{count, count_step, ended}
 use Rattle.mask.specs.Mask.{has}
 use Rattle.etd.specs.Etd.{intervenes}

@@ -1,6 +1,5 @@
 -- etd::is_between meets its contract.
 use Rattle.etd.specs.Etd.{intervenes}
-use borrow.Author.Rules.{rules}
 use Rattle.etd.proofs.is_between.Goals as goal
 
 pub returns-then-demand-lo : goal.returns-then-demand-lo

@@ -1,6 +1,5 @@
 -- etd::moving_bonus meets its contract.
 use Rattle.etd.specs.Pairs.{bonus_ahead, bonus_behind}
-use borrow.Author.Rules.{rules}
 use Rattle.etd.proofs.moving_bonus.Goals as goal
 
 pub returns-then-is_ahead : goal.returns-then-is_ahead

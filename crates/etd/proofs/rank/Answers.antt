@@ -14,7 +14,6 @@ use Rattle.manifest.specs.Stops.{point_in}
 use Rattle.manifest.specs.declared.Waiters.{Waiters}
 use Rattle.mask.specs.Mask.{has}
 use Rattle.riders.specs.declared.Riders.{Riders}
-use borrow.Author.Rules.{rules}
 use lib.Ieee.{Float, lt}
 use mathlib.Core.Bool.{Bool, true, false}
 use mathlib.Core.List.{List}

@@ -1,6 +1,5 @@
 -- etd::weighted meets its contract.
 use Rattle.etd.specs.Pairs.{weighted_by}
-use borrow.Author.Rules.{rules}
 use Rattle.etd.proofs.weighted.Goals as goal
 
 pub returns : goal.returns

@@ -1,8 +1,7 @@
 -- grade::grade meets its contract.
 use Rattle.grade.specs.Graded.{sent}
 use Rattle.grade.specs.Grading.{is_grade, short, long, room}
-use borrow.Author.Rules.{rules}
-use mathlib.Core.Path.{◌≡◌, refl, sym, ◌∙◌}
+use mathlib.Core.Path.{refl, sym, ◌∙◌}
 use Rattle.grade.proofs.grade.Goals as goal
 
 pub returns-then-short_matrix : goal.returns-then-short_matrix

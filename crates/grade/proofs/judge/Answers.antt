@@ -6,8 +6,7 @@ use Rattle.cells.specs.Begun.{stops_seen}
 use Rattle.grade.specs.Graded.{sent}
 use Rattle.grade.specs.Grading.{columns_refused, prices_refused, priced, inside, is_judged}
 use Rattle.layout.specs.Records.{sheet_of, limit_of}
-use borrow.Author.Rules.{rules}
-use mathlib.Core.Path.{◌≡◌, refl, sym, ◌∙◌}
+use mathlib.Core.Path.{refl, sym, ◌∙◌}
 use native.Mathlib.Omega.{arith}
 use Rattle.grade.proofs.judge.Goals as goal
 

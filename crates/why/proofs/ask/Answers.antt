@@ -1,6 +1,5 @@
 -- why::ask meets its contract.
 use Rattle.why.specs.Why.{read_refused, read_accepted}
-use borrow.Author.Rules.{rules}
 use mathlib.Core.Path.{sym, ◌∙◌}
 use Rattle.why.proofs.ask.Goals as goal
 

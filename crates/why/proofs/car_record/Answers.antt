@@ -1,13 +1,12 @@
 -- why::car_record meets its contract.
-use Prim.Native.Nat.{ℕ, ◌-◌, ◌≤◌}
+use Prim.Native.Nat.{◌-◌}
 use Rattle.components.specs.declared.Car.{Car}
 use Rattle.laws.specs.Folds.{lookup, lookup_step, ended}
 use Rattle.layout.specs.Records.{sheet_of}
 use Rattle.why.specs.Why.{car_record}
-use borrow.Author.Rules.{rules}
 use lib.Dec.{eqb}
 use mathlib.Core.Bool.{cond}
-use mathlib.Core.Path.{◌≡◌, refl, ap, ◌∙◌}
+use mathlib.Core.Path.{refl, ap, ◌∙◌}
 use native.Mathlib.Omega.{arith}
 use Rattle.why.proofs.car_record.Goals as goal
 

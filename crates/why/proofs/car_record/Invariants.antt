@@ -1,14 +1,9 @@
 -- why::car_record meets its contract.
-use Prim.Native.Nat.{ℕ, ◌-◌, ◌≤◌}
-use Rattle.components.specs.declared.Car.{Car}
-use Rattle.laws.specs.Folds.{lookup, lookup_step, ended}
+use Prim.Native.Nat.{◌-◌, ◌≤◌}
+use Rattle.laws.specs.Folds.{lookup}
 use Rattle.layout.specs.Records.{sheet_of}
-use Rattle.why.specs.Why.{car_record}
-use borrow.Author.Rules.{rules}
 use lib.Dec.{eqb}
-use mathlib.Core.Bool.{cond}
-use mathlib.Core.Path.{◌≡◌, refl, ap, ◌∙◌}
-use native.Mathlib.Omega.{arith}
+use mathlib.Core.Path.{◌≡◌}
 use Rattle.why.proofs.car_record.Given as goal
 
 abbrev pub invariant-loop-i : goal.invariant-loop-i

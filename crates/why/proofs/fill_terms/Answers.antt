@@ -1,6 +1,5 @@
 -- why::fill_terms meets its contract.
 use Rattle.why.specs.Answers.{terms_left, few_places, enough_places}
-use borrow.Author.Rules.{rules}
 use mathlib.Core.Path.{sym, ap, ◌∙◌}
 use Rattle.why.proofs.fill_terms.Goals as goal
 

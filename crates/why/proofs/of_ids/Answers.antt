@@ -6,8 +6,7 @@ use Rattle.layout.specs.Records.{sheet_of, limit_of}
 use Rattle.manifest.specs.Stops.{ascending}
 use Rattle.why.specs.PairLaws.{record_is}
 use Rattle.why.specs.Why.{both_found, no_stop, no_car}
-use borrow.Author.Rules.{rules}
-use mathlib.Core.Path.{◌≡◌, refl, ◌∙◌}
+use mathlib.Core.Path.{refl, ◌∙◌}
 use native.Mathlib.Omega.{arith}
 use Rattle.why.proofs.of_ids.Goals as goal
 

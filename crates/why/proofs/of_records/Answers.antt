@@ -5,8 +5,7 @@ use Rattle.bits.specs.Field.{field_lt}
 use Rattle.layout.specs.Records.{sheet_of, limit_of}
 use Rattle.pending.specs.Masks.{calls_are}
 use Rattle.why.specs.PairLaws.{told}
-use borrow.Author.Rules.{rules}
-use mathlib.Core.Path.{◌≡◌, refl, ◌∙◌}
+use mathlib.Core.Path.{refl, ◌∙◌}
 use native.Mathlib.Omega.{arith}
 use Rattle.why.proofs.of_records.Goals as goal
 

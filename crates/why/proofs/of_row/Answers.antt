@@ -1,6 +1,5 @@
 -- why::of_row meets its contract.
 use Rattle.why.specs.Why.{why_by}
-use borrow.Author.Rules.{rules}
 use mathlib.Core.Path.{ap₂, ◌∙◌}
 use Rattle.why.proofs.of_row.Goals as goal
 

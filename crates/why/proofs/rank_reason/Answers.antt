@@ -1,6 +1,5 @@
 -- why::rank_reason meets its contract.
 use Rattle.why.specs.Why.{never_zero, never_more, cost_zero, cost_more}
-use borrow.Author.Rules.{rules}
 use Rattle.why.proofs.rank_reason.Goals as goal
 
 pub returns-then-obstacle-eq0 : goal.returns-then-obstacle-eq0

@@ -2,7 +2,6 @@
 use Rattle.etd.specs.Pairs.{halts_of}
 use Rattle.why.specs.Pairs.{reason_by_lem}
 use Rattle.why.specs.PairLaws.{against_small}
-use borrow.Author.Rules.{rules}
 use native.Mathlib.Omega.{arith}
 use Rattle.why.proofs.reason_of.Goals as goal
 

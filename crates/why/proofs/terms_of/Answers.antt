@@ -1,6 +1,5 @@
 -- why::terms_of meets its contract.
 use Rattle.why.specs.Pairs.{etd_terms, rsr_terms, scan_terms, no_terms}
-use borrow.Author.Rules.{rules}
 use Rattle.why.proofs.terms_of.Goals as goal
 
 pub returns-in-Etd : goal.returns-in-Etd

@@ -1,6 +1,5 @@
 -- why::write_terms meets its contract.
 use Rattle.why.specs.Places.{eight_stores}
-use borrow.Author.Rules.{rules}
 use lib.ListN.{length-set}
 use native.Mathlib.Omega.{arith}
 use Rattle.why.proofs.write_terms.Goals as goal

@@ -1,7 +1,6 @@
 -- layout::Counts::car_start meets its contract.
 use Prim.Native.Nat.{◌+◌}
 use Rattle.layout.specs.VerdictLaws.{before_all}
-use borrow.Author.Rules.{rules}
 use native.Mathlib.Omega.{arith}
 use Rattle.layout.proofs.Counts.car_start.Goals as goal
 

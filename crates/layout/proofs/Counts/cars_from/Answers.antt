@@ -1,5 +1,4 @@
 -- layout::Counts::cars_from meets its contract.
-use borrow.Author.Rules.{rules}
 use native.Mathlib.Omega.{arith}
 use Rattle.layout.proofs.Counts.cars_from.Goals as goal
 

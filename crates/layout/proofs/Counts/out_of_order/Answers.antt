@@ -3,7 +3,6 @@ use Prim.Native.Nat.{ℕ}
 use Rattle.layout.specs.Offsets.{last_kind}
 use Rattle.layout.specs.Refusals.{refusal6}
 use Rattle.layout.specs.declared.Counts.{Counts}
-use borrow.Author.Rules.{rules}
 use lib.Dec.{eqb, ltb}
 use mathlib.Core.Bool.{not, ◌&&◌, ◌||◌}
 use mathlib.Core.Path.{◌≡◌}

@@ -1,0 +1,2 @@
+-- The halts before a stop, from counts.
+pub mod Halts
