@@ -1,9 +1,5 @@
 -- stored_passes::sweeps_met meets its contract.
-<<<<<<< HEAD
-use Prim.Native.Nat.{ℕ, ◌+◌}
-=======
 use Prim.Native.Nat.{ℕ, ◌+◌, ◌-◌}
->>>>>>> origin/main
 use Rattle.stored_passes.specs.Cases.{differing, differing_none, differing_next, differing_le}
 use Rattle.stored_passes.specs.Tallies.{tallied_of, tallied_none, tallied_next}
 use mathlib.Core.Path.{◌≡◌, ap, ◌∙◌}
