@@ -12,7 +12,7 @@ use Rattle.layout.specs.Records.{sheet_of}
 use Rattle.layout.specs.Verdict.{verdict}
 use Rattle.manifest.specs.World.{stop_id}
 use Rattle.assignment.specs.Pending.{pending, pending_stops, column_stop}
-use Rattle.assignment.specs.CellLaws.{pending_le}
+use Rattle.assignment.proofs.CellLaws.{pending_le}
 use Rattle.mask.specs.declared.Ones.{Ones}
 use Rattle.mask.specs.Ones.{ones_of}
 use Rattle.rows.specs.MatrixLaws.{listed_count, listed_stop, column_below}

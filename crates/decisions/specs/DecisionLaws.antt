@@ -18,7 +18,7 @@ use Rattle.assignment_problem.specs.Recursion.{least_total, column_of}
 use Rattle.assignment_problem.proofs.Chosen.{chosen_same, chosen_choice}
 use Rattle.assignment.specs.Pending.{pending, idle_cars, pending_stops, column_stop, columns}
 use Rattle.assignment.specs.Cells.{matrix, column, answered_total, goes, decision}
-use Rattle.assignment.specs.CellLaws.{SmallSheet, matrix_le, rows_fit, idle_le, pending_le, columns_le}
+use Rattle.assignment.proofs.CellLaws.{SmallSheet, matrix_le, rows_fit, idle_le, pending_le, columns_le}
 use Rattle.decisions.specs.Decisions.{Filled, told, decision_by}
 
 module _ (s : Sheet) (limit : ℕ) (cells : List ℕ) (e : cells ≡ tabs (matrix s limit) (columns s) (idle_cars s)) where

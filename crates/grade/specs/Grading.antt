@@ -1,5 +1,5 @@
 -- The stages of grading put together. Assumes nothing.
-use Rattle.std.specs.Prelude.{ℕ, ◌+◌, ◌*◌, ◌≤◌, ◌<◌, ◌≡◌, Bool, true, false, length, drop, ℤ}
+use Rattle.std.specs.Prelude.{ℕ, ◌+◌, ◌*◌, ◌≤◌, ◌<◌, ◌≡◌, Bool, true, false, length, drop}
 use Rattle.std.proofs.Math.Path.{refl, ap}
 use Rattle.std.proofs.Common.{sym, ◌∙◌, arith, ltb-false}
 use mathlib.Core.List.{List}
@@ -13,7 +13,7 @@ use Rattle.layout.specs.Verdict.{verdict}
 use Rattle.assignment_problem.specs.Choice.{cell_at}
 use Rattle.assignment.specs.Pending.{idle_cars, columns}
 use Rattle.assignment.specs.Cells.{matrix}
-use Rattle.assignment.specs.CellLaws.{SmallSheet, matrix_le, idle_le, columns_le, cells_fit}
+use Rattle.assignment.proofs.CellLaws.{SmallSheet, matrix_le, idle_le, columns_le, cells_fit}
 use Rattle.outcome.specs.Outcome.{cells_of}
 use Rattle.shown.specs.Shown.{shown, shown_same}
 use Rattle.shown.specs.Fits.{price_at, column_of, Priced, Inside}

@@ -1,5 +1,5 @@
 -- "What it calls least must be least, whoever supplied the prices, and for each least choice some whole prices within the range pass." Assumes nothing.
-use Rattle.std.specs.Prelude.{ℕ, ◌≤◌, ◌<◌, ◌≡◌, refl, Bool, true, false, cond, List, length, ℤ, pos}
+use Rattle.std.specs.Prelude.{ℕ, ◌≤◌, ◌<◌, ◌≡◌, refl, true, false, List, length, ℤ, pos}
 use Rattle.std.proofs.Common.{sym, ◌∙◌, ⊎_elim, le-ltb}
 use Rattle.std.proofs.Math.Path.{ap}
 use Rattle.laws.specs.Bools.{never, which}
@@ -14,17 +14,16 @@ use Rattle.prices.specs.Price.{in_range}
 use Rattle.assignment_problem.specs.Choice.{IsChoice, total}
 use Rattle.assignment.specs.Pending.{idle_cars, columns}
 use Rattle.assignment.specs.Cells.{matrix}
-use Rattle.assignment.specs.CellLaws.{matrix_le, rows_fit}
+use Rattle.assignment.proofs.CellLaws.{matrix_le, rows_fit}
 use Rattle.bench.specs.Done.{past_one}
 use Rattle.shown.specs.Shown.{shown, shown_same}
 use Rattle.shown.specs.Fits.{price_at, column_of}
 use Rattle.shown.specs.Refusals.{refusal19, mispriced, refusal20, as_many, choice_of, choice_taken, priced_well}
 use Rattle.shown.specs.Sound.{shown_least_lem}
 use Rattle.shown.specs.Complete.{Passing, least_passes}
-use Rattle.grade.specs.declared.Graded.{Graded}
 use Rattle.grade.specs.declared.Graded.TheVariants.{Least, NotShown, Refused}
 use Rattle.grade.specs.Graded.{Sent, sent, short_matrix, outcome_of, shown_least, graded, judged, done_of, grade_of}
-use Rattle.grade.specs.Grading.{is_grade, long}
+use Rattle.grade.specs.Grading.{long}
 
 -- columns that are least for a sheet under a limit: one an idle car, none twice, and "no choice of distinct columns has a smaller total"
 pub record IsLeast (s : Sheet) (limit : ℕ) (chosen : List ℕ) : Type 0 where
@@ -41,35 +40,34 @@ pub record Sound (bytes : List ℕ) (chosen : List ℕ) : Type 0 where
   pub is_accepted : verdict bytes ≡ reading.Accepted counts
   pub is_least : IsLeast (sheet_of bytes counts) (limit_of bytes) chosen
 
-least_of : (s : Sheet) (limit : ℕ) (x : Sent) (entry : List ℕ) → (judged s limit x entry).answer ≡ Least → IsLeast s limit x.columns
-unfolding judged graded shown_least
-least_of s limit x entry h =
-    let n = idle_cars s in
-    let w = columns s in
-    let shows = shown n w (matrix s limit) (column_of x.columns) (price_at x.car_prices) (price_at x.column_prices) in
-    ⊎_elim
-    (λ (a : refusal19 n w x.columns ≡ true). let g : Refused 19 0 ≡ Least = rw a at h in never cc)
-    (λ (a : refusal19 n w x.columns ≡ false).
-    ⊎_elim
-    (λ (b : refusal20 n w x.car_prices x.column_prices ≡ true). let g : Refused 20 0 ≡ Least = rw (a, b) at h in never cc)
-    (λ (b : refusal20 n w x.car_prices x.column_prices ≡ false).
-    ⊎_elim
-    (λ (t : shows ≡ true).
-    let choice = choice_of n w x.columns a in
-    record {
-      one_each = as_many n w x.columns a;
-      choice = choice;
-      least = shown_least_lem n w (matrix s limit) (column_of x.columns) (price_at x.car_prices) (price_at x.column_prices) choice t;
-    })
-    (λ (t : shows ≡ false). let g : NotShown ≡ Least = rw (a, b, t) at h in never cc)
-    (which shows))
-    (which (refusal20 n w x.car_prices x.column_prices)))
-    (which (refusal19 n w x.columns))
-
 pub sound : (bytes : List ℕ) (x : Sent) (entry : List ℕ) → (grade_of bytes x entry).answer ≡ Least → Sound bytes x.columns
-unfolding outcome_of
+unfolding outcome_of judged graded shown_least
 sound bytes x entry h = by (outcome_of bytes (length entry)) refl h
   where
+    least_of : (s : Sheet) (limit : ℕ) (x : Sent) (entry : List ℕ) → (judged s limit x entry).answer ≡ Least → IsLeast s limit x.columns
+    least_of s limit x entry h =
+        let n = idle_cars s in
+        let w = columns s in
+        let shows = shown n w (matrix s limit) (column_of x.columns) (price_at x.car_prices) (price_at x.column_prices) in
+        ⊎_elim
+        (λ (a : refusal19 n w x.columns ≡ true). let g : Refused 19 0 ≡ Least = rw a at h in never cc)
+        (λ (a : refusal19 n w x.columns ≡ false).
+        ⊎_elim
+        (λ (b : refusal20 n w x.car_prices x.column_prices ≡ true). let g : Refused 20 0 ≡ Least = rw (a, b) at h in never cc)
+        (λ (b : refusal20 n w x.car_prices x.column_prices ≡ false).
+        ⊎_elim
+        (λ (t : shows ≡ true).
+        let choice = choice_of n w x.columns a in
+        record {
+          one_each = as_many n w x.columns a;
+          choice = choice;
+          least = shown_least_lem n w (matrix s limit) (column_of x.columns) (price_at x.car_prices) (price_at x.column_prices) choice t;
+        })
+        (λ (t : shows ≡ false). let g : NotShown ≡ Least = rw (a, b, t) at h in never cc)
+        (which shows))
+        (which (refusal20 n w x.car_prices x.column_prices)))
+        (which (refusal19 n w x.columns))
+
     by : (v : Reading) → outcome_of bytes (length entry) ≡ v → (done_of v bytes x entry).answer ≡ Least → Sound bytes x.columns
     by (reading.Refused number offset) e g = never cc
     by (reading.Accepted c) e g =

@@ -21,7 +21,7 @@ use Rattle.assignment_problem.proofs.Chosen.{chosen_is, chosen_total}
 use Rattle.assignment_problem.specs.Recursion.{column_of}
 use Rattle.assignment.specs.Pending.{idle, idle_cars, pending_stops, columns}
 use Rattle.assignment.specs.Cells.{by_strategy, sweep_after, matrix, column, goes, decision, answered_total}
-use Rattle.assignment.specs.CellLaws.{idle_le, cells_fit, rows_fit, matrix_le, no_stop}
+use Rattle.assignment.proofs.CellLaws.{idle_le, cells_fit, rows_fit, matrix_le, no_stop}
 use Rattle.outcome.specs.Outcome.{decisions_of, cells_of, sweeps_of}
 
 -- ---- "decisions below 32 entries, matrix below 2,048, or sweep below 32" are refused, and more are never needed
@@ -64,7 +64,7 @@ pub total_most : (bytes : List ℕ) (c : Counts) (limit : ℕ) → verdict bytes
 unfolding answered_total total
 total_most bytes c limit e =
     let s = sheet_of bytes c in
-    let n = (fits bytes c e).decisions in
+    let n : idle_cars s ≤ 32 = omega (arith, idle_le s, (accepted bytes c e).sheet.most_cars) in
     let is = chosen_total (matrix s limit) (idle_cars s) (columns s) (rows_fit s) in
     let most = sum-le (idle_cars s) 281474976710656 {f = λ r. matrix s limit r (column_of (matrix s limit) (idle_cars s) (columns s) r)}
     (λ r l. matrix_le s limit r _) in

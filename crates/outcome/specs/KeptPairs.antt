@@ -27,7 +27,7 @@ use Rattle.manifest.specs.World.{stop_id, stop_at}
 use Rattle.assignment.specs.Pending.{pending, idle, idle_cars, row_car, pending_stops}
 use Rattle.assignment.specs.Candidates.{no_limit, keeps, precedes, viable, viable_stops, away, nearer, kept, kept_of, nearer_of}
 use Rattle.assignment.specs.Cells.{ranked_pairs}
-use Rattle.assignment.specs.CellLaws.{viable_parts}
+use Rattle.assignment.proofs.CellLaws.{viable_parts}
 
 -- ---- distance and then id is an order, of distances that are no NaN
 
@@ -122,12 +122,17 @@ module _ (s : Sheet) (i : ℕ) (here : is_placed (s.car i).position ≡ true) (t
         within = λ j k lj lk e. both_left (viable s i k) (precedes (away s i k) (stop_id s k) (away s i j) (stop_id s j)) e;
       }
 
-  -- exactly so many
-  pub kept_few : (limit : ℕ) → limit ≢ no_limit → count (kept s i limit) s.stops ≡ min limit (count (viable s i) s.stops)
-  unfolding kept_of keeps nearer_of before
-  kept_few limit ne =
+  -- of the viable stops, as viable_stops counts them
+  kept_viable : (limit : ℕ) → limit ≢ no_limit → count (kept s i limit) s.stops ≡ min limit (viable_stops s i)
+  unfolding kept_of keeps nearer_of before viable_stops
+  kept_viable limit ne =
       count_cong (kept s i limit) (λ j. viable s i j && ltb (count (before j) s.stops) limit) s.stops (λ j l. rw (ne_eqb limit no_limit ne))
       ∙ first_few (viable s i) before s.stops in_order limit
+
+  -- exactly so many
+  pub kept_few : (limit : ℕ) → limit ≢ no_limit → count (kept s i limit) s.stops ≡ min limit (count (viable s i) s.stops)
+  unfolding viable_stops
+  kept_few limit ne = kept_viable limit ne
 
 -- ---- of an accepted sheet
 
@@ -158,7 +163,7 @@ module _ (bytes : List ℕ) (c : Counts) (e : verdict bytes ≡ Accepted c) (lim
       ap (λ (k : ℕ). count (kept s i k) s.stops) q ∙ kept_all s i
       ∙ unlimited limit (viable_stops s i) q (omega (arith, count-le (viable s i) s.stops, sound.most_stops)))
       (λ (q : limit ≢ no_limit).
-      kept_few s i (sound.car i (row_below s r l)).position (λ j lj. (sound.stop j lj).position) sound.rising limit q)
+      kept_viable s i (sound.car i (row_below s r l)).position (λ j lj. (sound.stop j lj).position) sound.rising limit q)
       (same? limit no_limit)
 
   -- the ranked pairs are the kept ones

@@ -82,18 +82,17 @@ module _ (s : Sheet) (a : Admitted s) (i j : ℕ) (li : i < s.cars) (lj : j < s.
   by_nonneg Scan x h = scan_nonneg x h
   by_nonneg Unknown x h = let z : ◌≡◌ {A = ℕ} 0 1 = cc in absurd (omega arith)
 
-  admitted_ranked : Ranked s i j
-  unfolding rank
-  admitted_ranked =
-      let by : Strategy → Rank = λ t. by_strategy t (etd_rank s i j) (rsr_rank s i j) (scan_rank s (sweep_after s i) i j) Never in
-      record {
-        nonneg = λ x h. by_nonneg s.policy.strategy x h;
-        etd = λ q u m. ap by q ∙ etd_ranked s a i j li lj m u;
-        rsr = λ q u m. ap by q ∙ rsr_ranked s a i j li lj m u;
-      }
-
 -- "In the admitted ranges every rank is finite and nonnegative."
 pub ranked_of : (bytes : List ℕ) (c : Counts) → verdict bytes ≡ Accepted c → (i j : ℕ) → i < (sheet_of bytes c).cars
     → j < (sheet_of bytes c).stops
     → Ranked (sheet_of bytes c) i j
-ranked_of bytes c e i j li lj = admitted_ranked (sheet_of bytes c) (admitted_of bytes c e) i j li lj
+unfolding rank
+ranked_of bytes c e i j li lj =
+    let s = sheet_of bytes c in
+    let a = admitted_of bytes c e in
+    let by : Strategy → Rank = λ t. by_strategy t (etd_rank s i j) (rsr_rank s i j) (scan_rank s (sweep_after s i) i j) Never in
+    record {
+      nonneg = λ x h. by_nonneg s a i j li lj s.policy.strategy x h;
+      etd = λ q u m. ap by q ∙ etd_ranked s a i j li lj m u;
+      rsr = λ q u m. ap by q ∙ rsr_ranked s a i j li lj m u;
+    }

@@ -31,7 +31,7 @@ use Rattle.dispatch.specs.WaitersLaws.{Weighed, HoldsWaiters}
 use Rattle.assignment.specs.Pending.{pending, pending_stops, column_stop, idle_cars, row_car}
 use Rattle.assignment.specs.Candidates.{kept, kept_of}
 use Rattle.assignment.specs.Cells.{matrix, held_cell, held_in_row}
-use Rattle.assignment.specs.CellLaws.{held_in_row_lem, pending_le}
+use Rattle.assignment.proofs.CellLaws.{held_in_row_lem, pending_le}
 use Rattle.pending.specs.declared.StopMasks.{StopMasks}
 use Rattle.pending.specs.Masks.{stop_mask, pending_are}
 use Rattle.sweep.specs.declared.Sweep.{Sweep}

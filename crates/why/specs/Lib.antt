@@ -1,5 +1,4 @@
 pub mod Why
-pub mod Costs
 pub mod Pairs
 pub mod PairLaws
 pub mod Answers

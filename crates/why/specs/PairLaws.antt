@@ -1,9 +1,9 @@
 -- Reasons and terms from what is held are the sheet's. Assumes nothing.
-use Rattle.std.specs.Prelude.{ℕ, ◌+◌, ◌≤◌, ◌<◌, ◌≡◌, refl, Bool, true, false, ◌&&◌, cond, List, eqb, get_or, Float}
-use Rattle.std.proofs.Common.{sym, ◌∙◌, arith, lt-ltb}
+use Rattle.std.specs.Prelude.{ℕ, ◌≤◌, ◌<◌, ◌≡◌, refl, Bool, true, false, cond, List, eqb, get_or, Float}
+use Rattle.std.proofs.Common.{◌∙◌, arith}
 use Rattle.std.proofs.Math.Path.{ap, ap₂}
 use Rattle.std.specs.Float.Ieee.{le}
-use Rattle.laws.specs.Folds.{any, lookup, lookup_cong}
+use Rattle.laws.specs.Folds.{lookup_cong}
 use Rattle.fp.specs.Num.{zero}
 use Rattle.mask.specs.Mask.{has, built}
 use Rattle.mask.specs.MaskLaws.{has_built}
@@ -11,7 +11,6 @@ use Rattle.components.specs.declared.Car.{Car}
 use Rattle.components.specs.declared.Place.{Place}
 use Rattle.components.specs.declared.Policy.{Policy}
 use Rattle.components.specs.declared.Strategy.{Strategy}
-use Rattle.components.specs.declared.Strategy.TheVariants.{Etd, Rsr, Scan, Unknown}
 use Rattle.components.specs.Points.{distance}
 use Rattle.components.specs.Cars.{remaining}
 use Rattle.components.specs.Sheet.{Sheet}
@@ -21,7 +20,7 @@ use Rattle.layout.specs.Records.{sheet_of, limit_of}
 use Rattle.layout.specs.Verdict.{verdict}
 use Rattle.accepted.specs.Accepted.{accepted}
 use Rattle.manifest.specs.declared.Waiters.{Waiters}
-use Rattle.manifest.specs.World.{stop_id, stop_at, goal}
+use Rattle.manifest.specs.World.{stop_id, stop_at}
 use Rattle.manifest.specs.Stops.{HoldsStops, stop_index, point_in, point_is}
 use Rattle.riders.specs.declared.Riders.{Riders}
 use Rattle.dispatch.specs.WaitersLaws.{HoldsWaiters, Weighed}
@@ -33,8 +32,8 @@ use Rattle.etd.specs.Etd.{etd_terms}
 use Rattle.etd.specs.EtdLaws.{terms_are as etd-are}
 use Rattle.rsr.specs.Rsr.{rsr_terms, rsr_terms_of}
 use Rattle.assignment.specs.Pending.{idle, pending}
-use Rattle.assignment.specs.Candidates.{line_serves, line_serves_of, barred, kept}
-use Rattle.assignment.specs.Cells.{by_strategy, rank}
+use Rattle.assignment.specs.Candidates.{line_serves, line_serves_of}
+use Rattle.assignment.specs.Cells.{by_strategy}
 use Rattle.pending.specs.declared.StopMasks.{StopMasks}
 use Rattle.pending.specs.Masks.{stop_mask, line_stop, pending_are}
 use Rattle.rows.specs.HeldLaws.{below_has}
@@ -43,7 +42,6 @@ use Rattle.cells.specs.Survey.{SeenStops, weighed_of}
 use Rattle.ranking.specs.declared.Row.{Row}
 use Rattle.ranking.specs.Ranking.{halts_by}
 use Rattle.ranking.specs.RankingLaws.{by_parts, HoldsRow, rank_is}
-use Rattle.why.specs.declared.Terms.{Terms}
 use Rattle.why.specs.Why.{asks_path, etd_slots, rsr_slots, scan_slots, terms_of, stop_record, reason_of, why_by, why_at}
 use Rattle.why.specs.Pairs.{terms_by, against, reason_by}
 

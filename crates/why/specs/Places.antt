@@ -1,5 +1,5 @@
 -- Eight stores into places. Assumes nothing.
-use Rattle.std.specs.Prelude.{ℕ, ◌≤◌, ◌≡◌, refl, List, [], ◌∷◌, length, set, drop, Float}
+use Rattle.std.specs.Prelude.{◌≤◌, ◌≡◌, refl, List, [], ◌∷◌, length, set, drop, Float}
 use Rattle.std.proofs.Common.{arith}
 
 pub eight_stores : (l : List Float) (a b c d e f g h : Float) → 8 ≤ length l

@@ -1,5 +1,5 @@
 -- bench::name_stops meets its contract.
-use Prim.Native.Nat.{ℕ, ◌-◌}
+use Prim.Native.Nat.{ℕ}
 use Rattle.laws.specs.Folds.{ended}
 use Rattle.laws.specs.Tables.{tab, tab_next}
 use Rattle.bench.specs.PendingStops.{listed_id}

@@ -1,5 +1,5 @@
 -- bench::pass_two meets its contract.
-use Rattle.bench.specs.TwoPasses.{demand3}
+use Rattle.bench.proofs.TwoPasses.{demand3}
 use Rattle.bench.proofs.pass_two.Goals as goal
 
 pub returns : goal.returns

@@ -1,5 +1,4 @@
 -- why::car_record meets its contract.
-use Prim.Native.Nat.{◌-◌}
 use Rattle.components.specs.declared.Car.{Car}
 use Rattle.laws.specs.Folds.{lookup, lookup_step, ended}
 use Rattle.layout.specs.Records.{sheet_of}

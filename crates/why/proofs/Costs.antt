@@ -26,7 +26,6 @@ use Rattle.rsr.specs.Rsr.{rsr_terms, rsr_terms_of, rsr_rank, rsr_cost}
 use Rattle.assignment.specs.Pending.{idle, pending}
 use Rattle.assignment.specs.Candidates.{line_serves, barred, viable_of, kept_of, kept}
 use Rattle.assignment.specs.Cells.{by_strategy, rank_cell, sweep_after, rank, cell}
-use Rattle.why.specs.declared.Terms.{Terms}
 use Rattle.why.specs.Why.{first_reason, rank_reason, asks_path, etd_slots, rsr_slots, scan_slots, terms_of, reason_of}
 
 -- ---- the last term is the cost

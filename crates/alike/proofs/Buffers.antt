@@ -20,12 +20,12 @@ use Rattle.assignment_problem.specs.Recursion.{chosen, least_total}
 use Rattle.assignment_problem.proofs.Chosen.{chosen_same}
 use Rattle.assignment.specs.Pending.{idle_cars, pending_stops, column_stop, columns}
 use Rattle.assignment.specs.Cells.{sweep_after, matrix, column, answered_total, goes, decision}
-use Rattle.assignment.specs.CellLaws.{rows_fit}
+use Rattle.assignment.proofs.CellLaws.{rows_fit}
 use Rattle.outcome.specs.Outcome.{decisions_of, cells_of, sweeps_of}
 use Rattle.alike.specs.Alike.{Alike, other}
 use Rattle.alike.specs.Stops.{same_cars, same_stops, same_column, same_columns}
-use Rattle.alike.specs.Costs.{same_sweep}
-use Rattle.alike.specs.Rows.{same_matrix, column_below}
+use Rattle.alike.proofs.Costs.{same_sweep}
+use Rattle.alike.proofs.Rows.{same_matrix, column_below}
 
 module _ (s : Sheet) (stop : ℕ → Stop) (line : ℕ → Line) (car : ℕ → Car) (aboard : ℕ → Aboard) (waiting : ℕ → Waiting)
     (demand : ℕ → Demand) (closed : ℕ → ℕ) (h : Alike s stop line car aboard waiting demand closed)

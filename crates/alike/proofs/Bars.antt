@@ -16,11 +16,11 @@ use Rattle.assignment_problem.proofs.Chosen.{least_total_mono}
 use Rattle.assignment.specs.Pending.{pending, idle_cars, row_car, pending_stops, column_stop, columns}
 use Rattle.assignment.specs.Candidates.{no_limit, viable_of, kept_of}
 use Rattle.assignment.specs.Cells.{cell, matrix, answered_total}
-use Rattle.assignment.specs.CellLaws.{cell_le, unlimited, rows_fit}
+use Rattle.assignment.proofs.CellLaws.{cell_le, unlimited, rows_fit}
 use Rattle.alike.specs.Alike.{Alike, other}
 use Rattle.alike.specs.Stops.{same_pending, same_cars, same_row, same_stops, same_column, same_columns}
-use Rattle.alike.specs.Costs.{same_rank}
-use Rattle.alike.specs.Rows.{same_line, row_below, column_below}
+use Rattle.alike.proofs.Costs.{same_rank}
+use Rattle.alike.proofs.Rows.{same_line, row_below, column_below}
 
 -- a cell of a barred stop is the sentinel
 pub cell_barred : (s : Sheet) (limit i j : ℕ) → has (s.car i).restricted j ≡ true → cell s limit i j ≡ sentinel

@@ -21,7 +21,7 @@ use Rattle.assignment.specs.Candidates.{precedes, line_serves_of, viable_of, nea
 use Rattle.assignment.specs.Cells.{cell, matrix, held_cell, held_at, held_in_row, held_cells, ranked_pairs}
 use Rattle.alike.specs.Alike.{Alike, other}
 use Rattle.alike.specs.Stops.{same_pending, same_cars, same_row, same_stops, same_column, same_columns}
-use Rattle.alike.specs.Costs.{same_rank}
+use Rattle.alike.proofs.Costs.{same_rank}
 
 three : {a b c x y z : Bool} → a ≡ x → b ≡ y → c ≡ z → (a && (not b && c)) ≡ (x && (not y && z))
 three e f g = cc
