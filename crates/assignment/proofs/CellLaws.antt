@@ -1,10 +1,10 @@
 -- What cells tell, and how they move with the limit. Assumes nothing.
---   cell-le matrix-le          every cell is at most the sentinel
---   cell-kept cell-viable      a cell below it belongs to a kept, hence viable, pair
---   cell-mono matrix-mono      a higher limit raises no cell
---   held-ceiling               a held cell is at the ceiling, hence of a viable pair and no sentinel
+--   cell_le matrix_le          every cell is at most the sentinel
+--   cell_kept cell_viable      a cell below it belongs to a kept, hence viable, pair
+--   cell_mono matrix_mono      a higher limit raises no cell
+--   held_ceiling               a held cell is at the ceiling, hence of a viable pair and no sentinel
 --   unlimited                  with no limit the order of the stops plays no part
---   no_stop no-car             sheets where the Rust builds no matrix
+--   no_stop no_car             sheets where the Rust builds no matrix
 use Prim.Native.Nat.{ℕ, ◌<◌, ◌≤◌, ◌+◌, ◌-◌, ◌*◌, max}
 use Rattle.std.specs.Prelude.{◌≡◌, refl, Bool, not, ◌&&◌, eqb}
 use Rattle.std.proofs.Common.{sym, ◌∙◌, true≢false, mul-le-mul}

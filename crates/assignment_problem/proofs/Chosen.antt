@@ -1,13 +1,13 @@
 -- The recursion's choice is the one that is asked for, and there is no other. Assumes nothing.
---   chosen-length chosen-choice             one column a car, distinct, each below the number of columns
---   chosen-total chosen-least               the total of its cells, which no choice undercuts
---   chosen-most                             among choices of that total none leaves fewer cars standing
---   chosen-lowest                           among those that leave as many standing the lowest columns, first car first
+--   chosen_length chosen_choice             one column a car, distinct, each below the number of columns
+--   chosen_total chosen_least               the total of its cells, which no choice undercuts
+--   chosen_most                             among choices of that total none leaves fewer cars standing
+--   chosen_lowest                           among those that leave as many standing the lowest columns, first car first
 --   chosen_is                               all of that, as Chosen says it
---   chosen-unique                           whatever is Chosen has the recursion's columns and total
---   chosen-same                             equal cells give the same choice and total
---   leastTotal-any                          the least total is the same number, whoever is counted as standing
---   leastTotal-mono                         a matrix that is nowhere larger has a least total that is no larger
+--   chosen_unique                           whatever is Chosen has the recursion's columns and total
+--   chosen_same                             equal cells give the same choice and total
+--   least_total_any                          the least total is the same number, whoever is counted as standing
+--   least_total_mono                         a matrix that is nowhere larger has a least total that is no larger
 use Rattle.std.specs.Prelude.{◌≡◌, List, [], ℕ, ◌≤◌, ◌<◌, eqb, length, get_or}
 use Rattle.std.proofs.Common.{sym, ap, ◌∙◌, arith}
 use Rattle.laws.specs.Bools.{bit}

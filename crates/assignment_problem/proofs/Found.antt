@@ -1,6 +1,6 @@
 -- What the recursion finds, whatever counts as standing: a choice with its total, the foremost one, and there is no other. Assumes nothing.
---   found-length found-is found-total       one column a car, the foremost choice, and its total
---   found-only                              whatever is foremost has the recursion's columns
+--   found_length found_is found_total       one column a car, the foremost choice, and its total
+--   found_only                              whatever is foremost has the recursion's columns
 use Rattle.std.specs.Prelude.{◌≡◌, Bool, true, false, List, [], ◌∷◌, eqb, length, get_or}
 use Rattle.std.proofs.Math.Path.{refl, ap}
 use Rattle.std.proofs.Common.{sym, ap₂, ◌∙◌, subst, ⊎_elim, arith, add-zero, ext_get_or, ne_eqb}

@@ -1,7 +1,7 @@
 -- The lowest columns among the least choices, where nobody is counted as standing: what the method is shown to find. Assumes nothing.
---   lowest-length lowest-is                 one column a row, and it is Lowest
---   lowest-tab                              whatever is Lowest has the recursion's columns
---   tab-within tab-total                    and columns in range, and the least total
+--   lowest_length lowest_is                 one column a row, and it is Lowest
+--   lowest_tab                              whatever is Lowest has the recursion's columns
+--   tab_within tab-total                    and columns in range, and the least total
 use Rattle.std.specs.Prelude.{◌≡◌, List, ℕ, ◌≤◌, ◌<◌, length, get_or}
 use Rattle.std.proofs.Math.Path.{sym, ap}
 use Rattle.std.proofs.Common.{◌∙◌, arith, ext_get_or}

@@ -1,8 +1,8 @@
 -- Document 02, request F-14: "with no candidate limit, one more bit in one car's restricted mask never lowers the total, the sheet being accepted
 -- with it and without it, for every strategy and both editions." Assumes nothing.
 --   NeverCheaper     the claim of any two passes, for any set of further bits in any cars' masks
---   never-cheaper    it holds
---   one-bar          one more bit is such a set
+--   never_cheaper    it holds
+--   one_bar          one more bit is such a set
 use Rattle.std.specs.Prelude.{ℕ, ◌≤◌, ◌≡◌}
 use Rattle.layout.specs.declared.Counts.{Counts}
 use Rattle.layout.specs.declared.Reading.TheVariants.{Accepted}

@@ -2,9 +2,9 @@
 -- now on closure comes first and no car is sent there." F-2's rule beside the one of now, where they differ, and the passes by either. Assumes
 -- nothing.
 --   differs, agrees      a stop's pending state differs exactly where the rules meet
---   same-pass            where they meet at no stop, every answer and every buffer is the same
---   fewer, other-pass    where they meet at one, fewer stops are pending, so the answer is another
---   none-sent            no car is sent to a closed landing
+--   same_pass            where they meet at no stop, every answer and every buffer is the same
+--   fewer, other_pass    where they meet at one, fewer stops are pending, so the answer is another
+--   none_sent            no car is sent to a closed landing
 --   before               a worked case by F-2's rule; by the rule of now it is in assignment: Variants
 use Rattle.std.specs.Prelude.{ℕ, Bool, not, ◌&&◌, ◌||◌}
 use Rattle.laws.specs.Folds.{any}

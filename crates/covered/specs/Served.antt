@@ -1,7 +1,7 @@
 -- The stops that a car serves: no other stop is covered by cars. Assumes nothing.
---   target-next   one car more
---   served-only   of what is asked for, the served stops alone are looked at
---   none-served   where there is none, none is covered
+--   target_next   one car more
+--   served_only   of what is asked for, the served stops alone are looked at
+--   none_served   where there is none, none is covered
 use Rattle.std.specs.Prelude.{ℕ, ◌+◌, ◌<◌, ◌≡◌, Bool, ◌&&◌, List, eqb, ltb, get_or}
 use Rattle.std.proofs.Math.Path.{refl}
 use Rattle.std.proofs.Common.{sym, ap, ◌∙◌, ⊎_elim, arith, lt-ltb, ne_eqb}

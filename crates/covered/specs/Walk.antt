@@ -1,6 +1,6 @@
 -- The mask of the stops that records name, by a walk over the records. Assumes nothing.
 --   walk_start   no record names no stop
---   walk-on      one record more
+--   walk_on      one record more
 use Prim.Native.Nat.{ℕ, ◌+◌, ◌≤◌, ◌<◌}
 use Rattle.std.specs.Prelude.{◌≡◌, refl, Bool, cond, ◌&&◌, ◌||◌, List, get_or}
 use Rattle.std.proofs.Math.Path.{sym, ap}

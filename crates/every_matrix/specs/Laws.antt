@@ -1,22 +1,21 @@
 -- The numbers of a line have one digit each, and the plain matcher takes every matrix. Assumes nothing.
-use Rattle.std.specs.Prelude.{ℕ, zero, suc, ◌+◌, ◌*◌, ◌≤◌, ◌<◌, List, [], ◌∷◌, get_or}
+use Rattle.std.specs.Prelude.{ℕ, zero, suc, ◌+◌, ◌*◌, ◌≤◌, ◌<◌, List, get_or}
 use Rattle.std.proofs.Math.Path.{◌≡◌, refl, sym, ap}
 use Rattle.std.proofs.Common.{◌∙◌}
 use native.Mathlib.Omega.{arith}
 use Rattle.std.proofs.Math.Dec.{ltb}
 use Rattle.std.proofs.Math.ListN.{length}
-use borrow.Author.Tests.{lt-ltb, le-ltb}
+use borrow.Author.Tests.{le-ltb}
 use Rattle.laws.specs.Folds.{none_any}
 use Rattle.laws.specs.Sums.{sum}
 use Rattle.assignment_problem.specs.Choice.{cell_at, total, sentinel}
 use Rattle.assignment_problem.specs.Recursion.{chosen, least_total, column_of}
 use Rattle.assignment_problem.proofs.Chosen.{chosen_choice, chosen_total}
-use Rattle.text.specs.Text.{decimal, decimal_of}
 use Rattle.plain_matcher.specs.declared.Columns.{Columns}
 use Rattle.plain_matcher.specs.declared.Plain.TheVariants.{Chosen, Refused}
 use Rattle.plain_matcher.specs.Promise.{four_of, chosen_of, plain_of}
 use Rattle.plain_matcher.proofs.Fits.{all_fits}
-use Rattle.every_matrix.specs.EveryMatrix.{matrix_of, line_text, line_of}
+use Rattle.every_matrix.specs.EveryMatrix.{matrix_of}
 
 -- each cell is below 3
 pub cell_low : (k j : ℕ) → get_or (matrix_of k) j 0 < 3
@@ -36,35 +35,6 @@ pub record Digits (cells : List ℕ) (first second total : ℕ) : Type 0 where
   pub column : first < 10
   pub other : second < 10
   pub sum : total < 10
-
-decimal_digit : (n : ℕ) → n < 10 → decimal n ≡ (48 + n) ∷ []
-unfolding decimal decimal_of
-decimal_digit n h = rw (lt-ltb n 10 h)
-
--- a line, character by character
-pub characters : (cells : List ℕ) (first second total : ℕ) → Digits cells first second total
-    → (48 + get_or cells 0 0) ∷ (48 + get_or cells 1 0) ∷ (48 + get_or cells 2 0) ∷ (48 + get_or cells 3 0) ∷ (48 + get_or cells 4 0) ∷ (48 + get_or cells 5 0)
-    ∷ 32 ∷ (48 + first) ∷ 32 ∷ (48 + second) ∷ 32 ∷ (48 + total) ∷ 10 ∷ [] ≡ line_text cells first second total
-unfolding line_text
-characters (x0 ∷ x1 ∷ x2 ∷ x3 ∷ x4 ∷ x5 ∷ []) first second total d =
-    rw (
-      decimal_digit x0 (d.digit 0),
-      decimal_digit x1 (d.digit 1),
-      decimal_digit x2 (d.digit 2),
-      decimal_digit x3 (d.digit 3),
-      decimal_digit x4 (d.digit 4),
-      decimal_digit x5 (d.digit 5),
-      decimal_digit first d.column,
-      decimal_digit second d.other,
-      decimal_digit total d.sum,
-    )
-characters (x0 ∷ x1 ∷ x2 ∷ x3 ∷ x4 ∷ x5 ∷ x6 ∷ l) first second total d = absurd (omega (arith, d.six))
-characters (x0 ∷ x1 ∷ x2 ∷ x3 ∷ x4 ∷ []) first second total d = absurd (omega (arith, d.six))
-characters (x0 ∷ x1 ∷ x2 ∷ x3 ∷ []) first second total d = absurd (omega (arith, d.six))
-characters (x0 ∷ x1 ∷ x2 ∷ []) first second total d = absurd (omega (arith, d.six))
-characters (x0 ∷ x1 ∷ []) first second total d = absurd (omega (arith, d.six))
-characters (x0 ∷ []) first second total d = absurd (omega (arith, d.six))
-characters [] first second total d = absurd (omega (arith, d.six))
 
 module _ (k : ℕ) where
   abbrev cell : ℕ → ℕ → ℕ
@@ -95,10 +65,6 @@ module _ (k : ℕ) where
   unfolding matrix_of
   matrix_plain = all_fits 2 3 (matrix_of k) (omega arith) (omega arith) (omega arith) refl
       (none_any (λ j. ltb sentinel (get_or (matrix_of k) j 0)) 6 (λ j l. le-ltb sentinel (get_or (matrix_of k) j 0) (omega (arith, cell_low k j))))
-
-  pub line_length : length (line_of k) ≡ 13
-  unfolding line_of
-  line_length = ap length (sym (characters (matrix_of k) (column_of cell 2 3 0) (column_of cell 2 3 1) (least_total cell 2 3) line_digits))
 
   -- what the plain matcher chooses of it
   pub line_chosen : {x : Columns} {t : ℕ} → Chosen x t ≡ plain_of 2 3 (matrix_of k)

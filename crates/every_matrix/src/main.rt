@@ -2,7 +2,7 @@
 // and their total (request F-13).
 //
 // What is proved: `lines` puts into its buffer the text that specs/EveryMatrix.antt defines, character by character; line k of it is matrix k with
-// the choice's columns and total, and each matrix has one line, in order (specs/Once.antt). No contract can say what is written to a file: that
+// the choice's columns and total, and each matrix has one line, in order (proofs/Once.antt). No contract can say what is written to a file: that
 // `main` writes that text to standard output is tested, not proved.
 #![tactic(auto)]
 

@@ -1,5 +1,5 @@
 -- Stop ids rise with the index. Assumes nothing.
---   one-stop      one id, one stop
+--   one_stop      one id, one stop
 use Rattle.std.specs.Prelude.{ℕ, ◌≤◌, ◌<◌, ◌≡◌}
 use Rattle.std.proofs.Common.{⊎_elim, arith}
 use Rattle.laws.specs.Bools.{less?}

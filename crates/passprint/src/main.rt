@@ -4,6 +4,8 @@
 // decision and every sweep of it is that of the pass over the bytes. That text is also that of any longer input with these first 65,536
 // bytes (`printed_first` of specs/LineLaws.antt), so the rest is not read. No contract can say what is read from a file or written to one: that
 // `main` hands `lines` the bytes of standard input and writes its buffer's text to standard output is tested, not proved.
+#![tactic(auto)]
+
 ghost use Rattle.std.specs.Prelude.{◌≡◌, ◌++◌, ◌+◌, ◌≤◌, ◌<◌, length, drop};
 ghost use Rattle.text.specs.Counts.{IsPrefixLen as Counted};
 ghost use Rattle.text.specs.Text.{Put};

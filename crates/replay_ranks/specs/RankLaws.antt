@@ -1,5 +1,5 @@
 -- What the proved functions answer of a pair is the sheet's rank. Assumes nothing.
-use Rattle.std.specs.Prelude.{ℕ, zero, suc, ◌*◌, ◌<◌, ◌≡◌, Bool, true, false, not, List, get_or, Float}
+use Rattle.std.specs.Prelude.{ℕ, zero, suc, ◌*◌, ◌<◌, ◌≡◌, Bool, true, false, not, List, Float}
 use Rattle.std.proofs.Common.{sym, ap, ◌∙◌, mul-zero, arith}
 use Rattle.std.specs.Float.{nan, binary64}
 use Rattle.std.specs.Float.Ieee.{eq, to_bits}

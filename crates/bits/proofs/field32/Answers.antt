@@ -1,5 +1,4 @@
 -- bits::field32 meets its contract.
-use native.Mathlib.Omega.{arith}
 use borrow.Author.Rules.{rules}
 use Rattle.bits.proofs.field32.Goals as goal
 

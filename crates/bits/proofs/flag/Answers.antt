@@ -1,7 +1,6 @@
 -- bits::flag meets its contract.
 use Prim.Native.Nat.{ℕ, ◌/◌, ◌-◌, ◌^◌}
 use mathlib.Core.Path.{ap}
-use borrow.Author.Rules.{rules}
 use lib.Bits.{and_mask}
 use lib.Dec.{eqb}
 use Rattle.bits.proofs.NineBytes.{bit_is}

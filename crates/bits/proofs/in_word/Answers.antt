@@ -1,9 +1,8 @@
 -- bits::in_word meets its contract.
-use mathlib.Core.Path.{◌≡◌}
-use Prim.Native.Nat.{◌-◌, ◌/◌, ◌^◌}
+use Prim.Native.Nat.{◌-◌}
 use native.Mathlib.Omega.{arith}
 use borrow.Author.Rules.{rules}
-use Rattle.bits.specs.Field.{field_at, field_lt}
+use Rattle.bits.specs.Field.{field_lt}
 use Rattle.bits.proofs.NineBytes.{word_is}
 use Rattle.bits.proofs.in_word.Goals as goal
 

@@ -1,6 +1,5 @@
 -- bits::two_low_first meets its contract.
 use native.Mathlib.Omega.{arith}
-use borrow.Author.Rules.{rules}
 use Rattle.bits.specs.Field.{low_first}
 use Rattle.bits.proofs.two_low_first.Goals as goal
 

@@ -1,6 +1,5 @@
 -- bits::window meets its contract.
 use native.Mathlib.Omega.{arith}
-use borrow.Author.Rules.{rules}
 use Rattle.bits.specs.Field.{field_64}
 use Rattle.bits.proofs.NineBytes.{window_is, window_ends}
 use Rattle.bits.proofs.window.Goals as goal

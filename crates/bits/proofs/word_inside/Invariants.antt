@@ -1,11 +1,7 @@
 -- bits::word_inside meets its contract.
-use mathlib.Core.Path.{◌≡◌, sym, ap, ◌∙◌, subst}
-use Prim.Native.Nat.{ℕ, ◌≤◌, ◌<◌, ◌+◌, ◌-◌, ◌*◌, ◌/◌, ◌%◌, ◌^◌}
-use native.Mathlib.Omega.{arith}
-use borrow.Author.Rules.{rules}
-use lib.Bits.{bit_and}
-use Rattle.bits.specs.Field.{field_at, field_64}
-use Rattle.bits.proofs.NineBytes.{swap_grows}
+use mathlib.Core.Path.{◌≡◌}
+use Prim.Native.Nat.{◌≤◌, ◌-◌, ◌*◌}
+use Rattle.bits.specs.Field.{field_at}
 use Rattle.bits.proofs.word_inside.Given as goal
 
 abbrev pub invariant-loop-i : goal.invariant-loop-i

@@ -1,9 +1,9 @@
 -- bits::word_past meets its contract.
 use mathlib.Core.Path.{◌≡◌, sym, subst}
-use Prim.Native.Nat.{ℕ, ◌≤◌, ◌<◌, ◌+◌, ◌-◌, ◌*◌, ◌%◌, ◌^◌}
+use Prim.Native.Nat.{ℕ, ◌<◌, ◌+◌, ◌-◌, ◌*◌, ◌%◌, ◌^◌}
 use native.Mathlib.Omega.{arith}
 use borrow.Author.Rules.{rules}
-use lib.ListN.{get_or, length}
+use lib.ListN.{get_or}
 use Rattle.bits.specs.Field.{field_at, field_64, field_past}
 use Rattle.bits.proofs.NineBytes.{word_grows, word_ends}
 use Rattle.bits.proofs.word_past.Goals as goal

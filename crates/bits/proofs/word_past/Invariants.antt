@@ -1,11 +1,8 @@
 -- bits::word_past meets its contract.
-use mathlib.Core.Path.{◌≡◌, sym, subst}
-use Prim.Native.Nat.{ℕ, ◌≤◌, ◌<◌, ◌+◌, ◌-◌, ◌*◌, ◌%◌, ◌^◌}
-use native.Mathlib.Omega.{arith}
-use borrow.Author.Rules.{rules}
-use lib.ListN.{get_or, length}
-use Rattle.bits.specs.Field.{field_at, field_64, field_past}
-use Rattle.bits.proofs.NineBytes.{word_grows, word_ends}
+use mathlib.Core.Path.{◌≡◌}
+use Prim.Native.Nat.{◌≤◌, ◌+◌, ◌-◌, ◌*◌}
+use lib.ListN.{length}
+use Rattle.bits.specs.Field.{field_at}
 use Rattle.bits.proofs.word_past.Given as goal
 
 abbrev pub invariant-loop-i : goal.invariant-loop-i

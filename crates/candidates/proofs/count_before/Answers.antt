@@ -1,11 +1,10 @@
 -- candidates::count_before meets its contract.
-use Prim.Native.Nat.{ℕ, ◌≤◌, ◌-◌, ◌+◌}
+use Prim.Native.Nat.{ℕ, ◌-◌, ◌+◌}
 use Rattle.candidates.specs.Cut.{comes_before}
-use Rattle.laws.specs.Bools.{bit, bit-lt}
+use Rattle.laws.specs.Bools.{bit-lt}
 use Rattle.laws.specs.Folds.{count, count_step, count-le, ended}
 use Rattle.candidates.specs.CutLaws.{count_reach}
-use borrow.Author.Rules.{rules}
-use mathlib.Core.Path.{◌≡◌, refl, ap, ◌∙◌}
+use mathlib.Core.Path.{refl, ap, ◌∙◌}
 use native.Mathlib.Omega.{arith}
 use Rattle.candidates.proofs.count_before.Goals as goal
 

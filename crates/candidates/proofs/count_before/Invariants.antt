@@ -1,12 +1,8 @@
 -- candidates::count_before meets its contract.
-use Prim.Native.Nat.{ℕ, ◌≤◌, ◌-◌, ◌+◌}
+use Prim.Native.Nat.{◌≤◌, ◌-◌}
 use Rattle.candidates.specs.Cut.{comes_before}
-use Rattle.laws.specs.Bools.{bit, bit-lt}
-use Rattle.laws.specs.Folds.{count, count_step, count-le, ended}
-use Rattle.candidates.specs.CutLaws.{count_reach}
-use borrow.Author.Rules.{rules}
-use mathlib.Core.Path.{◌≡◌, refl, ap, ◌∙◌}
-use native.Mathlib.Omega.{arith}
+use Rattle.laws.specs.Folds.{count}
+use mathlib.Core.Path.{◌≡◌}
 use Rattle.candidates.proofs.count_before.Given as goal
 
 abbrev pub invariant-loop-k : goal.invariant-loop-k

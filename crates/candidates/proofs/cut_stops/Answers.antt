@@ -1,10 +1,9 @@
 -- candidates::cut_stops meets its contract.
-use Prim.Native.Nat.{ℕ, ◌≤◌, ◌-◌}
+use Prim.Native.Nat.{◌-◌}
 use Rattle.candidates.specs.Cut.{cut}
 use Rattle.mask.specs.MaskLaws.{past_some, past_none}
-use Rattle.mask.specs.UpTo.{built_to, none_yet, one_more, up_to}
-use borrow.Author.Rules.{rules}
-use mathlib.Core.Path.{◌≡◌, refl, sym, ◌∙◌}
+use Rattle.mask.specs.UpTo.{none_yet, one_more, up_to}
+use mathlib.Core.Path.{refl, sym, ◌∙◌}
 use native.Mathlib.Omega.{arith}
 use Rattle.candidates.proofs.cut_stops.Goals as goal
 

@@ -1,12 +1,11 @@
 -- candidates::fill_distances meets its contract.
-use Prim.Native.Nat.{ℕ, ◌≤◌, ◌-◌}
+use Prim.Native.Nat.{ℕ, ◌-◌}
 use Rattle.components.specs.Points.{distance}
 use Rattle.manifest.specs.Stops.{point_in}
-use Rattle.laws.specs.Tables.{tab, tab_next, tab_full, tab-length}
-use borrow.Author.Rules.{rules}
+use Rattle.laws.specs.Tables.{tab, tab_next, tab_full}
 use lib.Ieee.{Float}
-use lib.ListN.{length, drop, length-set}
-use mathlib.Core.List.{List, ◌++◌}
+use lib.ListN.{drop, length-set}
+use mathlib.Core.List.{◌++◌}
 use mathlib.Core.Path.{◌≡◌, refl, sym, ap, ◌∙◌}
 use native.Mathlib.Omega.{arith}
 use Rattle.candidates.proofs.fill_distances.Goals as goal

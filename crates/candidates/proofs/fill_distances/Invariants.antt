@@ -1,14 +1,11 @@
 -- candidates::fill_distances meets its contract.
-use Prim.Native.Nat.{ℕ, ◌≤◌, ◌-◌}
+use Prim.Native.Nat.{◌≤◌, ◌-◌}
 use Rattle.components.specs.Points.{distance}
 use Rattle.manifest.specs.Stops.{point_in}
-use Rattle.laws.specs.Tables.{tab, tab_next, tab_full, tab-length}
-use borrow.Author.Rules.{rules}
-use lib.Ieee.{Float}
-use lib.ListN.{length, drop, length-set}
-use mathlib.Core.List.{List, ◌++◌}
-use mathlib.Core.Path.{◌≡◌, refl, sym, ap, ◌∙◌}
-use native.Mathlib.Omega.{arith}
+use Rattle.laws.specs.Tables.{tab}
+use lib.ListN.{length, drop}
+use mathlib.Core.List.{◌++◌}
+use mathlib.Core.Path.{◌≡◌}
 use Rattle.candidates.proofs.fill_distances.Given as goal
 
 abbrev pub invariant-loop-j : goal.invariant-loop-j

@@ -1,8 +1,7 @@
 -- candidates::is_kept meets its contract.
 use Rattle.assignment.specs.Candidates.{keeps}
 use Rattle.candidates.specs.Cut.{cut}
-use borrow.Author.Rules.{rules}
-use borrow.Author.Tests.{eq-eqb, ne_eqb, not-true, not-false}
+use borrow.Author.Tests.{eq-eqb, ne_eqb}
 use mathlib.Core.Path.{refl, sym, ◌∙◌}
 use Rattle.candidates.proofs.is_kept.Goals as goal
 

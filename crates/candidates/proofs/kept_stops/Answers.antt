@@ -2,8 +2,7 @@
 use Prim.Native.Nat.{ℕ, ◌≤◌}
 use lib.Ieee.{Float}
 use mathlib.Core.List.{List}
-use mathlib.Core.Path.{◌≡◌, ap, subst, ◌∙◌}
-use borrow.Author.Rules.{rules}
+use mathlib.Core.Path.{ap, subst, ◌∙◌}
 use Rattle.laws.specs.Tables.{tab}
 use Rattle.components.specs.declared.Point.{Point}
 use Rattle.components.specs.Points.{distance}

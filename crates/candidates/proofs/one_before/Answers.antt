@@ -1,9 +1,8 @@
 -- candidates::one_before meets its contract.
 use Rattle.candidates.specs.Cut.{comes_before}
 use Rattle.laws.specs.Bools.{bit}
-use borrow.Author.Rules.{rules}
 use mathlib.Core.Bool.{Bool, ◌&&◌}
-use mathlib.Core.Path.{◌≡◌, sym, ap, ap₂, ◌∙◌}
+use mathlib.Core.Path.{sym, ap, ap₂, ◌∙◌}
 use Rattle.candidates.proofs.one_before.Goals as goal
 
 pub returns-then-has-precedes : goal.returns-then-has-precedes

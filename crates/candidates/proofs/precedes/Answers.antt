@@ -1,6 +1,5 @@
 -- candidates::precedes meets its contract.
 use Rattle.assignment.specs.Candidates.{precedes}
-use borrow.Author.Tests.{le-ltb}
 use mathlib.Core.Path.{refl}
 use Rattle.candidates.proofs.precedes.Goals as goal
 

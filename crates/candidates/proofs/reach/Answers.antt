@@ -1,10 +1,9 @@
 -- candidates::reach meets its contract.
-use Prim.Native.Nat.{ℕ, ◌≤◌, ◌<◌}
+use Prim.Native.Nat.{ℕ, ◌≤◌}
 use mathlib.Core.Path.{◌≡◌, sym, ◌∙◌}
 use mathlib.Core.Bool.{false}
 use native.Mathlib.Omega.{arith}
-use borrow.Author.Rules.{rules}
-use Rattle.mask.specs.Mask.{has, past_stops}
+use Rattle.mask.specs.Mask.{past_stops}
 use Rattle.mask.specs.MaskLaws.{past_none}
 use Rattle.candidates.specs.Cut.{Reaches}
 use Rattle.candidates.proofs.reach.Goals as goal

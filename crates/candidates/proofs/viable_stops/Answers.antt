@@ -2,7 +2,6 @@
 use Rattle.candidates.specs.Cut.{viable_by}
 use Rattle.mask.specs.Mask.{has}
 use Rattle.mask.specs.MaskLaws.{built_cong, has_built}
-use borrow.Author.Rules.{rules}
 use mathlib.Core.Bool.{Bool, true, false, ◌&&◌, not}
 use mathlib.Core.Path.{◌≡◌, refl, ap, ◌∙◌}
 use Rattle.candidates.proofs.viable_stops.Goals as goal

@@ -1,6 +1,5 @@
 -- cars::blank meets its contract.
-use borrow.Author.Rules.{rules}
-use mathlib.Core.Path.{◌≡◌, refl}
+use mathlib.Core.Path.{refl}
 use Rattle.cars.proofs.blank.Goals as goal
 
 pub returns : goal.returns

@@ -1,9 +1,8 @@
 -- cars::four_at meets its contract.
 use Prim.Native.Nat.{◌%◌}
-use borrow.Author.Rules.{rules}
 use borrow.Author.Tests.{ne_eqb}
-use lib.Bits.{bit_and, and_mask}
-use mathlib.Core.Path.{◌≡◌, refl, ◌∙◌}
+use lib.Bits.{and_mask}
+use mathlib.Core.Path.{refl, ◌∙◌}
 use Rattle.cars.proofs.four_at.Goals as goal
 
 pub returns-then-r-eq0 : goal.returns-then-r-eq0

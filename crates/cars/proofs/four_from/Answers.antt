@@ -1,10 +1,9 @@
 -- cars::four_from meets its contract.
-use Prim.Native.Nat.{ℕ, ◌+◌, ◌≤◌, ◌-◌, min}
+use Prim.Native.Nat.{ℕ, ◌+◌, ◌-◌, min}
 use Rattle.cars.specs.Cars.{blank, four_from}
 use Rattle.laws.specs.Tables.{tab, tab_next}
 use Rattle.layout.specs.Records.{sheet_of}
-use borrow.Author.Rules.{rules}
-use lib.ListN.{length, get_or, drop, replicate, length-set}
+use lib.ListN.{get_or, drop, replicate, length-set}
 use mathlib.Core.List.{◌++◌}
 use mathlib.Core.Path.{◌≡◌, refl, ap, ◌∙◌}
 use native.Mathlib.Omega.{arith}

@@ -1,13 +1,11 @@
 -- cars::four_from meets its contract.
-use Prim.Native.Nat.{ℕ, ◌+◌, ◌≤◌, ◌-◌, min}
-use Rattle.cars.specs.Cars.{blank, four_from}
-use Rattle.laws.specs.Tables.{tab, tab_next}
+use Prim.Native.Nat.{◌+◌, ◌≤◌, ◌-◌}
+use Rattle.cars.specs.Cars.{blank}
+use Rattle.laws.specs.Tables.{tab}
 use Rattle.layout.specs.Records.{sheet_of}
-use borrow.Author.Rules.{rules}
-use lib.ListN.{length, get_or, drop, replicate, length-set}
+use lib.ListN.{length, get_or, drop, replicate}
 use mathlib.Core.List.{◌++◌}
-use mathlib.Core.Path.{◌≡◌, refl, ap, ◌∙◌}
-use native.Mathlib.Omega.{arith}
+use mathlib.Core.Path.{◌≡◌}
 use Rattle.cars.proofs.four_from.Given as goal
 
 abbrev pub invariant-loop-k : goal.invariant-loop-k

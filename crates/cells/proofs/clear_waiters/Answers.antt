@@ -1,8 +1,7 @@
 -- cells::clear_waiters meets its contract.
-use Prim.Native.Nat.{ℕ, ◌≤◌, ◌-◌}
-use Rattle.rows.specs.Gathered.{Cleared, cleared_start, cleared_next}
-use borrow.Author.Rules.{rules}
-use mathlib.Core.Path.{◌≡◌, refl, ◌∙◌}
+use Prim.Native.Nat.{◌-◌}
+use Rattle.rows.specs.Gathered.{cleared_start, cleared_next}
+use mathlib.Core.Path.{◌≡◌, ◌∙◌}
 use native.Mathlib.Omega.{arith}
 use Rattle.cells.proofs.clear_waiters.Goals as goal
 

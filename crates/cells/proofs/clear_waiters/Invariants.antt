@@ -1,9 +1,6 @@
 -- cells::clear_waiters meets its contract.
-use Prim.Native.Nat.{ℕ, ◌≤◌, ◌-◌}
-use Rattle.rows.specs.Gathered.{Cleared, cleared_start, cleared_next}
-use borrow.Author.Rules.{rules}
-use mathlib.Core.Path.{◌≡◌, refl, ◌∙◌}
-use native.Mathlib.Omega.{arith}
+use Prim.Native.Nat.{◌≤◌, ◌-◌}
+use Rattle.rows.specs.Gathered.{Cleared}
 use Rattle.cells.proofs.clear_waiters.Given as goal
 
 abbrev pub invariant-loop-j : goal.invariant-loop-j

@@ -3,10 +3,8 @@ use Rattle.layout.specs.Table.{aboard_car_field, aboard_destination_field}
 use Rattle.layout.specs.Offsets.{record_length}
 use Rattle.components.specs.declared.Kind.TheVariants.{Aboard}
 use Prim.Native.Nat.{ℕ, ◌+◌, ◌*◌}
-use Rattle.bits.specs.Field.{field_at}
 use Rattle.laws.specs.Tables.{tab}
 use Rattle.layout.specs.Records.{sheet_of, aboard_of, from, read}
-use borrow.Author.Rules.{rules}
 use lib.ListN.{drop}
 use mathlib.Core.List.{◌++◌}
 use mathlib.Core.Path.{◌≡◌, ap, ◌∙◌}

@@ -1,14 +1,10 @@
 -- cells::fill_matrix meets its contract.
 use Rattle.accepted.specs.Accepted.{accepted}
 use Rattle.cells.specs.Ids.{rising_of}
-use Rattle.cells.specs.Survey.{Survey, holds_aboard, ready}
+use Rattle.cells.specs.Survey.{holds_aboard, ready}
 use Rattle.layout.specs.Records.{sheet_of}
 use Rattle.pending.specs.Masks.{calls_are}
-use Rattle.rows.specs.MatrixLaws.{RowsNeed}
-use borrow.Author.Rules.{rules}
-use lib.ListN.{length}
-use mathlib.Core.Path.{◌≡◌, refl, ◌∙◌}
-use native.Mathlib.Omega.{arith}
+use mathlib.Core.Path.{refl}
 use Rattle.cells.proofs.fill_matrix.Goals as goal
 
 pub fill_aboard-requires : goal.fill_aboard-requires

@@ -4,10 +4,9 @@ use Rattle.layout.specs.Records.{sheet_of, stop_of, from, read, double}
 use Prim.Native.Nat.{ℕ, ◌+◌, ◌*◌}
 use Rattle.laws.specs.Tables.{tab}
 use Rattle.manifest.specs.World.{stop_at}
-use Rattle.cells.specs.Survey.{coordinates, halves, halves_length, halves_same}
-use borrow.Author.Rules.{rules}
+use Rattle.cells.specs.Survey.{halves, halves_length, halves_same}
 use lib.Ieee.{Float}
-use lib.ListN.{length, take, drop, length-take, length-drop}
+use lib.ListN.{length, take, drop, length-take}
 use mathlib.Core.List.{List, ◌++◌}
 use mathlib.Core.Path.{◌≡◌, ap₂, ◌∙◌}
 use native.Mathlib.Omega.{arith}

@@ -1,12 +1,9 @@
 -- cells::idle_cars meets its contract.
-use Prim.Native.Nat.{ℕ, ◌≤◌, ◌-◌}
+use Prim.Native.Nat.{◌≤◌, ◌-◌}
 use Rattle.assignment.specs.Pending.{idle}
-use Rattle.cells.specs.Survey.{idle_mask}
-use Rattle.layout.specs.Records.{sheet_of, car_of}
-use Rattle.mask.specs.UpTo.{built_to, none_yet, one_more}
-use borrow.Author.Rules.{rules}
-use mathlib.Core.Path.{◌≡◌, refl, ap, ◌∙◌}
-use native.Mathlib.Omega.{arith}
+use Rattle.layout.specs.Records.{sheet_of}
+use Rattle.mask.specs.UpTo.{built_to}
+use mathlib.Core.Path.{◌≡◌}
 use Rattle.cells.proofs.idle_cars.Given as goal
 
 abbrev pub invariant-loop-i : goal.invariant-loop-i

@@ -1,8 +1,7 @@
 -- cells::list_cars meets its contract.
 use Prim.Native.Nat.{ℕ}
 use Rattle.mask.specs.Ones.{ones_of}
-use borrow.Author.Rules.{rules}
-use mathlib.Core.Path.{◌≡◌, ap, ◌∙◌}
+use mathlib.Core.Path.{ap, ◌∙◌}
 use Rattle.cells.proofs.list_cars.Goals as goal
 
 pub returns : goal.returns

@@ -1,6 +1,5 @@
 -- cells::met meets its contract.
 use Rattle.layout.specs.Records.{waiting_of}
-use borrow.Author.Rules.{rules}
 use lib.Ieee.{of_bits, binary64}
 use mathlib.Core.Path.{ap, ◌∙◌}
 use Rattle.cells.proofs.met.Goals as goal

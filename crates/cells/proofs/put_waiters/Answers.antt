@@ -1,8 +1,7 @@
 -- cells::put_waiters meets its contract.
 use Rattle.rows.specs.Gathered.{put_at}
-use borrow.Author.Rules.{rules}
 use lib.ListN.{length-set}
-use mathlib.Core.Path.{◌≡◌, refl}
+use mathlib.Core.Path.{refl}
 use native.Mathlib.Omega.{arith}
 use Rattle.cells.proofs.put_waiters.Goals as goal
 

@@ -3,7 +3,6 @@ use Rattle.accepted.specs.Accepted.{accepted}
 use Rattle.cells.specs.Survey.{holds_aboard, held_of}
 use Rattle.layout.specs.Records.{sheet_of}
 use Rattle.rows.specs.MatrixLaws.{row_of}
-use borrow.Author.Rules.{rules}
 use native.Mathlib.Omega.{arith}
 use mathlib.Core.Path.{refl}
 use Rattle.cells.proofs.row_of.Goals as goal

@@ -1,7 +1,6 @@
 -- cells::see_stops meets its contract.
 use Rattle.accepted.specs.Accepted.{accepted}
 use Rattle.cells.specs.Begun.{begun}
-use borrow.Author.Rules.{rules}
 use mathlib.Core.Path.{◌∙◌}
 use Rattle.cells.proofs.see_stops.Goals as goal
 

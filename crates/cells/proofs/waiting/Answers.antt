@@ -1,14 +1,11 @@
 -- cells::waiting meets its contract.
-use Prim.Native.Nat.{ℕ, ◌+◌, ◌*◌, ◌≤◌, ◌-◌}
+use Prim.Native.Nat.{ℕ, ◌+◌, ◌*◌, ◌-◌}
 use Rattle.components.specs.declared.Kind.TheVariants.{Waiting}
 use Rattle.layout.specs.Offsets.{record_length}
 use Rattle.layout.specs.Records.{sheet_of, waiting_of, from, read}
 use Rattle.layout.specs.Table.{waiting_stop_field}
 use Rattle.manifest.specs.Stops.{stop_index, ascending}
-use Rattle.rows.specs.Gathered.{Met, met_start, met_here, met_nowhere, met_all}
-use borrow.Author.Rules.{rules}
-use lib.ListN.{length}
-use mathlib.Core.Logic.{⊎_elim}
+use Rattle.rows.specs.Gathered.{met_start, met_here, met_nowhere, met_all}
 use mathlib.Core.Path.{◌≡◌, ap, ◌∙◌}
 use native.Mathlib.Omega.{arith}
 use Rattle.cells.proofs.waiting.Goals as goal
@@ -75,11 +72,11 @@ loop-w-preserved c =
     index.ensures ∙ ap (stop_index a.ids.now a.c.stops) stop in (
       omega (arith, t),
       elim c.if-j-n.branch [
-        then-j-n q ↦
+        | then-j-n q ↦
             rw (q.sums-is, q.someone-is, q.put_waiters.ensures)
             (met_here s a.ids.now a.xs.now a.calls up p.0.stops l.w l.someone t l.invariant.1 index.result (c.clear_waiters.ensures.size ∙ p.6) found q.if-j-n.true
             (rw q.waiters_at-v.ensures at (rw first.ensures at q.met.ensures)) q.with-someone.ensures)
-      | else-j-n q ↦
+        | else-j-n q ↦
             rw (q.sums-is, q.someone-is)
             (met_nowhere s a.ids.now a.xs.now a.calls up p.0.stops l.w l.someone t l.invariant.1 index.result found q.if-j-n.false)
       ],

@@ -1,5 +1,4 @@
 -- conditions::has_line meets its contract.
-use borrow.Author.Rules.{rules}
 use Rattle.conditions.proofs.has_line.Goals as goal
 
 pub returns : goal.returns

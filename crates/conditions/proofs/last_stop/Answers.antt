@@ -1,6 +1,5 @@
 -- conditions::last_stop meets its contract.
 use Rattle.layout.specs.Refusals.{last_stop}
-use borrow.Author.Rules.{rules}
 use borrow.Author.Tests.{eq-eqb, ne_eqb}
 use Rattle.conditions.proofs.last_stop.Goals as goal
 

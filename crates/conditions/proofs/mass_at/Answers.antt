@@ -1,5 +1,4 @@
 -- conditions::mass_at meets its contract.
-use borrow.Author.Rules.{rules}
 use Rattle.conditions.proofs.mass_at.Goals as goal
 
 pub returns : goal.returns

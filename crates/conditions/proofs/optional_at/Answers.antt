@@ -5,7 +5,6 @@ use Rattle.laws.specs.Bools.{same?}
 use Rattle.layout.specs.Table.{field}
 use Rattle.layout.specs.Records.{from}
 use Rattle.layout.specs.Refusals.{absent_set, present_zero}
-use borrow.Author.Rules.{rules}
 use borrow.Author.Tests.{eq-eqb, ne_eqb, lt-ltb, le-ltb}
 use lib.Dec.{eqb, ltb}
 use mathlib.Core.Bool.{not, ◌&&◌, and-true}

@@ -1,6 +1,5 @@
 -- conditions::placed_at meets its contract.
 use Rattle.components.specs.Points.{is_placed}
-use borrow.Author.Rules.{rules}
 use Rattle.conditions.proofs.placed_at.Goals as goal
 
 pub returns : goal.returns

@@ -1,11 +1,7 @@
 -- coverage::capacity_at meets its contract.
-use Prim.Native.Nat.{ℕ, ◌≤◌, ◌-◌}
-use Rattle.coverage.specs.Coverage.{capacity_step, capacity_by}
-use Rattle.fp.specs.Num.{zero}
-use Rattle.laws.specs.Folds.{fold, fold_step, ended}
-use borrow.Author.Rules.{rules}
-use mathlib.Core.Path.{◌≡◌, refl, sym, ap, ◌∙◌}
-use native.Mathlib.Omega.{arith}
+use Prim.Native.Nat.{◌≤◌, ◌-◌}
+use Rattle.coverage.specs.Coverage.{capacity_by}
+use mathlib.Core.Path.{◌≡◌}
 use Rattle.coverage.proofs.capacity_at.Given as goal
 
 abbrev pub invariant-loop-l : goal.invariant-loop-l

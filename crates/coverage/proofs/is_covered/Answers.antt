@@ -1,7 +1,5 @@
 -- coverage::is_covered meets its contract.
 use Rattle.coverage.specs.Coverage.{covered_by}
-use borrow.Author.Rules.{rules}
-use borrow.Author.Tests.{not-true, not-false}
 use mathlib.Core.Path.{refl, sym, ◌∙◌}
 use Rattle.coverage.proofs.is_covered.Goals as goal
 

@@ -1,9 +1,8 @@
 -- coverage::line_room meets its contract.
-use Prim.Native.Nat.{ℕ, ◌≤◌, ◌-◌}
+use Prim.Native.Nat.{◌-◌}
 use Rattle.coverage.specs.Coverage.{room_step, line_room}
 use Rattle.laws.specs.Folds.{fold, fold_step, ended}
-use borrow.Author.Rules.{rules}
-use mathlib.Core.Path.{◌≡◌, refl, sym, ap, ◌∙◌}
+use mathlib.Core.Path.{refl}
 use native.Mathlib.Omega.{arith}
 use Rattle.coverage.proofs.line_room.Goals as goal
 

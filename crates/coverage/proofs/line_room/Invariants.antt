@@ -1,10 +1,7 @@
 -- coverage::line_room meets its contract.
-use Prim.Native.Nat.{ℕ, ◌≤◌, ◌-◌}
-use Rattle.coverage.specs.Coverage.{room_step, line_room}
-use Rattle.laws.specs.Folds.{fold, fold_step, ended}
-use borrow.Author.Rules.{rules}
-use mathlib.Core.Path.{◌≡◌, refl, sym, ap, ◌∙◌}
-use native.Mathlib.Omega.{arith}
+use Prim.Native.Nat.{◌≤◌, ◌-◌}
+use Rattle.coverage.specs.Coverage.{line_room}
+use mathlib.Core.Path.{◌≡◌}
 use Rattle.coverage.proofs.line_room.Given as goal
 
 abbrev pub invariant-loop-i : goal.invariant-loop-i

@@ -1,11 +1,10 @@
 -- coverage::line_served meets its contract.
-use Prim.Native.Nat.{ℕ, ◌≤◌, ◌-◌}
+use Prim.Native.Nat.{◌-◌}
 use Rattle.coverage.specs.Coverage.{on_served_line, line_served_by}
 use Rattle.laws.specs.Folds.{any, any_at, any_no, ended}
-use borrow.Author.Rules.{rules}
 use borrow.Author.Tests.{eq-eqb, ne_eqb}
 use mathlib.Core.Bool.{false}
-use mathlib.Core.Path.{◌≡◌, refl, sym, ap, ◌∙◌}
+use mathlib.Core.Path.{refl, sym}
 use native.Mathlib.Omega.{arith}
 use Rattle.coverage.proofs.line_served.Goals as goal
 

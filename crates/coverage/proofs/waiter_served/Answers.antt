@@ -1,5 +1,4 @@
 -- coverage::waiter_served meets its contract.
-use borrow.Author.Rules.{rules}
 use borrow.Author.Tests.{eq-eqb, ne_eqb}
 use Rattle.coverage.proofs.waiter_served.Goals as goal
 

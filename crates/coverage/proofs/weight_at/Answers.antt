@@ -1,10 +1,9 @@
 -- coverage::weight_at meets its contract.
-use Prim.Native.Nat.{ℕ, ◌≤◌, ◌-◌}
+use Prim.Native.Nat.{◌-◌}
 use Rattle.coverage.specs.Coverage.{weight_step, weight_by}
 use Rattle.fp.specs.Num.{zero}
 use Rattle.laws.specs.Folds.{fold, fold_step, ended}
-use borrow.Author.Rules.{rules}
-use mathlib.Core.Path.{◌≡◌, refl, sym, ap, ◌∙◌}
+use mathlib.Core.Path.{refl}
 use native.Mathlib.Omega.{arith}
 use Rattle.coverage.proofs.weight_at.Goals as goal
 

@@ -1,11 +1,7 @@
 -- coverage::weight_at meets its contract.
-use Prim.Native.Nat.{ℕ, ◌≤◌, ◌-◌}
-use Rattle.coverage.specs.Coverage.{weight_step, weight_by}
-use Rattle.fp.specs.Num.{zero}
-use Rattle.laws.specs.Folds.{fold, fold_step, ended}
-use borrow.Author.Rules.{rules}
-use mathlib.Core.Path.{◌≡◌, refl, sym, ap, ◌∙◌}
-use native.Mathlib.Omega.{arith}
+use Prim.Native.Nat.{◌≤◌, ◌-◌}
+use Rattle.coverage.specs.Coverage.{weight_by}
+use mathlib.Core.Path.{◌≡◌}
 use Rattle.coverage.proofs.weight_at.Given as goal
 
 abbrev pub invariant-loop-w : goal.invariant-loop-w

@@ -9,7 +9,6 @@ use Rattle.layout.specs.Records.{from, read, sheet_of}
 use Rattle.layout.specs.Table.{closed_stop_field}
 use Rattle.mask.specs.Mask.{built}
 use Rattle.mask.specs.MaskLaws.{built_cong, none_built}
-use borrow.Author.Rules.{rules}
 use mathlib.Core.Path.{◌≡◌, refl, sym, ap, ◌∙◌}
 use mathlib.Core.List.{List}
 use Rattle.components.specs.Sheet.{Sheet}

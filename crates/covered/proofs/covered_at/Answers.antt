@@ -1,6 +1,4 @@
 -- covered::covered_at meets its contract.
-use borrow.Author.Rules.{rules}
-use borrow.Author.Tests.{not-true, not-false}
 use mathlib.Core.Path.{sym, ◌∙◌}
 use Rattle.covered.proofs.covered_at.Goals as goal
 

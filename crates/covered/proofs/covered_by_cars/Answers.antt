@@ -1,7 +1,6 @@
 -- covered::covered_by_cars meets its contract.
 use Rattle.covered.specs.Served.{served_ids, served_only, none_served}
 use Rattle.layout.specs.Records.{sheet_of}
-use borrow.Author.Rules.{rules}
 use mathlib.Core.Path.{◌∙◌}
 use Rattle.covered.proofs.covered_by_cars.Goals as goal
 

@@ -3,15 +3,13 @@ use Rattle.layout.specs.Table.{car_line_field, line_id_field}
 use Rattle.layout.specs.Offsets.{record_length}
 use Rattle.components.specs.declared.Kind.TheVariants.{Line}
 use Prim.Native.Nat.{ℕ, ◌+◌, ◌*◌}
-use Rattle.bits.specs.Field.{field_at}
 use Rattle.fields.specs.Held.{held}
 use Rattle.components.specs.Cars.{remaining}
 use Rattle.covered.specs.Columns.{served_target}
 use Rattle.covered.specs.Same.{HoldsServing}
 use Rattle.layout.specs.Records.{from, car_of, line_of, sheet_of, read}
-use borrow.Author.Rules.{rules}
 use lib.Ieee.{nan}
-use mathlib.Core.Path.{◌≡◌, ap, ap₂, ◌∙◌}
+use mathlib.Core.Path.{ap, ap₂, ◌∙◌}
 use native.Mathlib.Omega.{arith}
 use Rattle.covered.proofs.covered_by_columns.Goals as goal
 use Rattle.covered.proofs.covered_by_columns.Goals.{After-ids-3-1}

@@ -3,13 +3,11 @@ use Rattle.layout.specs.Table.{waiting_line_field, waiting_stop_field, waiting_w
 use Rattle.layout.specs.Offsets.{record_length}
 use Rattle.components.specs.declared.Kind.TheVariants.{Waiting}
 use Prim.Native.Nat.{ℕ, ◌+◌, ◌*◌}
-use Rattle.bits.specs.Field.{field_at}
 use Rattle.fields.specs.Held.{held}
-use Rattle.covered.specs.Same.{HoldsWaits, mask_same}
+use Rattle.covered.specs.Same.{mask_same}
 use Rattle.layout.specs.Records.{waiting_of, sheet_of, from, read, double}
-use borrow.Author.Rules.{rules}
-use lib.Ieee.{nan, of_bits, binary64}
-use mathlib.Core.Path.{◌≡◌, ap, ◌∙◌}
+use lib.Ieee.{nan}
+use mathlib.Core.Path.{ap, ◌∙◌}
 use native.Mathlib.Omega.{arith}
 use Rattle.covered.proofs.covered_columns.Goals as goal
 

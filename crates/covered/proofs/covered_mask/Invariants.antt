@@ -1,11 +1,8 @@
 -- covered::covered_mask meets its contract.
-use Prim.Native.Nat.{ℕ, ◌≤◌, ◌-◌}
+use Prim.Native.Nat.{◌≤◌, ◌-◌}
 use Rattle.covered.specs.Same.{covered_in}
-use Rattle.mask.specs.MaskLaws.{past_some, past_none}
-use Rattle.mask.specs.UpTo.{built_to, none_yet, one_more, up_to}
-use borrow.Author.Rules.{rules}
-use mathlib.Core.Path.{◌≡◌, refl, sym, ◌∙◌}
-use native.Mathlib.Omega.{arith}
+use Rattle.mask.specs.UpTo.{built_to}
+use mathlib.Core.Path.{◌≡◌}
 use Rattle.covered.proofs.covered_mask.Given as goal
 
 abbrev pub invariant-loop-covered : goal.invariant-loop-covered

@@ -3,7 +3,6 @@ use Prim.Native.Nat.{ℕ}
 use Rattle.covered.specs.Same.{covered_either}
 use Rattle.layout.specs.Records.{sheet_of}
 use Rattle.mask.specs.Mask.{has, built}
-use borrow.Author.Rules.{rules}
 use mathlib.Core.Bool.{◌&&◌, ◌||◌}
 use mathlib.Core.Path.{◌≡◌, ap, ◌∙◌}
 use Rattle.covered.proofs.covered_stops.Goals as goal

@@ -1,6 +1,5 @@
 -- covered::covered_waits meets its contract.
 use native.Mathlib.Omega.{arith}
-use borrow.Author.Rules.{rules}
 use Rattle.covered.proofs.covered_waits.Goals as goal
 
 pub covered_columns-requires : goal.covered_columns-requires

@@ -1,11 +1,10 @@
 -- covered::fill_targets meets its contract.
-use Prim.Native.Nat.{ℕ, ◌≤◌, ◌-◌}
+use Prim.Native.Nat.{ℕ, ◌-◌}
 use Rattle.covered.specs.Columns.{served_target}
 use Rattle.laws.specs.Tables.{tab, tab_next}
 use Rattle.layout.specs.Records.{sheet_of, from, car_of}
-use borrow.Author.Rules.{rules}
-use lib.ListN.{length, drop, length-set}
-use mathlib.Core.List.{List, ◌++◌}
+use lib.ListN.{drop, length-set}
+use mathlib.Core.List.{◌++◌}
 use mathlib.Core.Path.{◌≡◌, refl, ap, ◌∙◌}
 use native.Mathlib.Omega.{arith}
 use Rattle.covered.proofs.fill_targets.Goals as goal

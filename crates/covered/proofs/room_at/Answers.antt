@@ -1,6 +1,5 @@
 -- covered::room_at meets its contract.
 use Rattle.layout.specs.Records.{car_of}
-use borrow.Author.Rules.{rules}
 use mathlib.Core.Path.{refl}
 use Rattle.covered.proofs.room_at.Goals as goal
 

@@ -1,12 +1,11 @@
 -- covered::target_at meets its contract.
 use Rattle.layout.specs.Table.{car_phase_field, car_stop_field, car_target_field}
-use Prim.Native.Nat.{ℕ, ◌+◌}
+use Prim.Native.Nat.{ℕ}
 use Rattle.components.specs.Cars.{servicing}
 use Rattle.components.specs.Codes.{phase_of}
 use Rattle.components.specs.declared.Phase.{Phase}
 use Rattle.covered.specs.Columns.{served_target}
 use Rattle.layout.specs.Records.{from, car_of, read}
-use borrow.Author.Rules.{rules}
 use mathlib.Core.Bool.{Bool, true, false}
 use mathlib.Core.List.{List}
 use mathlib.Core.Path.{◌≡◌}

@@ -1,5 +1,4 @@
 -- covered::with_named meets its contract.
-use borrow.Author.Rules.{rules}
 use borrow.Author.Tests.{lt-ltb, le-ltb}
 use Rattle.covered.specs.Walk.{with_named}
 use Rattle.covered.proofs.with_named.Goals as goal

@@ -1,6 +1,5 @@
 -- decisions::decide meets its contract.
 use Rattle.decisions.specs.Decisions.{least_told, placed_below, all_told}
-use borrow.Author.Rules.{rules}
 use lib.ListN.{length, drop, replicate}
 use native.Mathlib.Omega.{arith}
 use Rattle.decisions.proofs.decide.Goals as goal

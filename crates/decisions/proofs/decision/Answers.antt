@@ -2,7 +2,6 @@
 use mathlib.Core.Path.{refl}
 use Rattle.decisions.specs.Decisions.{told}
 use Rattle.scale.specs.Scale.{sentinel}
-use borrow.Author.Rules.{rules}
 use borrow.Author.Tests.{lt-ltb, le-ltb}
 use native.Mathlib.Omega.{arith}
 use Rattle.decisions.proofs.decision.Goals as goal

@@ -1,6 +1,5 @@
 -- decisions::total meets its contract.
 use mathlib.Core.Path.{refl}
-use borrow.Author.Rules.{rules}
 use Rattle.decisions.proofs.total.Goals as goal
 
 pub returns-in-Least : goal.returns-in-Least

@@ -1,13 +1,10 @@
 -- decisions::write meets its contract.
-use Prim.Native.Nat.{ℕ, ◌≤◌, ◌-◌}
-use Rattle.decisions.specs.Decisions.{told_at, told_next}
-use Rattle.laws.specs.Folds.{ended}
-use Rattle.laws.specs.Tables.{tab, tab_next, row_in}
-use borrow.Author.Rules.{rules}
-use lib.ListN.{length, drop, length-set}
+use Prim.Native.Nat.{◌≤◌, ◌-◌}
+use Rattle.decisions.specs.Decisions.{told_at}
+use Rattle.laws.specs.Tables.{tab}
+use lib.ListN.{length, drop}
 use mathlib.Core.List.{◌++◌}
-use mathlib.Core.Path.{◌≡◌, refl}
-use native.Mathlib.Omega.{arith}
+use mathlib.Core.Path.{◌≡◌}
 use Rattle.decisions.proofs.write.Given as goal
 
 abbrev pub invariant-loop-r : goal.invariant-loop-r

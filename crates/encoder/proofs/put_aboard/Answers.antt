@@ -1,7 +1,6 @@
 -- encoder::put_aboard meets its contract.
 use Rattle.encoder.specs.Encoded.{fields_put, record_at}
 use Rattle.values.specs.Values.{aboard_values}
-use borrow.Author.Rules.{rules}
 use Rattle.encoder.proofs.put_aboard.Goals as goal
 
 pub returns : goal.returns

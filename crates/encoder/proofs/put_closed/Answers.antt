@@ -1,7 +1,6 @@
 -- encoder::put_closed meets its contract.
 use Rattle.encoder.specs.Encoded.{fields_put, record_at}
 use Rattle.values.specs.Values.{closed_values}
-use borrow.Author.Rules.{rules}
 use Rattle.encoder.proofs.put_closed.Goals as goal
 
 pub returns : goal.returns

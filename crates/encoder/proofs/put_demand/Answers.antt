@@ -1,7 +1,6 @@
 -- encoder::put_demand meets its contract.
 use Rattle.encoder.specs.Encoded.{fields_put, record_at}
 use Rattle.values.specs.Values.{demand_values}
-use borrow.Author.Rules.{rules}
 use Rattle.encoder.proofs.put_demand.Goals as goal
 
 pub returns : goal.returns

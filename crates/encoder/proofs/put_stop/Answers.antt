@@ -1,7 +1,6 @@
 -- encoder::put_stop meets its contract.
 use Rattle.encoder.specs.Encoded.{fields_put, record_at}
 use Rattle.values.specs.Values.{stop_values}
-use borrow.Author.Rules.{rules}
 use Rattle.encoder.proofs.put_stop.Goals as goal
 
 pub returns : goal.returns

@@ -1,7 +1,6 @@
 -- encoder_car::put_car meets its contract.
 use Rattle.encoder.specs.Encoded.{fields_put, record_at}
 use Rattle.values.specs.Values.{car_values}
-use borrow.Author.Rules.{rules}
 use Rattle.encoder_car.proofs.put_car.Goals as goal
 
 pub returns : goal.returns

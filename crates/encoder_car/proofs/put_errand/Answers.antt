@@ -1,6 +1,5 @@
 -- encoder_car::put_errand meets its contract.
 use Rattle.encoder.specs.Encoded.{fields_put}
-use borrow.Author.Rules.{rules}
 use Rattle.encoder_car.proofs.put_errand.Goals as goal
 
 pub returns : goal.returns

@@ -1,6 +1,5 @@
 -- encoder_car::put_threshold meets its contract.
 use Rattle.encoder.specs.Encoded.{fields_put}
-use borrow.Author.Rules.{rules}
 use Rattle.encoder_car.proofs.put_threshold.Goals as goal
 
 pub returns : goal.returns

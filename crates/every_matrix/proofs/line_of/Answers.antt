@@ -1,5 +1,5 @@
 -- every_matrix::line_of meets its contract.
-use Rattle.every_matrix.specs.Laws.{characters}
+use Rattle.every_matrix.proofs.Characters.{characters}
 use Rattle.every_matrix.proofs.line_of.Goals as goal
 
 pub digit-requires : goal.digit-requires

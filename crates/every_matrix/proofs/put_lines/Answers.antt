@@ -6,7 +6,7 @@ use lib.ListN.{length}
 use Rattle.text.specs.Text.{size}
 use Rattle.text.specs.Lines.{lines_of, putting_start, putting_next, put_as}
 use Rattle.every_matrix.specs.EveryMatrix.{line_of, every_matrix}
-use Rattle.every_matrix.specs.Laws.{line_length}
+use Rattle.every_matrix.proofs.Characters.{line_length}
 use Rattle.every_matrix.proofs.put_lines.Goals as goal
 
 pub loop-k-init : goal.loop-k-init

@@ -1,14 +1,7 @@
 -- fields::contains meets its contract.
-use Prim.Native.Nat.{ℕ, ◌≤◌, ◌-◌}
+use Prim.Native.Nat.{◌≤◌, ◌-◌}
 use Rattle.fields.specs.Named.{contains}
-use Rattle.laws.specs.Folds.{any, any_step, ended}
-use borrow.Author.Rules.{rules}
-use lib.Dec.{eqb}
-use lib.ListN.{get_or}
-use mathlib.Core.Bool.{Bool}
-use mathlib.Core.List.{List}
-use mathlib.Core.Path.{◌≡◌, refl}
-use native.Mathlib.Omega.{arith}
+use mathlib.Core.Path.{◌≡◌}
 use Rattle.fields.proofs.contains.Given as goal
 
 abbrev pub invariant-loop-i : goal.invariant-loop-i

@@ -1,13 +1,10 @@
 -- fields::fill32 meets its contract.
-use Prim.Native.Nat.{ℕ, ◌≤◌, ◌-◌, ◌+◌, ◌*◌}
+use Prim.Native.Nat.{◌≤◌, ◌-◌, ◌+◌, ◌*◌}
 use Rattle.bits.specs.Field.{field_at}
-use Rattle.fields.proofs.Offset.{offset_small}
-use Rattle.laws.specs.Tables.{tab, tab_next, tab-length}
-use borrow.Author.Rules.{rules}
-use lib.ListN.{length, drop, length-set}
-use mathlib.Core.List.{List, ◌++◌}
-use mathlib.Core.Path.{◌≡◌, refl, ap, ◌∙◌}
-use native.Mathlib.Omega.{arith}
+use Rattle.laws.specs.Tables.{tab}
+use lib.ListN.{length, drop}
+use mathlib.Core.List.{◌++◌}
+use mathlib.Core.Path.{◌≡◌}
 use Rattle.fields.proofs.fill32.Given as goal
 
 abbrev pub invariant-loop-i : goal.invariant-loop-i

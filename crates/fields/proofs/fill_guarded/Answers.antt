@@ -1,12 +1,11 @@
 -- fields::fill_guarded meets its contract.
-use Prim.Native.Nat.{ℕ, ◌≤◌, ◌-◌, ◌+◌, ◌*◌}
+use Prim.Native.Nat.{ℕ, ◌-◌, ◌+◌, ◌*◌}
 use Rattle.fields.proofs.Offset.{offset_small}
 use Rattle.fields.specs.Named.{guarded}
 use Rattle.laws.specs.Tables.{tab, tab_next}
-use borrow.Author.Rules.{rules}
-use lib.ListN.{length, drop, length-set}
-use mathlib.Core.List.{List, ◌++◌}
-use mathlib.Core.Path.{◌≡◌, refl, sym, ap, ◌∙◌}
+use lib.ListN.{drop, length-set}
+use mathlib.Core.List.{◌++◌}
+use mathlib.Core.Path.{◌≡◌, refl, ap, ◌∙◌}
 use native.Mathlib.Omega.{arith}
 use Rattle.fields.proofs.fill_guarded.Goals as goal
 

@@ -1,13 +1,10 @@
 -- fields::fill_guarded meets its contract.
-use Prim.Native.Nat.{ℕ, ◌≤◌, ◌-◌, ◌+◌, ◌*◌}
-use Rattle.fields.proofs.Offset.{offset_small}
+use Prim.Native.Nat.{◌≤◌, ◌-◌, ◌+◌, ◌*◌}
 use Rattle.fields.specs.Named.{guarded}
-use Rattle.laws.specs.Tables.{tab, tab_next}
-use borrow.Author.Rules.{rules}
-use lib.ListN.{length, drop, length-set}
-use mathlib.Core.List.{List, ◌++◌}
-use mathlib.Core.Path.{◌≡◌, refl, sym, ap, ◌∙◌}
-use native.Mathlib.Omega.{arith}
+use Rattle.laws.specs.Tables.{tab}
+use lib.ListN.{length, drop}
+use mathlib.Core.List.{◌++◌}
+use mathlib.Core.Path.{◌≡◌}
 use Rattle.fields.proofs.fill_guarded.Given as goal
 
 abbrev pub invariant-loop-i : goal.invariant-loop-i

@@ -1,6 +1,5 @@
 -- fields::is_named meets its contract.
 use Rattle.fields.specs.Named.{named}
-use borrow.Author.Rules.{rules}
 use borrow.Author.Tests.{lt-ltb, le-ltb}
 use Rattle.fields.proofs.is_named.Goals as goal
 

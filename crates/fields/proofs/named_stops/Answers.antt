@@ -1,11 +1,9 @@
 -- fields::named_stops meets its contract.
-use Prim.Native.Nat.{ℕ, ◌≤◌, ◌-◌, ◌+◌, ◌*◌}
-use Rattle.fields.specs.Named.{named}
+use Prim.Native.Nat.{◌-◌}
 use Rattle.laws.specs.Folds.{ended}
 use Rattle.mask.specs.Mask.{built}
 use Rattle.mask.specs.MaskLaws.{built_room, built_next}
-use borrow.Author.Rules.{rules}
-use mathlib.Core.Path.{◌≡◌, refl, sym, ap, ◌∙◌}
+use mathlib.Core.Path.{refl, ◌∙◌}
 use native.Mathlib.Omega.{arith}
 use Rattle.fields.proofs.named_stops.Goals as goal
 

@@ -1,12 +1,8 @@
 -- fields::named_stops meets its contract.
-use Prim.Native.Nat.{ℕ, ◌≤◌, ◌-◌, ◌+◌, ◌*◌}
+use Prim.Native.Nat.{◌≤◌, ◌-◌}
 use Rattle.fields.specs.Named.{named}
-use Rattle.laws.specs.Folds.{ended}
 use Rattle.mask.specs.Mask.{built}
-use Rattle.mask.specs.MaskLaws.{built_room, built_next}
-use borrow.Author.Rules.{rules}
-use mathlib.Core.Path.{◌≡◌, refl, sym, ap, ◌∙◌}
-use native.Mathlib.Omega.{arith}
+use mathlib.Core.Path.{◌≡◌}
 use Rattle.fields.proofs.named_stops.Given as goal
 
 abbrev pub invariant-loop-j : goal.invariant-loop-j

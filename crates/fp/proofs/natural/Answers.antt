@@ -1,5 +1,4 @@
 -- fp::natural meets its contract.
-use Rattle.std.proofs.Common.{rules}
 use Rattle.fp.proofs.natural.Goals as goal
 
 pub returns : goal.returns

@@ -1,6 +1,5 @@
 -- manifest::half_if meets its contract.
 use Rattle.manifest.specs.Stops.{borrowed, borrowed_le}
-use borrow.Author.Rules.{rules}
 use native.Mathlib.Omega.{arith}
 use Rattle.manifest.proofs.half_if.Goals as goal
 

@@ -1,5 +1,4 @@
 -- manifest::lesser_if meets its contract.
-use borrow.Author.Rules.{rules}
 use Rattle.manifest.proofs.lesser_if.Goals as goal
 
 pub returns-then-counts : goal.returns-then-counts

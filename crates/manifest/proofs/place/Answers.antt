@@ -1,6 +1,5 @@
 -- manifest::place meets its contract.
 use Rattle.manifest.specs.Stops.{place_at}
-use borrow.Author.Rules.{rules}
 use borrow.Author.Tests.{lt-ltb, le-ltb}
 use Rattle.manifest.proofs.place.Goals as goal
 

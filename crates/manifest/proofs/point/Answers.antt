@@ -1,6 +1,5 @@
 -- manifest::point meets its contract.
 use Rattle.manifest.specs.Stops.{point_in}
-use borrow.Author.Rules.{rules}
 use mathlib.Core.Path.{refl}
 use Rattle.manifest.proofs.point.Goals as goal
 

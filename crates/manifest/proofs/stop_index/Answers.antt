@@ -1,6 +1,5 @@
 -- manifest::stop_index meets its contract.
-use Rattle.manifest.specs.Stops.{Narrowed, index_at, search_start, search_on, search_none}
-use borrow.Author.Rules.{rules}
+use Rattle.manifest.specs.Stops.{index_at, search_start, search_on, search_none}
 use mathlib.Core.Path.{sym}
 use native.Mathlib.Omega.{arith}
 use Rattle.manifest.proofs.stop_index.Goals as goal

@@ -1,8 +1,5 @@
 -- manifest::stop_index meets its contract.
-use Rattle.manifest.specs.Stops.{Narrowed, index_at, search_start, search_on, search_none}
-use borrow.Author.Rules.{rules}
-use mathlib.Core.Path.{sym}
-use native.Mathlib.Omega.{arith}
+use Rattle.manifest.specs.Stops.{Narrowed}
 use Rattle.manifest.proofs.stop_index.Given as goal
 
 abbrev pub invariant-loop-size : goal.invariant-loop-size

@@ -1,6 +1,5 @@
 -- manifest::stop_position meets its contract.
 use Rattle.manifest.specs.Stops.{position_in}
-use borrow.Author.Rules.{rules}
 use Rattle.manifest.proofs.stop_position.Goals as goal
 
 pub returns : goal.returns

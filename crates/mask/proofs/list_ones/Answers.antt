@@ -4,10 +4,8 @@ use Rattle.laws.specs.Folds.{count-le}
 use Rattle.mask.specs.Mask.{has}
 use Rattle.mask.specs.MaskLaws.{past_some}
 use Rattle.mask.specs.Ones.{Listing, listing_start, listing_take, listing_skip, listing_end}
-use borrow.Author.Rules.{rules}
 use mathlib.Core.List.{List}
-use mathlib.Core.Logic.{⊎_elim}
-use mathlib.Core.Path.{◌≡◌, sym, ◌∙◌}
+use mathlib.Core.Path.{sym, ◌∙◌}
 use native.Mathlib.Omega.{arith}
 use Rattle.mask.proofs.list_ones.Goals as goal
 use Rattle.mask.proofs.list_ones.Goals.{then-has, else-has}
@@ -44,8 +42,8 @@ loop-at-preserved c =
     let mask = c.args.mask in
     let here = past_some c.args.mask c.loop-at.j c.past_stops.ensures c.loop-at-test.true in
     elim c.if-has.branch [
-      then-has w ↦ rw (w.at-is, w.count-is) (listing_take mask l.j l.count l.at l.invariant here (sym c.has.ensures ∙ w.if-has.true))
-    | else-has w ↦ rw (w.at-is, w.count-is) (listing_skip mask l.j l.count l.at l.invariant here (sym c.has.ensures ∙ w.if-has.false))
+      | then-has w ↦ rw (w.at-is, w.count-is) (listing_take mask l.j l.count l.at l.invariant here (sym c.has.ensures ∙ w.if-has.true))
+      | else-has w ↦ rw (w.at-is, w.count-is) (listing_skip mask l.j l.count l.at l.invariant here (sym c.has.ensures ∙ w.if-has.false))
     ]
 
 pub returns : goal.returns

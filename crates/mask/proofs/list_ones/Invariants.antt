@@ -1,14 +1,6 @@
 -- mask::list_ones meets its contract.
-use Prim.Native.Nat.{ℕ, ◌-◌, ◌≤◌}
-use Rattle.laws.specs.Folds.{count-le}
-use Rattle.mask.specs.Mask.{has}
-use Rattle.mask.specs.MaskLaws.{past_some}
-use Rattle.mask.specs.Ones.{Listing, listing_start, listing_take, listing_skip, listing_end}
-use borrow.Author.Rules.{rules}
-use mathlib.Core.List.{List}
-use mathlib.Core.Logic.{⊎_elim}
-use mathlib.Core.Path.{◌≡◌, sym, ◌∙◌}
-use native.Mathlib.Omega.{arith}
+use Prim.Native.Nat.{◌-◌}
+use Rattle.mask.specs.Ones.{Listing}
 use Rattle.mask.proofs.list_ones.Given as goal
 
 abbrev pub invariant-loop-at : goal.invariant-loop-at

@@ -1,5 +1,4 @@
 -- mask::past_stops meets its contract.
-use borrow.Author.Rules.{rules}
 use mathlib.Core.Path.{sym}
 use native.Mathlib.Omega.{arith}
 use Rattle.mask.specs.MaskLaws.{past_shift, past_all}

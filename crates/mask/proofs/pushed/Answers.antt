@@ -1,5 +1,4 @@
 -- mask::pushed meets its contract.
-use borrow.Author.Rules.{rules}
 use native.Mathlib.Omega.{arith}
 use Rattle.mask.proofs.pushed.Goals as goal
 

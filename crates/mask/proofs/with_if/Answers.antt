@@ -1,7 +1,5 @@
 -- mask::with_if meets its contract.
 use Rattle.mask.specs.UpTo.{with_here, with_none}
-use borrow.Author.Rules.{rules}
-use mathlib.Core.Path.{◌≡◌}
 use Rattle.mask.proofs.with_if.Goals as goal
 
 pub returns-then-b : goal.returns-then-b

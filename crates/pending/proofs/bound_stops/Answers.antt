@@ -1,6 +1,5 @@
 -- pending::bound_stops meets its contract.
 use Rattle.pending.specs.Same.{idle_column}
-use borrow.Author.Rules.{rules}
 use native.Mathlib.Omega.{arith}
 use Rattle.pending.proofs.bound_stops.Goals as goal
 

@@ -1,17 +1,13 @@
 -- pending::demand_masks meets its contract.
-use Prim.Native.Nat.{ℕ, ◌+◌, ◌*◌, ◌≤◌, ◌-◌}
-use mathlib.Core.Bool.{Bool, ◌&&◌}
-use mathlib.Core.Path.{◌≡◌, refl, ap, ◌∙◌}
+use Prim.Native.Nat.{ℕ, ◌+◌, ◌*◌, ◌-◌}
+use mathlib.Core.Path.{refl, ap, ◌∙◌}
 use native.Mathlib.Omega.{arith}
-use lib.Dec.{eqb, ltb}
-use borrow.Author.Rules.{rules}
+use lib.Dec.{ltb}
 use Rattle.components.specs.declared.Kind.TheVariants.{Demand}
-use Rattle.components.specs.Sheet.{Sheet}
 use Rattle.laws.specs.Folds.{any, ended}
 use Rattle.layout.specs.Offsets.{record_length}
 use Rattle.layout.specs.Records.{demand_of, from, sheet_of}
 use Rattle.manifest.specs.Manifest.{riderless_call, ridden_to}
-use Rattle.manifest.specs.World.{stop_id}
 use Rattle.covered.specs.Walk.{walk_start}
 use Rattle.pending.specs.Masks.{stop_mask, names_rise, with_call, with_riding}
 use Rattle.pending.specs.Same.{named_next}

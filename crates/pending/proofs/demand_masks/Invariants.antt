@@ -1,20 +1,13 @@
 -- pending::demand_masks meets its contract.
-use Prim.Native.Nat.{ℕ, ◌+◌, ◌*◌, ◌≤◌, ◌-◌}
+use Prim.Native.Nat.{ℕ, ◌≤◌, ◌-◌}
 use mathlib.Core.Bool.{Bool, ◌&&◌}
-use mathlib.Core.Path.{◌≡◌, refl, ap, ◌∙◌}
-use native.Mathlib.Omega.{arith}
+use mathlib.Core.Path.{◌≡◌}
 use lib.Dec.{eqb, ltb}
-use borrow.Author.Rules.{rules}
-use Rattle.components.specs.declared.Kind.TheVariants.{Demand}
 use Rattle.components.specs.Sheet.{Sheet}
-use Rattle.laws.specs.Folds.{any, ended}
-use Rattle.layout.specs.Offsets.{record_length}
-use Rattle.layout.specs.Records.{demand_of, from, sheet_of}
-use Rattle.manifest.specs.Manifest.{riderless_call, ridden_to}
+use Rattle.laws.specs.Folds.{any}
+use Rattle.layout.specs.Records.{sheet_of}
 use Rattle.manifest.specs.World.{stop_id}
-use Rattle.covered.specs.Walk.{walk_start}
-use Rattle.pending.specs.Masks.{stop_mask, names_rise, with_call, with_riding}
-use Rattle.pending.specs.Same.{named_next}
+use Rattle.pending.specs.Masks.{stop_mask}
 use Rattle.pending.proofs.demand_masks.Given as goal
 
 -- demand record d names stop j: its call has no rider, or someone rides to it

@@ -3,7 +3,6 @@ use Prim.Native.Nat.{ℕ}
 use Rattle.layout.specs.Records.{sheet_of}
 use Rattle.mask.specs.Mask.{has, built}
 use Rattle.pending.specs.Same.{demand_mask}
-use borrow.Author.Rules.{rules}
 use mathlib.Core.Bool.{◌&&◌, ◌||◌}
 use mathlib.Core.Path.{ap, ◌∙◌}
 use Rattle.pending.proofs.demand_stops.Goals as goal

@@ -1,16 +1,14 @@
 -- pending::line_stops meets its contract.
-use Prim.Native.Nat.{ℕ, ◌≤◌, ◌-◌}
+use Prim.Native.Nat.{ℕ, ◌-◌}
 use Rattle.components.specs.declared.Line.{Line}
-use Rattle.laws.specs.Folds.{any, ended}
+use Rattle.laws.specs.Folds.{ended}
 use Rattle.layout.specs.Records.{sheet_of}
 use Rattle.mask.specs.Mask.{has, built}
-use Rattle.mask.specs.MaskLaws.{built_of, built_cong, built_lt}
 use Rattle.pending.specs.Masks.{line_stop}
 use Rattle.pending.specs.Same.{line_next, cond_has, nothing}
-use borrow.Author.Rules.{rules}
 use lib.Dec.{eqb}
-use mathlib.Core.Bool.{Bool, cond, ◌&&◌, ◌||◌}
-use mathlib.Core.Path.{◌≡◌, refl, sym, ap, ◌∙◌}
+use mathlib.Core.Bool.{cond, ◌||◌}
+use mathlib.Core.Path.{ap, ◌∙◌}
 use native.Mathlib.Omega.{arith}
 use Rattle.pending.proofs.line_stops.Goals as goal
 

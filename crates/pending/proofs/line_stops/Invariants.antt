@@ -1,17 +1,9 @@
 -- pending::line_stops meets its contract.
-use Prim.Native.Nat.{ℕ, ◌≤◌, ◌-◌}
-use Rattle.components.specs.declared.Line.{Line}
-use Rattle.laws.specs.Folds.{any, ended}
+use Prim.Native.Nat.{◌≤◌, ◌-◌}
 use Rattle.layout.specs.Records.{sheet_of}
-use Rattle.mask.specs.Mask.{has, built}
-use Rattle.mask.specs.MaskLaws.{built_of, built_cong, built_lt}
+use Rattle.mask.specs.Mask.{built}
 use Rattle.pending.specs.Masks.{line_stop}
-use Rattle.pending.specs.Same.{line_next, cond_has, nothing}
-use borrow.Author.Rules.{rules}
-use lib.Dec.{eqb}
-use mathlib.Core.Bool.{Bool, cond, ◌&&◌, ◌||◌}
-use mathlib.Core.Path.{◌≡◌, refl, sym, ap, ◌∙◌}
-use native.Mathlib.Omega.{arith}
+use mathlib.Core.Path.{◌≡◌}
 use Rattle.pending.proofs.line_stops.Given as goal
 
 abbrev pub invariant-loop-l : goal.invariant-loop-l

@@ -3,7 +3,6 @@ use Prim.Native.Nat.{ℕ}
 use Rattle.layout.specs.Records.{sheet_of}
 use Rattle.mask.specs.Mask.{has, built}
 use Rattle.pending.specs.Same.{pending_mask, none_covered, kept_ids}
-use borrow.Author.Rules.{rules}
 use mathlib.Core.Bool.{◌&&◌, not}
 use mathlib.Core.Path.{◌≡◌, ap, ◌∙◌}
 use Rattle.pending.proofs.pending_stops.Goals as goal

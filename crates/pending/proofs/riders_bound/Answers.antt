@@ -1,13 +1,11 @@
 -- pending::riders_bound meets its contract.
-use Prim.Native.Nat.{ℕ, ◌+◌, ◌*◌, ◌≤◌, ◌-◌}
+use Prim.Native.Nat.{ℕ, ◌+◌, ◌*◌, ◌-◌}
 use mathlib.Core.Bool.{Bool, ◌&&◌}
-use mathlib.Core.Path.{◌≡◌, sym, ap, ◌∙◌}
+use mathlib.Core.Path.{sym, ap, ◌∙◌}
 use native.Mathlib.Omega.{arith}
 use lib.Dec.{eqb}
-use borrow.Author.Rules.{rules}
 use Rattle.assignment.specs.Pending.{idle, idle_bound}
 use Rattle.components.specs.declared.Kind.TheVariants.{Aboard}
-use Rattle.components.specs.Sheet.{Sheet}
 use Rattle.fields.specs.Named.{contains}
 use Rattle.laws.specs.Folds.{any, ended}
 use Rattle.layout.specs.Offsets.{record_length}

@@ -1,21 +1,14 @@
 -- pending::riders_bound meets its contract.
-use Prim.Native.Nat.{ℕ, ◌+◌, ◌*◌, ◌≤◌, ◌-◌}
+use Prim.Native.Nat.{ℕ, ◌≤◌, ◌-◌}
 use mathlib.Core.Bool.{Bool, ◌&&◌}
-use mathlib.Core.Path.{◌≡◌, sym, ap, ◌∙◌}
-use native.Mathlib.Omega.{arith}
+use mathlib.Core.Path.{◌≡◌}
 use lib.Dec.{eqb}
-use borrow.Author.Rules.{rules}
-use Rattle.assignment.specs.Pending.{idle, idle_bound}
-use Rattle.components.specs.declared.Kind.TheVariants.{Aboard}
+use Rattle.assignment.specs.Pending.{idle}
 use Rattle.components.specs.Sheet.{Sheet}
-use Rattle.fields.specs.Named.{contains}
-use Rattle.laws.specs.Folds.{any, ended}
-use Rattle.layout.specs.Offsets.{record_length}
-use Rattle.layout.specs.Records.{aboard_of, from, sheet_of}
+use Rattle.laws.specs.Folds.{any}
+use Rattle.layout.specs.Records.{sheet_of}
 use Rattle.manifest.specs.World.{stop_id}
-use Rattle.covered.specs.Walk.{walk_start}
-use Rattle.pending.specs.Masks.{stop_mask, names_rise, with_bound}
-use Rattle.pending.specs.Same.{named_next}
+use Rattle.pending.specs.Masks.{stop_mask}
 use Rattle.pending.proofs.riders_bound.Given as goal
 
 -- rider a of an idle car is bound for stop j

@@ -1,5 +1,4 @@
 -- pending::stop_masks meets its contract.
-use borrow.Author.Rules.{rules}
 use mathlib.Core.Path.{refl}
 use Rattle.pending.proofs.stop_masks.Goals as goal
 

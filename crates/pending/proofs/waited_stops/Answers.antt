@@ -1,9 +1,8 @@
 -- pending::waited_stops meets its contract.
-use Prim.Native.Nat.{ℕ, ◌+◌, ◌*◌, ◌≤◌, ◌-◌}
+use Prim.Native.Nat.{ℕ, ◌+◌, ◌*◌, ◌-◌}
 use mathlib.Core.Bool.{true, and-true}
 use mathlib.Core.Path.{◌≡◌, sym, ap, ◌∙◌}
 use native.Mathlib.Omega.{arith}
-use borrow.Author.Rules.{rules}
 use Rattle.components.specs.declared.Kind.TheVariants.{Waiting}
 use Rattle.laws.specs.Folds.{any, ended}
 use Rattle.layout.specs.Offsets.{record_length}

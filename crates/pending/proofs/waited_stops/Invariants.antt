@@ -1,18 +1,10 @@
 -- pending::waited_stops meets its contract.
-use Prim.Native.Nat.{ℕ, ◌+◌, ◌*◌, ◌≤◌, ◌-◌}
-use mathlib.Core.Bool.{true, and-true}
-use mathlib.Core.Path.{◌≡◌, sym, ap, ◌∙◌}
-use native.Mathlib.Omega.{arith}
-use borrow.Author.Rules.{rules}
-use Rattle.components.specs.declared.Kind.TheVariants.{Waiting}
-use Rattle.laws.specs.Folds.{any, ended}
-use Rattle.layout.specs.Offsets.{record_length}
-use Rattle.layout.specs.Records.{waiting_of, from, read, sheet_of}
-use Rattle.layout.specs.Table.{waiting_stop_field}
-use Rattle.manifest.specs.Manifest.{waits_at, someone_waits}
-use Rattle.covered.specs.Walk.{with_named, walk_start}
-use Rattle.pending.specs.Masks.{stop_mask, names_rise}
-use Rattle.pending.specs.Same.{named_next}
+use Prim.Native.Nat.{◌≤◌, ◌-◌}
+use mathlib.Core.Path.{◌≡◌}
+use Rattle.laws.specs.Folds.{any}
+use Rattle.layout.specs.Records.{sheet_of}
+use Rattle.manifest.specs.Manifest.{waits_at}
+use Rattle.pending.specs.Masks.{stop_mask}
 use Rattle.pending.proofs.waited_stops.Given as goal
 
 abbrev pub invariant-loop-w : goal.invariant-loop-w

@@ -1,7 +1,6 @@
 -- pending::with_bound meets its contract.
 use Prim.Native.Nat.{ℕ}
 use mathlib.Core.Path.{sym, ap, ◌∙◌}
-use borrow.Author.Rules.{rules}
 use Rattle.fields.specs.Named.{contains}
 use Rattle.layout.specs.Records.{aboard_of}
 use Rattle.covered.specs.Walk.{with_named}

@@ -3,7 +3,6 @@ use Prim.Native.Nat.{ℕ}
 use mathlib.Core.Bool.{Bool, cond}
 use mathlib.Core.Path.{◌≡◌, refl, ap, ◌∙◌}
 use lib.Dec.{ltb}
-use borrow.Author.Rules.{rules}
 use Rattle.laws.specs.Bools.{neither_left, neither_right}
 use Rattle.layout.specs.Records.{demand_of, from}
 use Rattle.manifest.specs.Stops.{stop_index}

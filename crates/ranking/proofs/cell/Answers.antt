@@ -1,7 +1,6 @@
 -- ranking::cell meets its contract.
 use Rattle.assignment.specs.Cells.{rank_cell, rank_held}
 use Rattle.ranking.specs.Ranking.{cell_by, held_by}
-use borrow.Author.Rules.{rules}
 use native.Mathlib.Omega.{arith}
 use mathlib.Core.Bool.{true, false}
 use mathlib.Core.Path.{◌≡◌, sym, ap, ◌∙◌}

@@ -3,7 +3,6 @@ use Prim.Native.Nat.{ℕ}
 use Rattle.etd.specs.Pairs.{rank_by as etdBy}
 use Rattle.ranking.specs.Ranking.{rank_by}
 use Rattle.ranking.specs.RankingLaws.{by_etd, by_rsr, by_scan}
-use borrow.Author.Rules.{rules}
 use mathlib.Core.Path.{ap, ◌∙◌}
 use Rattle.ranking.proofs.rank.Goals as goal
 

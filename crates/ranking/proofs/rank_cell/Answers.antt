@@ -1,5 +1,4 @@
 -- ranking::rank_cell meets its contract.
-use borrow.Author.Rules.{rules}
 use Rattle.ranking.proofs.rank_cell.Goals as goal
 
 pub returns-in-Cost : goal.returns-in-Cost

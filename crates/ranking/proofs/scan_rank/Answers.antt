@@ -1,6 +1,5 @@
 -- ranking::scan_rank meets its contract.
 use Rattle.ranking.specs.Ranking.{scan_by}
-use borrow.Author.Rules.{rules}
 use mathlib.Core.Path.{refl}
 use Rattle.ranking.proofs.scan_rank.Goals as goal
 

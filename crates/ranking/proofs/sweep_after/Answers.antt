@@ -1,6 +1,5 @@
 -- ranking::sweep_after meets its contract.
 use Rattle.ranking.specs.Ranking.{sweep_from}
-use borrow.Author.Rules.{rules}
 use lib.Dec.{eqb}
 use mathlib.Core.Bool.{true, false, not, ◌&&◌}
 use mathlib.Core.Path.{◌≡◌, refl}

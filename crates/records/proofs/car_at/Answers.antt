@@ -2,8 +2,6 @@
 use Rattle.components.specs.Codes.{phase_of, direction_of, mode_of}
 use Rattle.layout.specs.Table.{past, car_speed_field, car_capacity_field, car_load_field}
 use Rattle.layout.specs.Records.{from, double, car_of}
-use borrow.Author.Rules.{rules}
-use native.Mathlib.Omega.{arith}
 use mathlib.Core.Path.{◌≡◌, ap, ap₂, ◌∙◌}
 use Rattle.records.proofs.car_at.Goals as goal
 

@@ -1,5 +1,4 @@
 -- records::double_at meets its contract.
-use borrow.Author.Rules.{rules}
 use Rattle.records.proofs.double_at.Goals as goal
 
 pub returns : goal.returns

@@ -1,6 +1,5 @@
 -- records::line_at meets its contract.
 use Rattle.layout.specs.Records.{line_of}
-use borrow.Author.Rules.{rules}
 use Rattle.records.proofs.line_at.Goals as goal
 
 pub returns : goal.returns

@@ -1,5 +1,4 @@
 -- records::point_at meets its contract.
-use borrow.Author.Rules.{rules}
 use Rattle.records.proofs.point_at.Goals as goal
 
 pub returns : goal.returns

@@ -1,7 +1,6 @@
 -- records::policy_at meets its contract.
 use Rattle.components.specs.Codes.{strategy_of, traffic_of}
 use Rattle.layout.specs.Records.{policy_of}
-use borrow.Author.Rules.{rules}
 use mathlib.Core.Path.{ap, ◌∙◌}
 use Rattle.records.proofs.policy_at.Goals as goal
 

@@ -1,5 +1,4 @@
 -- records::threshold_at meets its contract.
-use borrow.Author.Rules.{rules}
 use Rattle.records.proofs.threshold_at.Goals as goal
 
 pub returns-then-flag : goal.returns-then-flag

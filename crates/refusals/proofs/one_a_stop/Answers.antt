@@ -1,5 +1,4 @@
 -- refusals::one_a_stop meets its contract.
-use borrow.Author.Rules.{rules}
 use Rattle.refusals.proofs.one_a_stop.Goals as goal
 
 pub returns : goal.returns

@@ -8,7 +8,6 @@ use Rattle.layout.specs.Refusals.{last_stop, refusal9_stop, refusal11_stop}
 use Rattle.layout.specs.Verdict.{pick, first_of, body_refusal}
 use Rattle.layout.specs.declared.Counts.{Counts}
 use Rattle.components.specs.declared.Kind.TheVariants as Kind
-use borrow.Author.Rules.{rules}
 use lib.Dec.{eqb, leb}
 use mathlib.Core.Bool.{Bool, not, ◌||◌}
 use mathlib.Core.List.{List}

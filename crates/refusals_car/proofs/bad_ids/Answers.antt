@@ -1,7 +1,6 @@
 -- refusals_car::bad_ids meets its contract.
 use Rattle.conditions.specs.Ids.{contains_seen}
 use Rattle.layout.specs.Refusals.{refusal9_car}
-use borrow.Author.Rules.{rules}
 use mathlib.Core.Path.{◌∙◌}
 use Rattle.refusals_car.proofs.bad_ids.Goals as goal
 

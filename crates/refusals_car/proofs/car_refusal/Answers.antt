@@ -9,7 +9,6 @@ use Rattle.layout.specs.declared.Counts.{Counts}
 use Rattle.components.specs.declared.Kind.TheVariants as Kind
 use Rattle.components.specs.declared.Phase.{Phase}
 use Rattle.components.specs.Codes.{phase_of}
-use borrow.Author.Rules.{rules}
 use mathlib.Core.Bool.{Bool}
 use mathlib.Core.List.{List}
 use mathlib.Core.Path.{◌≡◌}

@@ -4,7 +4,6 @@ use Rattle.layout.specs.Table.{past, car_transition_field, car_dwell_field}
 use Rattle.layout.specs.declared.Counts.{Counts}
 use Rattle.layout.specs.Records.{from, read}
 use Rattle.layout.specs.Refusals.{refusal13}
-use borrow.Author.Rules.{rules}
 use lib.Dec.{ltb}
 use mathlib.Core.List.{List}
 use mathlib.Core.Path.{◌≡◌}

@@ -1,6 +1,5 @@
 -- refusals_car::out_of_range meets its contract.
 use Rattle.layout.specs.Refusals.{refusal11_car}
-use borrow.Author.Rules.{rules}
 use Rattle.refusals_car.proofs.out_of_range.Goals as goal
 
 pub returns : goal.returns

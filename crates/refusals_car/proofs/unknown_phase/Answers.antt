@@ -1,5 +1,4 @@
 -- refusals_car::unknown_phase meets its contract.
-use borrow.Author.Rules.{rules}
 use mathlib.Core.Path.{refl}
 use Rattle.refusals_car.proofs.unknown_phase.Goals as goal
 

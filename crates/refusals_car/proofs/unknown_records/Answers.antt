@@ -5,7 +5,6 @@ use Rattle.layout.specs.Records.{from, read}
 use Rattle.layout.specs.Refusals.{has_line, refusal10_car}
 use Rattle.layout.specs.declared.Counts.{Counts}
 use Rattle.mask.specs.Mask.{past_stops}
-use borrow.Author.Rules.{rules}
 use mathlib.Core.Bool.{Bool, not, ◌||◌}
 use mathlib.Core.List.{List}
 use mathlib.Core.Path.{◌≡◌}

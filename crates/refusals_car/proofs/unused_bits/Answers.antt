@@ -1,6 +1,5 @@
 -- refusals_car::unused_bits meets its contract.
 use Rattle.layout.specs.Refusals.{refusal8_car}
-use borrow.Author.Rules.{rules}
 use Rattle.refusals_car.proofs.unused_bits.Goals as goal
 
 pub returns : goal.returns

@@ -1,5 +1,4 @@
 -- refusals_policy::any_weight meets its contract.
-use borrow.Author.Rules.{rules}
 use Rattle.refusals_policy.proofs.any_weight.Goals as goal
 
 pub returns : goal.returns

@@ -1,6 +1,5 @@
 -- refusals_policy::out_of_range meets its contract.
 use Rattle.layout.specs.Refusals.{refusal11_policy}
-use borrow.Author.Rules.{rules}
 use Rattle.refusals_policy.proofs.out_of_range.Goals as goal
 
 pub returns : goal.returns

@@ -1,14 +1,12 @@
 -- refusals_policy::policy_refusal meets its contract.
 use Rattle.layout.specs.Table.{policy_limit_field}
-use Prim.Native.Nat.{ℕ, ◌+◌}
-use Rattle.bits.specs.Field.{field_at}
+use Prim.Native.Nat.{ℕ}
 use Rattle.layout.specs.Offsets.{end_of}
 use Rattle.layout.specs.Records.{from, read}
 use Rattle.layout.specs.Refusals.{refusal8_policy, refusal11_policy, refusal12}
 use Rattle.layout.specs.Verdict.{pick, first_of, body_refusal}
 use Rattle.layout.specs.declared.Counts.{Counts}
 use Rattle.components.specs.declared.Kind.TheVariants as Kind
-use borrow.Author.Rules.{rules}
 use lib.Dec.{eqb}
 use mathlib.Core.Bool.{Bool}
 use mathlib.Core.List.{List}

@@ -1,7 +1,6 @@
 -- refusals_policy::unused_weights meets its contract.
 use Rattle.components.specs.Codes.{strategy_of}
 use Rattle.layout.specs.Refusals.{refusal8_policy}
-use borrow.Author.Rules.{rules}
 use mathlib.Core.Path.{sym, ap, ◌∙◌}
 use Rattle.refusals_policy.proofs.unused_weights.Goals as goal
 

@@ -1,5 +1,6 @@
 -- replay_pairs::added_at meets its contract.
-use Rattle.replay_pairs.specs.Added.{at_zero, added_is}
+use Rattle.replay_pairs.specs.Added.{at_zero}
+use Rattle.replay_pairs.proofs.AddedLaws.{added_is}
 use borrow.Author.Rules.{rules}
 use Rattle.replay_pairs.proofs.added_at.Statement.{statement}
 use Rattle.replay_pairs.proofs.added_at.Tie as tie

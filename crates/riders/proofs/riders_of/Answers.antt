@@ -1,8 +1,6 @@
 -- riders::riders_of meets its contract.
-use Prim.Native.Nat.{◌≤◌, ◌-◌}
-use Rattle.riders.specs.Riders.{Seats, seats_start, seats_le, seats_length, seats_rides, seats_other, seats_end}
-use borrow.Author.Rules.{rules}
-use mathlib.Core.Logic.{⊎_elim}
+use Prim.Native.Nat.{◌-◌}
+use Rattle.riders.specs.Riders.{seats_start, seats_le, seats_length, seats_rides, seats_other, seats_end}
 use native.Mathlib.Omega.{arith}
 use Rattle.riders.proofs.riders_of.Goals as goal
 use Rattle.riders.proofs.riders_of.Goals.{then-acar-a, else-acar-a}
@@ -44,10 +42,10 @@ loop-a-preserved c =
     let t = c.loop-a-test.true in (
       omega (arith, t),
       elim c.if-acar-a.branch [
-        then-acar-a w ↦
+        | then-acar-a w ↦
             rw (w.dests-is, w.sides-is, w.riders-is)
             (seats_rides _ _ _ _ _ _ _ l.invariant.1 (omega (arith, p.6, t)) (omega (arith, p.7, t)) w.if-acar-a.true w.seat-riders.ensures)
-      | else-acar-a w ↦
+        | else-acar-a w ↦
             rw (w.dests-is, w.sides-is, w.riders-is)
             (seats_other _ _ _ _ _ _ _ l.invariant.1 (omega (arith, p.6, t)) (omega (arith, p.7, t)) w.if-acar-a.false)
       ],

@@ -1,9 +1,6 @@
 -- riders::riders_of meets its contract.
 use Prim.Native.Nat.{◌≤◌, ◌-◌}
-use Rattle.riders.specs.Riders.{Seats, seats_start, seats_le, seats_length, seats_rides, seats_other, seats_end}
-use borrow.Author.Rules.{rules}
-use mathlib.Core.Logic.{⊎_elim}
-use native.Mathlib.Omega.{arith}
+use Rattle.riders.specs.Riders.{Seats}
 use Rattle.riders.proofs.riders_of.Given as goal
 
 abbrev pub invariant-loop-a : goal.invariant-loop-a

@@ -1,7 +1,6 @@
 -- riders::seat meets its contract.
 use Rattle.manifest.specs.Stops.{side_of}
 use Rattle.riders.specs.Riders.{seated}
-use borrow.Author.Rules.{rules}
 use borrow.Author.Tests.{lt-ltb, le-ltb}
 use mathlib.Core.Path.{refl}
 use native.Mathlib.Nat.{add-zero}

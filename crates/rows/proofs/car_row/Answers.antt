@@ -1,8 +1,7 @@
 -- rows::car_row meets its contract.
 use Rattle.rows.specs.Gathered.{waiters_at}
 use Rattle.rows.specs.RowLaws.{row_cell, whole_row}
-use borrow.Author.Rules.{rules}
-use mathlib.Core.Path.{◌≡◌, ◌∙◌}
+use mathlib.Core.Path.{◌∙◌}
 use native.Mathlib.Omega.{arith}
 use Rattle.rows.proofs.car_row.Goals as goal
 

@@ -3,12 +3,10 @@ use Prim.Native.Nat.{ℕ}
 use Rattle.components.specs.declared.Policy.{Policy}
 use Rattle.components.specs.declared.Strategy.{Strategy}
 use Rattle.layout.specs.Records.{sheet_of}
-use Rattle.rows.specs.MatrixLaws.{CarNeeds, FilledCar, dests_for, row_for, kept_size, ready_few, ready_below}
+use Rattle.rows.specs.MatrixLaws.{dests_for, row_for, kept_size, ready_few, ready_below}
 use Rattle.rows.specs.Gathered.{waiters_at}
 use Rattle.rows.specs.RowLaws.{halts_for, halts_held}
-use borrow.Author.Rules.{rules}
-use lib.Ieee.{Float}
-use lib.ListN.{length, replicate, length-replicate}
+use lib.ListN.{replicate, length-replicate}
 use mathlib.Core.Path.{◌≡◌, refl, sym, ap, ◌∙◌}
 use Rattle.ranking.specs.declared.Row.{Row}
 use native.Mathlib.Omega.{arith}

@@ -1,7 +1,6 @@
 -- rows::fill_halts meets its contract.
 use Rattle.rows.specs.RowLaws.{halts_for}
-use borrow.Author.Rules.{rules}
-use mathlib.Core.Path.{◌≡◌, refl}
+use mathlib.Core.Path.{refl}
 use Rattle.rows.proofs.fill_halts.Goals as goal
 
 pub fill_halts-requires : goal.fill_halts-requires

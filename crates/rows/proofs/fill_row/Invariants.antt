@@ -1,15 +1,12 @@
 -- rows::fill_row meets its contract.
-use Prim.Native.Nat.{ℕ, ◌≤◌, ◌+◌, ◌-◌}
-use Rattle.laws.specs.Tables.{tab, tab_next}
-use Rattle.laws.specs.Bools.{bit-lt}
-use Rattle.laws.specs.Folds.{count, count-le, count_step}
+use Prim.Native.Nat.{◌≤◌, ◌+◌, ◌-◌}
+use Rattle.laws.specs.Tables.{tab}
+use Rattle.laws.specs.Folds.{count}
 use Rattle.rows.specs.Gathered.{waiters_at}
 use Rattle.rows.specs.RowLaws.{row_cell, row_held}
-use borrow.Author.Rules.{rules}
-use lib.ListN.{length, drop, length-set}
-use mathlib.Core.List.{List, ◌++◌}
-use mathlib.Core.Path.{◌≡◌, refl, ap, ◌∙◌}
-use native.Mathlib.Omega.{arith}
+use lib.ListN.{length, drop}
+use mathlib.Core.List.{◌++◌}
+use mathlib.Core.Path.{◌≡◌}
 use Rattle.rows.proofs.fill_row.Given as goal
 
 abbrev pub invariant-loop-k : goal.invariant-loop-k

@@ -1,19 +1,12 @@
 -- rows::fill_rows meets its contract.
-use Prim.Native.Nat.{ℕ, ◌≤◌, ◌<◌, ◌-◌, ◌+◌, ◌%◌}
-use Rattle.cars.specs.Cars.{HoldsFour, held_at, held_next, four_size, no_car}
-use Rattle.components.specs.declared.Policy.{Policy}
-use Rattle.components.specs.declared.Strategy.TheVariants.{Etd}
-use Rattle.etd.specs.Halts.{HoldsCounts}
+use Prim.Native.Nat.{ℕ, ◌≤◌, ◌<◌, ◌-◌, ◌+◌}
+use Rattle.cars.specs.Cars.{held_at, held_next, four_size}
 use Rattle.layout.specs.Records.{sheet_of}
-use Rattle.assignment.specs.Pending.{row_car}
-use Rattle.rows.specs.MatrixLaws.{RowsNeed, CarNeeds, FilledCar, Rows, FilledRows, Filling, filling_start, filling_next, filled_at, kept_few, held_few, part_length}
+use Rattle.rows.specs.MatrixLaws.{filling_start, filling_next, filled_at, kept_few, held_few, part_length}
 use Rattle.rows.specs.Gathered.{waiters_at}
 use Rattle.rows.specs.RowLaws.{table_held}
-use borrow.Author.Rules.{rules}
-use lib.ListN.{length, get_or, take, drop, replicate, length-replicate}
-use mathlib.Core.List.{List, ◌++◌}
-use mathlib.Core.Logic.{◌≢◌}
-use mathlib.Core.Path.{◌≡◌, refl, sym, ap, ◌∙◌}
+use lib.ListN.{length, get_or, replicate, length-replicate}
+use mathlib.Core.Path.{◌≡◌, refl, sym}
 use native.Mathlib.Omega.{arith}
 use Rattle.rows.proofs.fill_rows.Goals as goal
 

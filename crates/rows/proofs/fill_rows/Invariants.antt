@@ -1,20 +1,11 @@
 -- rows::fill_rows meets its contract.
-use Prim.Native.Nat.{ℕ, ◌≤◌, ◌<◌, ◌-◌, ◌+◌, ◌%◌}
-use Rattle.cars.specs.Cars.{HoldsFour, held_at, held_next, four_size, no_car}
-use Rattle.components.specs.declared.Policy.{Policy}
-use Rattle.components.specs.declared.Strategy.TheVariants.{Etd}
-use Rattle.etd.specs.Halts.{HoldsCounts}
+use Prim.Native.Nat.{◌≤◌, ◌-◌, ◌%◌}
+use Rattle.cars.specs.Cars.{HoldsFour}
 use Rattle.layout.specs.Records.{sheet_of}
-use Rattle.assignment.specs.Pending.{row_car}
-use Rattle.rows.specs.MatrixLaws.{RowsNeed, CarNeeds, FilledCar, Rows, FilledRows, Filling, filling_start, filling_next, filled_at, kept_few, held_few, part_length}
-use Rattle.rows.specs.Gathered.{waiters_at}
-use Rattle.rows.specs.RowLaws.{table_held}
-use borrow.Author.Rules.{rules}
-use lib.ListN.{length, get_or, take, drop, replicate, length-replicate}
-use mathlib.Core.List.{List, ◌++◌}
+use Rattle.rows.specs.MatrixLaws.{Filling}
+use lib.ListN.{length}
 use mathlib.Core.Logic.{◌≢◌}
-use mathlib.Core.Path.{◌≡◌, refl, sym, ap, ◌∙◌}
-use native.Mathlib.Omega.{arith}
+use mathlib.Core.Path.{◌≡◌}
 use Rattle.rows.proofs.fill_rows.Given as goal
 
 abbrev pub invariant-loop-r : goal.invariant-loop-r

@@ -1,9 +1,7 @@
 -- rows::fill_spare meets its contract.
-use Prim.Native.Nat.{ℕ, ◌-◌}
-use Rattle.rows.specs.RowLaws.{Sparing, sparing_next}
-use borrow.Author.Rules.{rules}
-use lib.ListN.{length}
-use mathlib.Core.Path.{◌≡◌, refl}
+use Prim.Native.Nat.{◌-◌}
+use Rattle.rows.specs.RowLaws.{sparing_next}
+use mathlib.Core.Path.{refl}
 use native.Mathlib.Omega.{arith}
 use Rattle.rows.proofs.fill_spare.Goals as goal
 

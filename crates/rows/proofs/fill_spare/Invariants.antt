@@ -1,10 +1,7 @@
 -- rows::fill_spare meets its contract.
-use Prim.Native.Nat.{ℕ, ◌-◌}
-use Rattle.rows.specs.RowLaws.{Sparing, sparing_next}
-use borrow.Author.Rules.{rules}
+use Prim.Native.Nat.{◌-◌}
+use Rattle.rows.specs.RowLaws.{Sparing}
 use lib.ListN.{length}
-use mathlib.Core.Path.{◌≡◌, refl}
-use native.Mathlib.Omega.{arith}
 use Rattle.rows.proofs.fill_spare.Given as goal
 
 abbrev pub invariant-loop-k : goal.invariant-loop-k

@@ -1,7 +1,6 @@
 -- rows::fill_table meets its contract.
 use Rattle.rows.specs.RowLaws.{table_for}
-use borrow.Author.Rules.{rules}
-use mathlib.Core.Path.{◌≡◌, refl}
+use mathlib.Core.Path.{refl}
 use Rattle.rows.proofs.fill_table.Goals as goal
 
 pub returns-in-Etd : goal.returns-in-Etd

@@ -4,8 +4,7 @@ use Rattle.candidates.specs.Cut.{cut}
 use Rattle.layout.specs.Records.{sheet_of}
 use Rattle.mask.specs.Mask.{built}
 use Rattle.rows.specs.KeptLaws.{kept_mask}
-use borrow.Author.Rules.{rules}
-use mathlib.Core.Path.{◌≡◌, refl, ap, ◌∙◌}
+use mathlib.Core.Path.{refl, ap, ◌∙◌}
 use Rattle.laws.specs.Tables.{tab}
 use Rattle.components.specs.Points.{distance}
 use Rattle.manifest.specs.Stops.{point_in}

@@ -8,7 +8,6 @@ use Rattle.riders.specs.Riders.{riders_in, seats_length}
 use Rattle.manifest.specs.Stops.{point_is}
 use Rattle.sweep.specs.declared.Sweep.{Sweep}
 use mathlib.Core.Path.{◌≡◌, ap, ◌∙◌}
-use borrow.Author.Rules.{rules}
 use native.Mathlib.Omega.{arith}
 use Rattle.rows.proofs.row_for.Goals as goal
 

@@ -1,8 +1,6 @@
 -- rows::waiters_at meets its contract.
 use Rattle.rows.specs.Gathered.{waiters_at}
-use borrow.Author.Rules.{rules}
-use mathlib.Core.Path.{◌≡◌, refl}
-use native.Mathlib.Omega.{arith}
+use mathlib.Core.Path.{refl}
 use Rattle.rows.proofs.waiters_at.Goals as goal
 
 pub returns : goal.returns

@@ -1,6 +1,5 @@
 -- rsr::cost_terms meets its contract.
 use Rattle.rsr.specs.Rsr.{terms_by_lem}
-use borrow.Author.Rules.{rules}
 use Rattle.rsr.proofs.cost_terms.Goals as goal
 
 pub returns : goal.returns

@@ -1,5 +1,4 @@
 -- rsr::peak_scaling meets its contract.
-use borrow.Author.Rules.{rules}
 use mathlib.Core.Path.{refl}
 use Rattle.rsr.proofs.peak_scaling.Goals as goal
 

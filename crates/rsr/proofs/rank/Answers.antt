@@ -15,7 +15,6 @@ use Rattle.mask.specs.Mask.{has}
 use Rattle.riders.specs.declared.Riders.{Riders}
 use Rattle.rsr.specs.Pairs.{rank_by}
 use Rattle.rsr.specs.Rsr.{rsr_cost_of, cost_by_lem}
-use borrow.Author.Rules.{rules}
 use lib.Ieee.{Float, le}
 use mathlib.Core.Bool.{Bool, true, false}
 use mathlib.Core.List.{List}

@@ -5,7 +5,6 @@ use lib.Ieee.{Float, lt}
 use Rattle.fp.specs.Num.{zero, over}
 use Rattle.multiply_add.specs.MulAdd.{mul_add}
 use Rattle.rsr.specs.Rsr.{held_ratio, with_load}
-use borrow.Author.Rules.{rules}
 use Rattle.rsr.proofs.with_load.Goals as goal
 
 loaded : (cost weight : Float) (idle : Bool) (load capacity ratio : Float) → (lt zero weight && (not idle && lt zero capacity)) ≡ true

@@ -1,5 +1,4 @@
 -- rsr::wrong_direction meets its contract.
-use borrow.Author.Rules.{rules}
 use Rattle.rsr.proofs.wrong_direction.Goals as goal
 
 pub returns-in-At : goal.returns-in-At

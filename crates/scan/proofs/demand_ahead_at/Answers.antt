@@ -1,5 +1,4 @@
 -- scan::demand_ahead_at meets its contract.
-use borrow.Author.Rules.{rules}
 use Rattle.scan.proofs.demand_ahead_at.Goals as goal
 
 pub returns-then-has : goal.returns-then-has

@@ -1,6 +1,5 @@
 -- scan::prepare meets its contract.
 use Rattle.scan.specs.Scan.{prepared_by}
-use borrow.Author.Rules.{rules}
 use Rattle.scan.proofs.prepare.Goals as goal
 
 pub returns : goal.returns

@@ -1,6 +1,5 @@
 -- scan::rank meets its contract.
 use Rattle.scan.specs.Scan.{rank_of}
-use borrow.Author.Rules.{rules}
 use Rattle.scan.proofs.rank.Goals as goal
 
 pub returns-then-useful : goal.returns-then-useful

@@ -1,11 +1,8 @@
 -- scan::strict_demand_ahead meets its contract.
 use Prim.Native.Nat.{◌≤◌, ◌-◌}
-use Rattle.laws.specs.Folds.{any, any_at, any_no, ended}
 use Rattle.scan.specs.Scan.{demand_ahead}
-use borrow.Author.Rules.{rules}
 use mathlib.Core.Bool.{false}
-use mathlib.Core.Path.{◌≡◌, sym, ◌∙◌, refl}
-use native.Mathlib.Omega.{arith}
+use mathlib.Core.Path.{◌≡◌}
 use Rattle.scan.proofs.strict_demand_ahead.Given as goal
 
 abbrev pub invariant-loop-j : goal.invariant-loop-j

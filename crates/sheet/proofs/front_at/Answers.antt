@@ -1,7 +1,6 @@
 -- sheet::front_at meets its contract.
 use Prim.Native.Nat.{ℕ, ◌+◌, ◌*◌, ◌/◌, ◌%◌}
 use Rattle.bits.specs.Field.{field_at, IsField, field_lt, field_split}
-use borrow.Author.Rules.{rules}
 use lib.Bits.{bit_and, and_mask}
 use mathlib.Core.List.{List}
 use mathlib.Core.Path.{◌≡◌, ap, ◌∙◌}

@@ -1,7 +1,6 @@
 -- sheet::head_refusal meets its contract.
 use Rattle.layout.specs.Refusals.{refusal2_head, refusal3}
 use Rattle.layout.specs.Verdict.{first_of}
-use borrow.Author.Rules.{rules}
 use Rattle.sheet.proofs.head_refusal.Goals as goal
 
 pub returns : goal.returns

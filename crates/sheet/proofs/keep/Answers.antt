@@ -1,6 +1,5 @@
 -- sheet::keep meets its contract.
 use Rattle.sheet.specs.Kept.{kept}
-use borrow.Author.Rules.{rules}
 use Rattle.sheet.proofs.keep.Goals as goal
 
 pub bounds-ids-n : goal.bounds-ids-n

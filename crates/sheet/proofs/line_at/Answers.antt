@@ -1,6 +1,5 @@
 -- sheet::line_at meets its contract.
 use Rattle.layout.specs.Records.{sheet_of}
-use borrow.Author.Rules.{rules}
 use Rattle.sheet.proofs.line_at.Goals as goal
 
 pub returns : goal.returns

@@ -1,5 +1,4 @@
 -- sheet::policy_at meets its contract.
-use borrow.Author.Rules.{rules}
 use Rattle.sheet.proofs.policy_at.Goals as goal
 
 pub returns : goal.returns

@@ -1,7 +1,6 @@
 -- sheet::read meets its contract.
 use Rattle.layout.specs.Verdict.{verdict}
 use Rattle.layout.specs.Offsets.{across_bits}
-use borrow.Author.Rules.{rules}
 use mathlib.Core.Path.{ap, ◌∙◌}
 use borrow.Author.Tests.{eq-eqb, ne_eqb}
 use Rattle.sheet.proofs.read.Goals as goal

@@ -7,7 +7,6 @@ use Rattle.layout.specs.Records.{from}
 use Rattle.layout.specs.Refusals.{kind_at, length_at, past_end, refusal2, refusal4, refusal5, refusal6, refusal7}
 use Rattle.layout.specs.Verdict.{pick, first_of, body_refusal, record_refusal}
 use Rattle.layout.specs.declared.Counts.{Counts}
-use borrow.Author.Rules.{rules}
 use lib.Dec.{eqb, ltb}
 use mathlib.Core.Bool.{Bool, not, ◌&&◌, ◌||◌}
 use mathlib.Core.List.{List}

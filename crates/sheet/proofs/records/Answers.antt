@@ -14,7 +14,6 @@ use Rattle.layout.proofs.PlaceLaws.{end_next}
 use Rattle.layout.specs.declared.Counts.{Counts}
 use Rattle.layout.specs.declared.Reading.TheVariants.{Refused}
 use Rattle.sheet.specs.Kept.{kept, kept_length, keeps, Before, last_next, stops_kept, cars_kept, demands_kept, closures_kept}
-use borrow.Author.Rules.{rules}
 use borrow.Author.Tests.{eqb-true, not-false}
 use lib.ListN.{length}
 use mathlib.Core.List.{List}

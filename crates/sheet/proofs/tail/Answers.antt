@@ -1,7 +1,6 @@
 -- sheet::tail meets its contract.
 use Rattle.layout.specs.Refusals.{refusal6_empty, refusal16}
 use Rattle.layout.specs.Verdict.{first_of, tail_verdict}
-use borrow.Author.Rules.{rules}
 use Rattle.sheet.proofs.tail.Goals as goal
 
 pub returns : goal.returns

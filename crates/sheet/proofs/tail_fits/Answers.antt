@@ -5,7 +5,6 @@ use Rattle.laws.specs.Bools.{less?}
 use Rattle.layout.specs.Offsets.{end_of}
 use Rattle.layout.specs.Refusals.{tail_fits}
 use Rattle.layout.specs.declared.Counts.{Counts}
-use borrow.Author.Rules.{rules}
 use borrow.Author.Tests.{lt-ltb, le-ltb}
 use lib.Dec.{eqb}
 use lib.ListN.{length}

@@ -10,7 +10,6 @@ use Rattle.layout.specs.Verdict.{pick, first_of, body_refusal}
 use Rattle.layout.specs.VerdictLaws.{clean}
 use Rattle.layout.specs.declared.Counts.{Counts}
 use Rattle.sheet.specs.Kept.{kept, stop_room, car_room, demand_room, closed_room}
-use borrow.Author.Rules.{rules}
 use borrow.Author.Tests.{eqb-true}
 use lib.Dec.{eqb}
 use mathlib.Core.Bool.{Bool, not, ◌||◌}

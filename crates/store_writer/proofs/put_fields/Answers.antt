@@ -1,5 +1,4 @@
 -- store_writer::put_fields meets its contract.
-use borrow.Author.Rules.{rules}
 use Rattle.encoder.specs.Encoded.{fields_put}
 use Rattle.store_writer.specs.Stored.{entry_put}
 use Rattle.store_writer.proofs.put_fields.Goals as goal

@@ -1,6 +1,5 @@
 -- store_writer::put_weight meets its contract.
 use mathlib.Core.Path.{refl}
-use borrow.Author.Rules.{rules}
 use borrow.Author.Tests.{lt-ltb, le-ltb, le-leb, lt-leb}
 use Rattle.store_writer.specs.Stored.{stored_of}
 use Rattle.store_writer.proofs.put_weight.Goals as goal

@@ -1,7 +1,6 @@
 -- stored_passes::answered meets its contract.
 use Rattle.stored_passes.specs.Passes.{differs_refused, differs_passed}
 use Rattle.stored_passes.specs.Tallies.{tally_refused, tally_passed}
-use borrow.Author.Rules.{rules}
 use Rattle.stored_passes.proofs.answered.Goals as goal
 
 pub returns-in-Refused : goal.returns-in-Refused

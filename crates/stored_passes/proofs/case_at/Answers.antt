@@ -1,7 +1,6 @@
 -- stored_passes::case_at meets its contract.
 use Prim.Native.Nat.{◌+◌}
 use Rattle.stored_passes.specs.Cases.{placed_from, case_headless, case_short, case_cars, case_wide, case_whole}
-use borrow.Author.Rules.{rules}
 use mathlib.Core.Path.{◌∙◌}
 use native.Mathlib.Omega.{arith}
 use Rattle.stored_passes.proofs.case_at.Goals as goal

@@ -1,8 +1,7 @@
 -- stored_passes::cells_met meets its contract.
-use Prim.Native.Nat.{ℕ, ◌+◌, ◌-◌, ◌≤◌}
+use Prim.Native.Nat.{ℕ, ◌+◌, ◌-◌}
 use Rattle.stored_passes.specs.Cases.{differing, differing_none, differing_next, differing_le}
 use Rattle.stored_passes.specs.Tallies.{tallied_of, tallied_none, tallied_next}
-use borrow.Author.Rules.{rules}
 use mathlib.Core.Path.{◌≡◌, refl, ap, ◌∙◌}
 use native.Mathlib.Omega.{arith}
 use Rattle.stored_passes.proofs.cells_met.Goals as goal

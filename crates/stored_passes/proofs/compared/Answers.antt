@@ -1,7 +1,6 @@
 -- stored_passes::compared meets its contract.
 use Rattle.stored_passes.specs.Cases.{apart_le, differing_le, differs_is, head_inside}
 use Rattle.stored_passes.specs.Tallies.{tally_is}
-use borrow.Author.Rules.{rules}
 use native.Mathlib.Omega.{arith}
 use Rattle.stored_passes.proofs.compared.Goals as goal
 

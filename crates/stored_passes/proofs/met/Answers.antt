@@ -1,7 +1,6 @@
 -- stored_passes::met meets its contract.
 use Rattle.stored_passes.specs.Cases.{apart_no, apart_yes}
 use Rattle.stored_passes.specs.Tallies.{met_of}
-use borrow.Author.Rules.{rules}
 use borrow.Author.Tests.{eq-eqb, ne_eqb, lt-ltb, le-ltb}
 use mathlib.Core.Path.{refl}
 use native.Mathlib.Omega.{arith}

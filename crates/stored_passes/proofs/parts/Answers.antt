@@ -1,6 +1,5 @@
 -- stored_passes::parts meets its contract.
 use Rattle.stored_passes.specs.Cases.{small_size, parts_short, parts_many, parts_cut, parts_whole}
-use borrow.Author.Rules.{rules}
 use native.Mathlib.Omega.{arith}
 use Rattle.stored_passes.proofs.parts.Goals as goal
 

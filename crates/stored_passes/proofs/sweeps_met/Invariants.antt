@@ -1,10 +1,8 @@
 -- stored_passes::sweeps_met meets its contract.
-use Prim.Native.Nat.{ℕ, ◌+◌, ◌-◌, ◌≤◌}
-use Rattle.stored_passes.specs.Cases.{differing, differing_none, differing_next, differing_le}
-use Rattle.stored_passes.specs.Tallies.{tallied_of, tallied_none, tallied_next}
-use borrow.Author.Rules.{rules}
-use mathlib.Core.Path.{◌≡◌, ap, ◌∙◌}
-use native.Mathlib.Omega.{arith}
+use Prim.Native.Nat.{◌+◌, ◌-◌, ◌≤◌}
+use Rattle.stored_passes.specs.Cases.{differing}
+use Rattle.stored_passes.specs.Tallies.{tallied_of}
+use mathlib.Core.Path.{◌≡◌}
 use Rattle.stored_passes.proofs.sweeps_met.Given as goal
 
 abbrev pub invariant-loop-k : goal.invariant-loop-k

@@ -1,5 +1,4 @@
 -- sweep::accepts meets its contract.
-use borrow.Author.Rules.{rules}
 use Rattle.sweep.proofs.accepts.Goals as goal
 
 pub returns-in-Strict : goal.returns-in-Strict

@@ -1,5 +1,4 @@
 -- sweep::leniently_ahead meets its contract.
-use borrow.Author.Rules.{rules}
 use mathlib.Core.Path.{refl}
 use Rattle.sweep.proofs.leniently_ahead.Goals as goal
 

@@ -1,5 +1,4 @@
 -- sweep::strictly_ahead meets its contract.
-use borrow.Author.Rules.{rules}
 use mathlib.Core.Path.{refl}
 use Rattle.sweep.proofs.strictly_ahead.Goals as goal
 

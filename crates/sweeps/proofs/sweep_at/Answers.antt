@@ -1,7 +1,6 @@
 -- sweeps::sweep_at meets its contract.
-use Rattle.layout.specs.Records.{from, car_of}
-use borrow.Author.Rules.{rules}
-use mathlib.Core.Path.{◌≡◌, refl}
+use Rattle.layout.specs.Records.{car_of}
+use mathlib.Core.Path.{refl}
 use Rattle.sweeps.proofs.sweep_at.Goals as goal
 
 pub returns : goal.returns

@@ -1,8 +1,6 @@
 -- sweeps::swept_at meets its contract.
-use Rattle.layout.specs.Records.{from, car_of}
-use Rattle.ranking.specs.Ranking.{sweep_from}
-use borrow.Author.Rules.{rules}
-use mathlib.Core.Path.{◌≡◌, refl, ◌∙◌}
+use Rattle.layout.specs.Records.{car_of}
+use mathlib.Core.Path.{refl, ◌∙◌}
 use Rattle.sweeps.proofs.swept_at.Goals as goal
 
 pub returns : goal.returns

@@ -1,5 +1,4 @@
 -- values::threshold_bits meets its contract.
-use borrow.Author.Rules.{rules}
 use Rattle.values.proofs.threshold_bits.Goals as goal
 
 pub returns-in-At : goal.returns-in-At

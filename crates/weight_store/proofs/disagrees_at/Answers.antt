@@ -1,6 +1,5 @@
 -- weight_store::disagrees_at meets its contract.
 use Rattle.weight_store.specs.Keys.{held_entry, disagree_keys}
-use borrow.Author.Rules.{rules}
 use borrow.Author.Tests.{eq-eqb, ne_eqb}
 use Rattle.weight_store.proofs.disagrees_at.Goals as goal
 

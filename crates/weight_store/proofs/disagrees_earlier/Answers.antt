@@ -1,12 +1,10 @@
 -- weight_store::disagrees_earlier meets its contract.
-use Prim.Native.Nat.{ℕ, ◌≤◌, ◌-◌}
+use Prim.Native.Nat.{◌-◌}
 use Rattle.laws.specs.Folds.{any, any_at, any_no, ended}
 use Rattle.weight_store.specs.Keys.{held_entry}
-use Rattle.weight_store.specs.Refusals.{disagree, disagrees_earlier}
-use borrow.Author.Rules.{rules}
-use mathlib.Core.Bool.{Bool, false}
-use mathlib.Core.List.{List}
-use mathlib.Core.Path.{◌≡◌, refl, sym, ◌∙◌}
+use Rattle.weight_store.specs.Refusals.{disagrees_earlier}
+use mathlib.Core.Bool.{false}
+use mathlib.Core.Path.{refl, sym, ◌∙◌}
 use native.Mathlib.Omega.{arith}
 use Rattle.weight_store.proofs.disagrees_earlier.Goals as goal
 use Rattle.weight_store.proofs.disagrees_earlier.Invariants.{here}

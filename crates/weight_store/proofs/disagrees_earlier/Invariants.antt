@@ -1,13 +1,11 @@
 -- weight_store::disagrees_earlier meets its contract.
 use Prim.Native.Nat.{ℕ, ◌≤◌, ◌-◌}
-use Rattle.laws.specs.Folds.{any, any_at, any_no, ended}
+use Rattle.laws.specs.Folds.{any}
 use Rattle.weight_store.specs.Keys.{held_entry}
-use Rattle.weight_store.specs.Refusals.{disagree, disagrees_earlier}
-use borrow.Author.Rules.{rules}
+use Rattle.weight_store.specs.Refusals.{disagree}
 use mathlib.Core.Bool.{Bool, false}
 use mathlib.Core.List.{List}
-use mathlib.Core.Path.{◌≡◌, refl, sym, ◌∙◌}
-use native.Mathlib.Omega.{arith}
+use mathlib.Core.Path.{◌≡◌}
 use Rattle.weight_store.proofs.disagrees_earlier.Given as goal
 
 -- record i agrees with j but in value

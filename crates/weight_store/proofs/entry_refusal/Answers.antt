@@ -1,6 +1,5 @@
 -- weight_store::entry_refusal meets its contract.
 use Rattle.weight_store.specs.Keys.{number_read}
-use borrow.Author.Rules.{rules}
 use Rattle.weight_store.proofs.entry_refusal.Goals as goal
 
 pub returns : goal.returns

@@ -1,12 +1,11 @@
 -- weight_store::first_disagreeing meets its contract.
-use Prim.Native.Nat.{◌≤◌, ◌-◌}
+use Prim.Native.Nat.{◌-◌}
 use Rattle.laws.specs.First.{first_at, first_end}
 use Rattle.laws.specs.Folds.{any, any_no, ended}
 use Rattle.weight_store.specs.Keys.{held_entry}
 use Rattle.weight_store.specs.Refusals.{disagrees_earlier, first_disagreeing}
-use borrow.Author.Rules.{rules}
 use mathlib.Core.Bool.{false}
-use mathlib.Core.Path.{◌≡◌, refl, sym, ◌∙◌}
+use mathlib.Core.Path.{refl, sym, ◌∙◌}
 use native.Mathlib.Omega.{arith}
 use Rattle.weight_store.proofs.first_disagreeing.Goals as goal
 

@@ -1,13 +1,10 @@
 -- weight_store::first_disagreeing meets its contract.
 use Prim.Native.Nat.{◌≤◌, ◌-◌}
-use Rattle.laws.specs.First.{first_at, first_end}
-use Rattle.laws.specs.Folds.{any, any_no, ended}
+use Rattle.laws.specs.Folds.{any}
 use Rattle.weight_store.specs.Keys.{held_entry}
-use Rattle.weight_store.specs.Refusals.{disagrees_earlier, first_disagreeing}
-use borrow.Author.Rules.{rules}
+use Rattle.weight_store.specs.Refusals.{disagrees_earlier}
 use mathlib.Core.Bool.{false}
-use mathlib.Core.Path.{◌≡◌, refl, sym, ◌∙◌}
-use native.Mathlib.Omega.{arith}
+use mathlib.Core.Path.{◌≡◌}
 use Rattle.weight_store.proofs.first_disagreeing.Given as goal
 
 abbrev pub invariant-loop-j : goal.invariant-loop-j

@@ -1,6 +1,5 @@
 -- weight_store::is_short meets its contract.
 use Rattle.weight_store.specs.Passed.{short_bytes}
-use borrow.Author.Rules.{rules}
 use Rattle.weight_store.proofs.is_short.Goals as goal
 
 pub returns : goal.returns

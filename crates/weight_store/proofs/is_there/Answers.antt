@@ -1,6 +1,5 @@
 -- weight_store::is_there meets its contract.
 use Rattle.weight_store.specs.Entries.{byte_there}
-use borrow.Author.Rules.{rules}
 use Rattle.weight_store.proofs.is_there.Goals as goal
 
 pub returns : goal.returns

@@ -1,6 +1,5 @@
 -- weight_store::key_at meets its contract.
 use Rattle.weight_store.specs.Keys.{key_of}
-use borrow.Author.Rules.{rules}
 use Rattle.weight_store.proofs.key_at.Goals as goal
 
 pub returns : goal.returns

@@ -7,11 +7,9 @@ use Rattle.weight_store.specs.Entries.{entry_count}
 use Rattle.weight_store.specs.Keys.{key_of, value_of, read_refused, read_passed}
 use Rattle.weight_store.specs.Passed.{passed, passed_before}
 use Rattle.weight_store.specs.Refusals.{entry_refused, first_refused}
-use borrow.Author.Rules.{rules}
 use borrow.Author.Tests.{ltb-true, ltb-false}
-use lib.ListN.{length, drop, length-set}
+use lib.ListN.{length-set}
 use mathlib.Core.Bool.{false}
-use mathlib.Core.List.{◌++◌}
 use mathlib.Core.Path.{◌≡◌, refl, sym, ◌∙◌}
 use native.Mathlib.Omega.{arith}
 use Rattle.weight_store.proofs.read_entries.Goals as goal

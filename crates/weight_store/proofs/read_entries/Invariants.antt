@@ -1,19 +1,14 @@
 -- weight_store::read_entries meets its contract.
-use Prim.Native.Nat.{◌≤◌, ◌<◌, ◌-◌}
-use Rattle.laws.specs.First.{first_at, first_end}
-use Rattle.laws.specs.Folds.{any, any_no}
-use Rattle.laws.specs.Tables.{tab, tab_next}
+use Prim.Native.Nat.{◌≤◌, ◌-◌}
+use Rattle.laws.specs.Folds.{any}
+use Rattle.laws.specs.Tables.{tab}
 use Rattle.weight_store.specs.Entries.{entry_count}
-use Rattle.weight_store.specs.Keys.{key_of, value_of, read_refused, read_passed}
-use Rattle.weight_store.specs.Passed.{passed, passed_before}
-use Rattle.weight_store.specs.Refusals.{entry_refused, first_refused}
-use borrow.Author.Rules.{rules}
-use borrow.Author.Tests.{ltb-true, ltb-false}
-use lib.ListN.{length, drop, length-set}
+use Rattle.weight_store.specs.Keys.{key_of, value_of}
+use Rattle.weight_store.specs.Refusals.{entry_refused}
+use lib.ListN.{length, drop}
 use mathlib.Core.Bool.{false}
 use mathlib.Core.List.{◌++◌}
-use mathlib.Core.Path.{◌≡◌, refl, sym, ◌∙◌}
-use native.Mathlib.Omega.{arith}
+use mathlib.Core.Path.{◌≡◌}
 use Rattle.weight_store.proofs.read_entries.Given as goal
 
 abbrev pub invariant-loop-key : goal.invariant-loop-key

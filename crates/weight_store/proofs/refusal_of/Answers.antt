@@ -2,7 +2,6 @@
 use Rattle.layout.specs.Verdict.{pick, first_of}
 use Rattle.weight_store.specs.Keys.{above_five, unpacked}
 use Rattle.weight_store.specs.Refusals.{refusal7_store, refusal8_store, refusal11_store}
-use borrow.Author.Rules.{rules}
 use borrow.Author.Tests.{le-leb, lt-leb}
 use Rattle.weight_store.proofs.refusal_of.Goals as goal
 

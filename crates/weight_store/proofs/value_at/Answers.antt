@@ -1,6 +1,5 @@
 -- weight_store::value_at meets its contract.
 use Rattle.weight_store.specs.Keys.{value_of}
-use borrow.Author.Rules.{rules}
 use Rattle.weight_store.proofs.value_at.Goals as goal
 
 pub returns : goal.returns

@@ -1,6 +1,5 @@
 -- weight_store::weight_back meets its contract.
 use Rattle.weight_store.specs.Values.{weight_back}
-use borrow.Author.Rules.{rules}
 use Rattle.weight_store.proofs.weight_back.Goals as goal
 
 pub returns : goal.returns

@@ -1,8 +1,7 @@
 -- weights::fill_weights meets its contract.
 use Rattle.weights.specs.Answers.{weights_left}
 use Rattle.weights.specs.Places.{few_places, enough_places}
-use borrow.Author.Rules.{rules}
-use mathlib.Core.Path.{refl, sym, ap, ◌∙◌}
+use mathlib.Core.Path.{sym, ap, ◌∙◌}
 use Rattle.weights.proofs.fill_weights.Goals as goal
 
 pub returns-then-places-lt6 : goal.returns-then-places-lt6

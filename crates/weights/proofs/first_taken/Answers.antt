@@ -1,15 +1,12 @@
 -- weights::first_taken meets its contract.
-use Prim.Native.Nat.{ℕ, ◌≤◌, ◌-◌}
+use Prim.Native.Nat.{◌-◌}
 use Rattle.weight_store.specs.Keys.{held_entry, held_issue}
-use Rattle.weights.specs.Columns.{last_key, least_key, least_none, least_next, takes_over, stays_best}
-use Rattle.weights.specs.Leads.{Best, best_none, best_taken}
+use Rattle.weights.specs.Columns.{last_key, least_none, least_next, takes_over, stays_best}
+use Rattle.weights.specs.Leads.{best_none, best_taken}
 use Rattle.laws.specs.Bools.{both_right}
-use borrow.Author.Rules.{rules}
 use borrow.Author.Tests.{leb-true}
 use lib.Dec.{leb}
 use lib.ListN.{get_or}
-use mathlib.Core.List.{List}
-use mathlib.Core.Logic.{⊎_elim}
 use mathlib.Core.Path.{◌≡◌, sym}
 use native.Mathlib.Omega.{arith}
 use Rattle.weights.proofs.first_taken.Goals as goal

@@ -1,18 +1,14 @@
 -- weights::look_up meets its contract.
-use Prim.Native.Nat.{ℕ, ◌≤◌, ◌-◌}
+use Prim.Native.Nat.{◌≤◌, ◌-◌}
 use Rattle.fp.specs.Num.{zero}
-use Rattle.laws.specs.Folds.{any, any_no}
-use Rattle.laws.specs.Tables.{tab, tab_next}
-use Rattle.weight_store.specs.Keys.{unpacked, held_entry, held_issue}
-use Rattle.weights.specs.Found.{none_found, taken_below, six_found}
-use Rattle.weights.specs.Leads.{takes_one}
-use Rattle.weights.specs.LookUp.{first_taken, slot_weight, missing}
-use borrow.Author.Rules.{rules, scaled_Fits}
-use lib.ListN.{length, drop, replicate, length-set}
+use Rattle.laws.specs.Folds.{any}
+use Rattle.laws.specs.Tables.{tab}
+use Rattle.weight_store.specs.Keys.{held_entry}
+use Rattle.weights.specs.LookUp.{slot_weight, missing}
+use lib.ListN.{length, drop, replicate}
 use mathlib.Core.Bool.{false}
 use mathlib.Core.List.{◌++◌}
-use mathlib.Core.Path.{◌≡◌, refl, sym, ap, ◌∙◌}
-use native.Mathlib.Omega.{arith}
+use mathlib.Core.Path.{◌≡◌}
 use Rattle.weights.proofs.look_up.Given as goal
 
 abbrev pub invariant-loop-slot : goal.invariant-loop-slot

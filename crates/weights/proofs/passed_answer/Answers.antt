@@ -1,6 +1,5 @@
 -- weights::passed_answer meets its contract.
 use Rattle.weights.specs.Answers.{passed_answer}
-use borrow.Author.Rules.{rules}
 use borrow.Author.Tests.{lt-ltb, le-ltb}
 use Rattle.weights.proofs.passed_answer.Goals as goal
 

@@ -1,6 +1,5 @@
 -- weights::weights meets its contract.
 use Rattle.weight_store.specs.Passed.{refused_few, refused_within}
-use borrow.Author.Rules.{rules}
 use mathlib.Core.Path.{refl}
 use Rattle.weights.proofs.weights.Goals as goal
 

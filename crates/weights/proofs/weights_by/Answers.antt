@@ -5,7 +5,6 @@ use Rattle.weight_store.specs.Entries.{entry_count}
 use Rattle.weight_store.specs.Keys.{key_of, value_of, held_entries}
 use Rattle.weight_store.specs.Passed.{refused_few, refused_none}
 use Rattle.weights.specs.Answers.{weights_of}
-use borrow.Author.Rules.{rules}
 use lib.ListN.{length, drop, replicate, length-replicate}
 use mathlib.Core.List.{List, ◌++◌}
 use mathlib.Core.Path.{◌≡◌, sym, ap, ◌∙◌}

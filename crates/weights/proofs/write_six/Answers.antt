@@ -1,6 +1,5 @@
 -- weights::write_six meets its contract.
 use Rattle.weights.specs.Places.{six_stores}
-use borrow.Author.Rules.{rules}
 use lib.ListN.{length-set}
 use native.Mathlib.Omega.{arith}
 use Rattle.weights.proofs.write_six.Goals as goal

@@ -1,6 +1,5 @@
 -- writer::finish meets its contract.
 use native.Mathlib.Nat.{add-zero}
-use borrow.Author.Rules.{rules}
 use Rattle.writer.specs.Puts.{finished}
 use Rattle.writer.proofs.finish.Goals as goal
 

@@ -1,5 +1,4 @@
 -- writer::put_car meets its contract.
-use borrow.Author.Rules.{rules}
 use Rattle.writer.proofs.put_car.Goals as goal
 
 pub returns-then-is_written : goal.returns-then-is_written

@@ -1,5 +1,4 @@
 -- writer::put_stop meets its contract.
-use borrow.Author.Rules.{rules}
 use Rattle.writer.proofs.put_stop.Goals as goal
 
 pub returns-then-is_written : goal.returns-then-is_written

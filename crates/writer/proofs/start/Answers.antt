@@ -1,6 +1,5 @@
 -- writer::start meets its contract.
 use mathlib.Core.Path.{refl}
-use borrow.Author.Rules.{rules}
 use borrow.Author.Tests.{lt-ltb, le-ltb}
 use Rattle.encoder.specs.Encoded.{fields_put}
 use Rattle.writer.specs.Puts.{start_of, head_put}

@@ -1,6 +1,5 @@
 -- writer_host::car_of meets its contract.
 use Rattle.writer_host.specs.Given.{car_of}
-use borrow.Author.Rules.{rules}
 use Rattle.writer_host.proofs.car_of.Goals as goal
 
 pub returns : goal.returns

@@ -6,7 +6,6 @@ use lib.ListN.{length}
 use borrow.Author.Tests.{ne_eqb, lt-ltb, le-ltb}
 use Rattle.writer.specs.Puts.{sheet_bytes}
 use Rattle.writer_host.specs.Host.{counts_in, finish_refusal, finish_refused, not_refused, state_long, state_small}
-use borrow.Author.Rules.{rules}
 use Rattle.writer_host.proofs.dispatch_bench_finish.Goals as goal
 
 pub returns-then-refused-ne0 : goal.returns-then-refused-ne0

@@ -3,7 +3,6 @@ use mathlib.Core.Path.{refl, sym, ◌∙◌}
 use borrow.Author.Tests.{ne_eqb}
 use Rattle.writer_host.specs.Given.{policy_of, policy_known}
 use Rattle.writer_host.specs.Host.{not_refused, state_long, state_small}
-use borrow.Author.Rules.{rules}
 use Rattle.writer_host.proofs.dispatch_bench_put_policy.Goals as goal
 
 pub returns-then-refused-ne0 : goal.returns-then-refused-ne0

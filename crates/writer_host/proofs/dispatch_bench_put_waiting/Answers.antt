@@ -1,7 +1,6 @@
 -- writer_host::dispatch_bench_put_waiting meets its contract.
 use mathlib.Core.Path.{refl, sym, ◌∙◌}
 use mathlib.Core.Bool.{true}
-use borrow.Author.Rules.{rules}
 use borrow.Author.Tests.{ne_eqb}
 use Rattle.writer_host.specs.Given.{waiting_of}
 use Rattle.writer_host.specs.Host.{not_refused, state_long, state_small}

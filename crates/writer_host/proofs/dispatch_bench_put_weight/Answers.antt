@@ -1,6 +1,5 @@
 -- writer_host::dispatch_bench_put_weight meets its contract.
 use mathlib.Core.Path.{sym, ap, ◌∙◌}
-use borrow.Author.Rules.{rules}
 use Rattle.store_writer.specs.declared.Stored.{Stored}
 use Rattle.store_writer.specs.Stored.{stored_number, stored_count}
 use Rattle.writer_host.proofs.dispatch_bench_put_weight.Goals as goal

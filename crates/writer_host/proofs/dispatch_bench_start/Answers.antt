@@ -3,7 +3,6 @@ use mathlib.Core.Path.{refl}
 use lib.ListN.{length}
 use borrow.Author.Tests.{lt-ltb, le-ltb}
 use Rattle.writer_host.specs.Host.{start_refusal}
-use borrow.Author.Rules.{rules}
 use Rattle.writer_host.proofs.dispatch_bench_start.Goals as goal
 
 pub returns-then-state-lt9 : goal.returns-then-state-lt9

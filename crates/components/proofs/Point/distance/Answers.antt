@@ -1,6 +1,5 @@
 -- components::Point::distance meets its contract.
 use Rattle.components.specs.Points.{distance}
-use borrow.Author.Rules.{rules}
 use Rattle.components.proofs.Point.distance.Goals as goal
 
 pub returns : goal.returns

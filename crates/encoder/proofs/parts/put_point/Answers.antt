@@ -1,6 +1,5 @@
 -- encoder::parts::put_point meets its contract.
 use Rattle.encoder.specs.Encoded.{fields_put}
-use borrow.Author.Rules.{rules}
 use Rattle.encoder.proofs.parts.put_point.Goals as goal
 
 pub returns : goal.returns

@@ -1,6 +1,5 @@
 -- encoder::policy::put_weights meets its contract.
 use Rattle.encoder.specs.Encoded.{fields_put}
-use borrow.Author.Rules.{rules}
 use Rattle.encoder.proofs.policy.put_weights.Goals as goal
 
 pub returns : goal.returns

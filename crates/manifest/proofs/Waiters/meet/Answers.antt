@@ -1,5 +1,4 @@
 -- manifest::Waiters::meet meets its contract.
-use borrow.Author.Rules.{rules}
 use Rattle.manifest.proofs.Waiters.meet.Goals as goal
 
 pub returns : goal.returns

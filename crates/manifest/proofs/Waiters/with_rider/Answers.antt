@@ -2,7 +2,6 @@
 use Rattle.manifest.specs.Waiters.{lesser_if, with_rider}
 use mathlib.Core.Bool.{not, ◌||◌}
 use mathlib.Core.Path.{◌≡◌, refl}
-use borrow.Author.Rules.{rules}
 use Rattle.manifest.proofs.Waiters.with_rider.Goals as goal
 
 pub returns : goal.returns

@@ -1,6 +1,5 @@
 -- sweep::Sweep::code meets its contract.
 use Rattle.sweep.specs.Sweeps.{sweep_code}
-use borrow.Author.Rules.{rules}
 use mathlib.Core.Path.{refl}
 use Rattle.sweep.proofs.Sweep.code.Goals as goal
 

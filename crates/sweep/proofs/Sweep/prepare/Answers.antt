@@ -1,6 +1,5 @@
 -- sweep::Sweep::prepare meets its contract.
 use Rattle.sweep.specs.Sweeps.{prepared}
-use borrow.Author.Rules.{rules}
 use Rattle.sweep.proofs.Sweep.prepare.Goals as goal
 
 pub returns-then-ahead : goal.returns-then-ahead

@@ -4,7 +4,6 @@ use Rattle.components.specs.declared.Point.{Point}
 use Rattle.components.specs.Points.{distance}
 use Rattle.sweep.specs.Sweeps.{accepts, sweep_rank}
 use Rattle.sweep.specs.declared.Sweep.{Sweep}
-use borrow.Author.Rules.{rules}
 use lib.Ieee.{Float}
 use mathlib.Core.Bool.{Bool, true, false}
 use mathlib.Core.Path.{◌≡◌}

@@ -1,5 +1,4 @@
 -- writer::room::none meets its contract.
-use borrow.Author.Rules.{rules}
 use Rattle.writer.proofs.room.none.Goals as goal
 
 pub returns : goal.returns

@@ -5,7 +5,6 @@ use native.Mathlib.Nat.{div-eq_of_lt}
 use native.Mathlib.Omega.{arith}
 use borrow.Author.Tests.{lt-leb, le-leb}
 use Rattle.writer_host.specs.Host.{holds_number}
-use borrow.Author.Rules.{rules}
 use Rattle.writer_host.proofs.field.holds_number.Goals as goal
 
 pub returns-then-w-gt64 : goal.returns-then-w-gt64

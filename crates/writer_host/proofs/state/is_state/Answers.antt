@@ -1,7 +1,6 @@
 -- writer_host::state::is_state meets its contract.
 use borrow.Author.Tests.{le-leb, lt-leb}
 use Rattle.writer_host.specs.Host.{is_state}
-use borrow.Author.Rules.{rules}
 use Rattle.writer_host.proofs.state.is_state.Goals as goal
 
 pub returns-then-state-lt9 : goal.returns-then-state-lt9

@@ -1,6 +1,5 @@
 -- writer_host::state::keep meets its contract.
 use mathlib.Core.Path.{refl}
-use borrow.Author.Rules.{rules}
 use Rattle.writer_host.proofs.state.keep.Goals as goal
 
 pub returns-in-Written : goal.returns-in-Written

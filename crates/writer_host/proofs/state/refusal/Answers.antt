@@ -1,5 +1,4 @@
 -- writer_host::state::refusal meets its contract.
-use borrow.Author.Rules.{rules}
 use Rattle.writer_host.specs.Host.{host_refusal}
 use Rattle.writer_host.proofs.state.refusal.Goals as goal
 

@@ -1,8 +1,5 @@
 -- writer_host::state::store meets its contract.
-use native.Mathlib.Omega.{arith}
-use lib.ListN.{length-set}
 use Rattle.writer_host.specs.Host.{stored}
-use borrow.Author.Rules.{rules}
 use Rattle.writer_host.proofs.state.store.Goals as goal
 
 pub returns : goal.returns

@@ -1,5 +1,4 @@
 -- weights::answer::SixWeights::for_strategy meets its contract.
-use borrow.Author.Rules.{rules}
 use Rattle.weights.proofs.answer.SixWeights.for_strategy.Goals as goal
 
 pub returns-in-Etd : goal.returns-in-Etd
