@@ -28,6 +28,7 @@ use Rattle.components.specs.Sheet.{Sheet}
 use Rattle.etd.specs.Etd.{intervening_stops}
 use Rattle.assignment.specs.Pending.{covered, pending}
 use Rattle.assignment.specs.Candidates.{no_limit}
+use Rattle.assignment.specs.Cells.{answered_total}
 use Rattle.examples.specs.Pass.{Passes, pass}
 
 unfoldable pub bytes : List ℕ
@@ -63,6 +64,11 @@ accepted = refl
 pub stop_two : (covered sheet 1 ≡ true) × (pending sheet 1 ≡ false) × (intervening_stops sheet 0 2 ≡ 1)
 unfolding opened
 stop_two = (refl, refl, refl)
+
+-- the total of a pass
+pub limited_total : answered_total sheet (limit_of bytes) ≡ 29_100_000
+unfolding opened
+limited_total = refl
 
 pub passed : Passes sheet (limit_of bytes) 2 2 (sentinel ∷ 28_100_000 ∷ 1_000_000 ∷ sentinel ∷ []) 29_100_000 (3 ∷ 1 ∷ []) (0 ∷ 0 ∷ [])
 unfolding opened
