@@ -87,12 +87,13 @@ pub ranked_of : (bytes : List ℕ) (c : Counts) → verdict bytes ≡ Accepted c
     → j < (sheet_of bytes c).stops
     → Ranked (sheet_of bytes c) i j
 unfolding rank
-ranked_of bytes c e i j li lj =
-    let s = sheet_of bytes c in
-    let a = admitted_of bytes c e in
-    let by : Strategy → Rank = λ t. by_strategy t (etd_rank s i j) (rsr_rank s i j) (scan_rank s (sweep_after s i) i j) Never in
-    record {
-      nonneg = λ x h. by_nonneg s a i j li lj s.policy.strategy x h;
-      etd = λ q u m. ap by q ∙ etd_ranked s a i j li lj m u;
-      rsr = λ q u m. ap by q ∙ rsr_ranked s a i j li lj m u;
-    }
+ranked_of bytes c e i j li lj = admitted_ranked (sheet_of bytes c) (admitted_of bytes c e) i j li lj
+  where
+    admitted_ranked : (s : Sheet) → Admitted s → (i j : ℕ) → i < s.cars → j < s.stops → Ranked s i j
+    admitted_ranked s a i j li lj =
+        let by : Strategy → Rank = λ t. by_strategy t (etd_rank s i j) (rsr_rank s i j) (scan_rank s (sweep_after s i) i j) Never in
+        record {
+          nonneg = λ x h. by_nonneg s a i j li lj s.policy.strategy x h;
+          etd = λ q u m. ap by q ∙ etd_ranked s a i j li lj m u;
+          rsr = λ q u m. ap by q ∙ rsr_ranked s a i j li lj m u;
+        }
