@@ -1,27 +1,23 @@
 -- What two sheets with bars added agree in. Assumes nothing.
-use Rattle.std.specs.Prelude.{ℕ, ◌+◌, ◌-◌, ◌*◌, ◌/◌, ◌%◌, ◌≤◌, ◌<◌, ◌≡◌, refl, Bool, true, false, not, ◌&&◌, ◌||◌, List, ◌≢◌, eqb, ltb, length}
-use Rattle.std.proofs.Common.{sym, ◌∙◌, ⊎_elim, add-zero, zero-add, arith, eqb-true, eq-eqb, ne_eqb, ltb-true, ltb-false}
+use Rattle.std.specs.Prelude.{ℕ, ◌-◌, ◌*◌, ◌/◌, ◌≤◌, ◌<◌, ◌≡◌, Bool, true, not, ◌&&◌, ◌||◌, List, ◌≢◌, eqb, ltb, length}
+use Rattle.std.proofs.Common.{sym, ◌∙◌, ⊎_elim, arith, eqb-true, ltb-true, ltb-false}
 use Rattle.std.proofs.Math.Path.{ap}
-use Rattle.std.proofs.Math.Bool.{and-false}
 use Rattle.std.proofs.Math.Nat.{zero-div}
 use Rattle.std.proofs.Math.ListN.{get_or-eq_default}
 use Rattle.std.proofs.lemmas.Bool.{not-true}
 use Rattle.laws.specs.Bools.{both_left, both_right, either, less?}
-use Rattle.laws.specs.Folds.{any, any_some, every, every_at}
-use Rattle.bits.specs.Field.{bit_at, field_at}
-use Rattle.components.specs.declared.Kind.TheVariants as kind
+use Rattle.laws.specs.Folds.{any_some, every_at}
+use Rattle.bits.specs.Field.{bit_at}
 use Rattle.layout.specs.declared.Counts.{Counts}
-use Rattle.layout.specs.Table.{past, car_restricted_field}
-use Rattle.layout.specs.Offsets.{Small, record_length, car_start}
+use Rattle.layout.specs.Offsets.{car_start}
 use Rattle.layout.specs.declared.Reading.{Reading}
-use Rattle.layout.specs.declared.Reading.TheVariants.{Accepted, Refused}
+use Rattle.layout.specs.declared.Reading.TheVariants.{Accepted}
 use Rattle.layout.specs.Records.{limit_of}
 use Rattle.layout.specs.Verdict.{verdict}
 use Rattle.assignment.specs.Candidates.{no_limit}
 use Rattle.bench.specs.Done.{Lent, outcome_of}
 use Rattle.bench.proofs.TwoPasses.{verdict_of}
 use Rattle.bars.specs.Agree.{bar_bit, AgreeButBars}
-use Rattle.bars.proofs.Clear.{fits}
 use Rattle.bars.specs.NeverCheaper.{BarPair}
 use Rattle.replay_pairs.specs.Pairs.{agree}
 use Rattle.replay_pairs.specs.Added.{mask_from, of_mask, of_masks, added_at, added, added_by, is_barred}

@@ -1,14 +1,10 @@
 -- Two sheets that request F-14 speaks of: the second has bars that the first has not, "one more bit in one car's restricted mask" or several, and they
 -- agree in every other bit. Assumes nothing.
-use Rattle.std.specs.Prelude.{ℕ, ◌+◌, ◌-◌, ◌*◌, ◌/◌, ◌%◌, ◌≤◌, ◌<◌, ◌≡◌, refl, Bool, true, false, not, ◌&&◌, ◌||◌, List, ◌≢◌, eqb, ltb, length}
-use Rattle.std.proofs.Common.{sym, ◌∙◌, ⊎_elim, add-zero, zero-add, arith, eqb-true, eq-eqb, ne_eqb, ltb-true, ltb-false}
+use Rattle.std.specs.Prelude.{ℕ, ◌+◌, ◌*◌, ◌<◌, ◌≡◌, Bool, true, false, not, ◌&&◌, ◌||◌, List, ◌≢◌, eqb, ltb, length}
+use Rattle.std.proofs.Common.{sym, ◌∙◌, add-zero, zero-add, arith, eq-eqb, ne_eqb}
 use Rattle.std.proofs.Math.Path.{ap}
 use Rattle.std.proofs.Math.Bool.{and-false}
-use Rattle.std.proofs.Math.Nat.{zero-div}
-use Rattle.std.proofs.Math.ListN.{get_or-eq_default}
-use Rattle.std.proofs.lemmas.Bool.{not-true}
-use Rattle.laws.specs.Bools.{both_left, both_right, either, less?}
-use Rattle.laws.specs.Folds.{any, any_some, every, every_at}
+use Rattle.laws.specs.Folds.{any, every}
 use Rattle.bits.specs.Field.{bit_at, field_at}
 use Rattle.components.specs.declared.Kind.TheVariants as kind
 use Rattle.layout.specs.declared.Counts.{Counts}
@@ -19,11 +15,8 @@ use Rattle.layout.specs.declared.Reading.TheVariants.{Accepted, Refused}
 use Rattle.layout.specs.Records.{limit_of}
 use Rattle.layout.specs.Verdict.{verdict}
 use Rattle.assignment.specs.Candidates.{no_limit}
-use Rattle.bench.specs.Done.{Lent, outcome_of}
-use Rattle.bench.proofs.TwoPasses.{verdict_of}
-use Rattle.bars.specs.Agree.{bar_bit, AgreeButBars}
+use Rattle.bars.specs.Agree.{bar_bit}
 use Rattle.bars.proofs.Clear.{fits}
-use Rattle.bars.specs.NeverCheaper.{BarPair}
 use Rattle.replay_pairs.specs.Pairs.{agree}
 
 -- where the mask starts of a car that starts at bit at

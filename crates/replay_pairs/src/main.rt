@@ -18,6 +18,8 @@
 //
 // Where the list cannot be read or the last line cannot be written, `main` ends with that error; a line before that is passed over where it cannot be
 // written.
+#![tactic(auto)]
+
 ghost use Rattle.std.specs.Prelude.{◌≡◌, ◌+◌, ◌≤◌, ◌<◌, length};
 ghost use Rattle.laws.specs.Bools.{bit};
 ghost use Rattle.bench.specs.Answers.{total_of};
