@@ -13,7 +13,8 @@ use Rattle.put.specs.PutLaws.{field_same}
 use Rattle.weight_store.specs.Entries.{Entry, entry_length, entry_of, entry_count, entry_covered}
 use Rattle.layout.specs.Verdict.{pick, first_of}
 use Rattle.weight_store.specs.Refusals.{refusal2_store, refusal7_store, refusal8_store, refusal11_store, entry_refusal}
-use Rattle.encoder.specs.EncodedLaws.{Reads, fields_read, fields_elsewhere, fields_length}
+use Rattle.encoder.specs.EncodedLaws.{Reads, fields_length}
+use Rattle.encoder.proofs.FieldLaws.{fields_read, fields_elsewhere}
 use Rattle.store_writer.specs.Stored.{entry_fields, entry_put}
 
 -- each number can be held by its field

@@ -17,7 +17,7 @@ use Rattle.weights.specs.declared.answer.SixWeights.{SixWeights}
 use Rattle.weights.specs.declared.answer.Weights.TheVariants.{Found, Refused}
 use Rattle.weight_store.specs.Entries.{entry_count, entry_of, issue_lt}
 use Rattle.laws.specs.First.{first_none}
-use Rattle.weights.specs.Leads.{takes, taken_started, taken_top}
+use Rattle.weights.proofs.Leads.{takes, taken_started, taken_top}
 use Rattle.weights.specs.LookUp.{started, missing, first_taken, slot_weight, first_missing}
 use Rattle.weight_store.specs.Passed.{passed}
 use Rattle.weight_store.specs.Refusals.{entry_refused, first_refused, disagrees_earlier, first_disagreeing}

@@ -10,7 +10,7 @@ use Rattle.laws.specs.Folds.{any, any_at, any_some, any_none, none_any}
 use Rattle.weight_store.specs.Entries.{Entry}
 use Rattle.weights.specs.declared.answer.Weights.TheVariants.{Found}
 use Rattle.laws.specs.First.{first_index, first_cong, first_none, none_first}
-use Rattle.weights.specs.Leads.{takes, taken_started, taken_top}
+use Rattle.weights.proofs.Leads.{takes, taken_started, taken_top}
 use Rattle.weights.specs.LookUp.{started, missing, first_taken, slot_weight, first_missing}
 use Rattle.weight_store.specs.Refusals.{disagree, disagrees_earlier, first_disagreeing}
 use Rattle.weight_store.specs.Values.{same_value, weight_back}

@@ -1,6 +1,6 @@
 -- The six in lent places. Assumes nothing.
-use Rattle.std.specs.Prelude.{ℕ, ◌≤◌, ◌<◌, ◌≡◌, refl, List, [], ◌∷◌, ltb, Float, length, drop, set}
-use Rattle.std.proofs.Common.{◌∙◌, arith, lt-ltb, le-ltb}
+use Rattle.std.specs.Prelude.{ℕ, ◌≤◌, ◌<◌, ◌≡◌, refl, List, [], ◌∷◌, Float, length, drop, set}
+use Rattle.std.proofs.Common.{arith, lt-ltb, le-ltb}
 use Rattle.weights.specs.declared.answer.Weights.{Weights}
 use Rattle.weights.specs.declared.answer.Weights.TheVariants.{Refused}
 use Rattle.weights.specs.Answers.{weights_of, lent_weights}

@@ -25,7 +25,8 @@ use Rattle.layout.specs.Refusals.{refusal4, refusal6, refusal7}
 use Rattle.layout.proofs.PlaceLaws.{end_next}
 use Rattle.layout.specs.PlaceLaws.{all}
 use Rattle.encoder.specs.Encoded.{record_fields, record_values, record_at}
-use Rattle.encoder.specs.EncodedLaws.{Reads, fields_length, fields_elsewhere, fields_read, reads_same}
+use Rattle.encoder.specs.EncodedLaws.{Reads, fields_length, reads_same}
+use Rattle.encoder.proofs.FieldLaws.{fields_elsewhere, fields_read}
 use Rattle.writer.specs.declared.Edition.{Edition}
 use Rattle.writer.specs.declared.Edition.TheVariants.{First, Second}
 use Rattle.writer.specs.declared.Put.{Put}

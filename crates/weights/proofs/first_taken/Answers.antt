@@ -1,8 +1,8 @@
 -- weights::first_taken meets its contract.
-use Prim.Native.Nat.{◌-◌}
 use Rattle.weight_store.specs.Keys.{held_entry, held_issue}
-use Rattle.weights.specs.Columns.{last_key, least_none, least_next, takes_over, stays_best}
-use Rattle.weights.specs.Leads.{best_none, best_taken}
+use Rattle.weights.specs.Columns.{last_key}
+use Rattle.weights.proofs.ColumnLaws.{least_none, least_next, takes_over, stays_best}
+use Rattle.weights.proofs.Leads.{best_none, best_taken}
 use Rattle.laws.specs.Bools.{both_right}
 use borrow.Author.Tests.{leb-true}
 use lib.Dec.{leb}

@@ -2,7 +2,7 @@
 use Prim.Native.Nat.{ℕ, ◌≤◌, ◌-◌}
 use Rattle.weight_store.specs.Keys.{held_entry}
 use Rattle.weights.specs.Columns.{least_key}
-use Rattle.weights.specs.Leads.{Best}
+use Rattle.weights.proofs.Leads.{Best}
 use mathlib.Core.List.{List}
 use mathlib.Core.Path.{◌≡◌}
 use Rattle.weights.proofs.first_taken.Given as goal

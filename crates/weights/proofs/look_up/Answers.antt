@@ -1,15 +1,13 @@
 -- weights::look_up meets its contract.
-use Prim.Native.Nat.{◌-◌}
 use Rattle.fp.specs.Num.{zero}
 use Rattle.laws.specs.Folds.{any, any_no}
 use Rattle.laws.specs.Tables.{tab, tab_next}
 use Rattle.weight_store.specs.Keys.{unpacked, held_entry, held_issue}
-use Rattle.weights.specs.Found.{none_found, taken_below, six_found}
-use Rattle.weights.specs.Leads.{takes_one}
+use Rattle.weights.proofs.Found.{none_found, taken_below, six_found}
+use Rattle.weights.proofs.Leads.{takes_one}
 use Rattle.weights.specs.LookUp.{slot_weight, missing}
 use borrow.Author.Rules.{scaled_Fits}
 use lib.ListN.{drop, replicate, length-set}
-use mathlib.Core.Bool.{false}
 use mathlib.Core.Path.{◌≡◌, refl, sym, ◌∙◌}
 use native.Mathlib.Omega.{arith}
 use Rattle.weights.proofs.look_up.Goals as goal

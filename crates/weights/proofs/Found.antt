@@ -1,16 +1,15 @@
 -- The look-up by its slots: 18 at the first slot that takes no record, else the six. Assumes nothing.
-use Rattle.std.specs.Prelude.{ℕ, ◌^◌, ◌≤◌, ◌<◌, ◌≡◌, false, List, ◌++◌, ltb, Float}
-use Rattle.std.proofs.Common.{sym, ap, ◌∙◌, arith}
+use Rattle.std.specs.Prelude.{ℕ, ◌^◌, ◌<◌, ◌≡◌, false, List, ◌++◌, Float}
+use Rattle.std.proofs.Common.{arith}
 use Rattle.std.proofs.Math.ListN.{get_or}
 use borrow.Author.Tests.{lt-ltb}
 use Rattle.laws.specs.First.{first_at, first_is, none_first}
 use Rattle.laws.specs.Folds.{any}
 use Rattle.laws.specs.Tables.{tab, get_or-tab}
 use Rattle.weight_store.specs.Entries.{Entry}
-use Rattle.weights.specs.declared.answer.SixWeights.{SixWeights}
 use Rattle.weights.specs.declared.answer.Weights.TheVariants.{Found, Refused}
 use Rattle.weights.specs.Answers.{six_of, look_up}
-use Rattle.weights.specs.Leads.{takes_none}
+use Rattle.weights.proofs.Leads.{takes_none}
 use Rattle.weights.specs.LookUp.{taken, first_taken, slot_weight, missing, first_missing}
 
 module _ (n : ℕ) (e : ℕ → Entry) (day : ℕ) (small : (i : ℕ) → (e i).issue < 2 ^ 16) where

@@ -1,10 +1,10 @@
 -- The record that a slot takes is the first of those with the greatest key, which one walk finds. Assumes nothing.
-use Rattle.std.specs.Prelude.{ℕ, zero, suc, ◌+◌, ◌*◌, ◌^◌, ◌≤◌, ◌<◌, ◌≡◌, refl, Bool, true, false, not, ◌&&◌, ◌||◌, cond, ◌⊎◌, ◌≢◌, eqb}
+use Rattle.std.specs.Prelude.{ℕ, zero, suc, ◌+◌, ◌^◌, ◌≤◌, ◌<◌, ◌≡◌, refl, Bool, true, false, not, ◌&&◌, ◌⊎◌, ◌≢◌, eqb}
 use Rattle.std.proofs.Math.Path.{sym}
 use Rattle.std.proofs.Common.{◌∙◌, inr, arith}
 use Rattle.std.proofs.Math.Logic.{inl, ⊎_elim}
 use Rattle.std.proofs.Math.Dec.{ltb}
-use borrow.Author.Tests.{ltb-true, ltb-false, le-ltb, eqb-true, eq-eqb, ne_eqb, not-true}
+use borrow.Author.Tests.{ltb-false, le-ltb, eqb-true, not-true}
 use Rattle.laws.specs.Bools.{which, not_both, both, both_left, both_right, and_none, and_rest, not_of, contrary, same?, less?}
 use Rattle.laws.specs.Folds.{any, any_none, any_no, none_any}
 use Rattle.weight_store.specs.Entries.{Entry}

@@ -1,0 +1,2 @@
+-- Laws of fields that were put (FieldLaws).
+pub mod FieldLaws
