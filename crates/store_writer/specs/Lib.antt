@@ -1,3 +1,2 @@
--- What the store's writer answers and leaves, and how it is read.
+-- What the store's writer answers and leaves. How it is read: proofs/StoredLaws.
 pub mod Stored
-pub mod StoredLaws

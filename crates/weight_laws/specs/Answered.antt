@@ -1,13 +1,12 @@
 -- What a store that answers is: every record passes, no two disagree, and each slot's weight is that of a started record of the slot such that no
 -- started record of the slot is later, or as late with a higher issue. Assumes nothing.
-use Rattle.std.specs.Prelude.{ℕ, zero, suc, ◌^◌, ◌≤◌, ◌<◌, ◌≡◌, refl, Bool, true, false, not, cond, List, ◌⊎◌, T, eqb, leb, Float}
-use Rattle.std.proofs.Common.{◌∙◌, arith}
+use Rattle.std.specs.Prelude.{ℕ, zero, suc, ◌≤◌, ◌<◌, ◌≡◌, refl, Bool, true, false, not, cond, List, ◌⊎◌, T, Float}
+use Rattle.std.proofs.Common.{arith}
 use Rattle.std.specs.Float.{nan, inf, fin}
 use Rattle.std.specs.Float.Ieee.{of_bits, to_bits, fits, is_nan, binary64}
-use Rattle.std.specs.Float.Ieee.Bits.{of_bits-fits, to_bits-of_bits}
-use borrow.Author.Tests.{eqb-true, eq-eqb, leb-true, le-leb, not-false}
-use Rattle.laws.specs.Bools.{both, both_left, both_right, never}
-use Rattle.laws.specs.Folds.{any, any_none}
+use Rattle.std.specs.Float.Ieee.Bits.{to_bits-of_bits}
+use Rattle.laws.specs.Bools.{never}
+use Rattle.laws.specs.Folds.{any}
 use Rattle.fp.specs.Inside.{mass_finite}
 use Rattle.fp.specs.Num.{finite}
 use Rattle.fp.specs.Ranges.{is_mass}
@@ -15,11 +14,9 @@ use Rattle.bits.specs.Field.{field_lt}
 use Rattle.weight_store.specs.Entries.{Entry}
 use Rattle.weights.specs.declared.answer.SixWeights.{SixWeights}
 use Rattle.weights.specs.declared.answer.Weights.TheVariants.{Found, Refused}
-use Rattle.weight_store.specs.Entries.{entry_count, entry_of, issue_lt}
+use Rattle.weight_store.specs.Entries.{entry_count, entry_of}
 use Rattle.laws.specs.First.{first_none}
-use Rattle.weights.proofs.Leads.{takes, taken_started, taken_top}
-use Rattle.weights.specs.LookUp.{started, missing, first_taken, slot_weight, first_missing}
-use Rattle.weight_store.specs.Passed.{passed}
+use Rattle.weights.specs.LookUp.{missing, slot_weight, first_missing}
 use Rattle.weight_store.specs.Refusals.{entry_refused, first_refused, disagrees_earlier, first_disagreeing}
 use Rattle.weight_store.specs.Values.{weight_back}
 use Rattle.weights.specs.Answers.{six_of, look_up, passed_answer, weights_of}
@@ -64,7 +61,7 @@ in_slot x (suc (suc (suc zero))) = x.w3
 in_slot x (suc (suc (suc (suc zero)))) = x.w4
 in_slot x (suc (suc (suc (suc (suc k))))) = x.w5
 
-six_slot : (n : ℕ) (e : ℕ → Entry) (day k : ℕ) → k < 6 → in_slot (six_of n e day) k ≡ slot_weight n e day k
+pub six_slot : (n : ℕ) (e : ℕ → Entry) (day k : ℕ) → k < 6 → in_slot (six_of n e day) k ≡ slot_weight n e day k
 unfolding six_of
 six_slot n e day zero l = refl
 six_slot n e day (suc zero) l = refl
@@ -103,32 +100,3 @@ stored_bits s day slot w i t =
 pub record InRange (w : Float) : Type 0 where
   pub mass : is_mass w ≡ true
   pub double : T (fits binary64 w)
-
-module _ (s : List ℕ) (day : ℕ) (x : SixWeights) (h : weights_of s day ≡ Found x) (slot : ℕ) (l : slot < 6) where
-  pub taken_entry : (i : ℕ) × TakenEntry s day slot (in_slot x slot) i
-  unfolding started missing slot_weight weight_back
-  taken_entry =
-      let a = answered s day x h in
-      let n = entry_count s in
-      let e = entry_of s in
-      let t = takes n e day slot (issue_lt s) (not-false _ (any_none (missing n e day) 6 a.complete slot l)) in
-      let i = first_taken n e day slot in
-      let st = taken_started n e day slot i t.is_it in
-      let w : in_slot x slot ≡ weight_back (e i).value = rw (← a.six) (six_slot n e day slot l) in (
-        i,
-        record {
-          there = t.below;
-          its_slot = eqb-true _ _ (both_left (eqb (e i).setting slot) (leb (e i).start day) st);
-          not_after = leb-true _ _ (both_right (eqb (e i).setting slot) (leb (e i).start day) st);
-          its_value = w;
-          inside = rw w (passed s i (any_none (entry_refused s) n a.accepted.passed i t.below)).inside;
-          top = λ j lj p q. taken_top n e day slot i t.is_it j lj (both (eq-eqb _ _ p) (le-leb _ _ q));
-        },
-      )
-
-  -- it is a double from 0 to 1,000,000,000
-  pub slot_inside : InRange (in_slot x slot)
-  unfolding weight_back
-  slot_inside =
-      let (i, t) = taken_entry in
-      record { mass = t.inside; double = rw t.its_value (of_bits-fits binary64 (entry_of s i).value) }

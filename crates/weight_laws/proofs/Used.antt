@@ -1,10 +1,10 @@
 -- "for a policy record's weights (those its strategy leaves unused stay zero there)": a policy record that takes a store's answer is not refused for
 -- it, by layout's own conditions: not by 8, for its unused weights are zero, nor by 11, for its weights are in their range. Assumes nothing.
-use Rattle.std.specs.Prelude.{ℕ, ◌≡◌, refl, true, false, List, ◌≢◌, T, eqb, Float}
-use Rattle.std.proofs.Common.{sym, ◌∙◌, arith, ne_eqb}
+use Rattle.std.specs.Prelude.{ℕ, ◌≡◌, refl, true, false, List, ◌≢◌, Float}
+use Rattle.std.proofs.Common.{arith, ne_eqb}
 use Rattle.std.specs.Float.Ieee.{of_bits, to_bits, fits, lt, le, eq}
 use Rattle.std.specs.Float.{binary64}
-use Rattle.std.specs.Float.Ieee.Bits.{of_bits-to_bits, of_bits-fits}
+use Rattle.std.specs.Float.Ieee.Bits.{of_bits-to_bits}
 use Rattle.fp.specs.Num as Num
 use Rattle.fp.specs.Ranges.{is_mass, is_tick_rate}
 use Rattle.components.specs.declared.Strategy.{Strategy}
@@ -16,7 +16,8 @@ use Rattle.layout.specs.Refusals.{strategy_at, unused_weights, refusal8_policy, 
 use Rattle.weights.specs.declared.answer.SixWeights.{SixWeights}
 use Rattle.weights.specs.declared.answer.Weights.TheVariants.{Found}
 use Rattle.weights.specs.Answers.{weights_of, used_by}
-use Rattle.weight_laws.specs.Answered.{InRange, slot_inside}
+use Rattle.weight_laws.specs.Answered.{InRange}
+use Rattle.weight_laws.proofs.Taken.{slot_inside}
 
 -- the weights of a policy record are these six
 pub record TakesSix (f : Fields) (x : SixWeights) : Type 0 where

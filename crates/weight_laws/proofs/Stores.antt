@@ -1,12 +1,9 @@
 -- "A record repeated with an equal value is harmless", and the order of the records does not matter: stores with the same records answer the same.
 -- Assumes nothing.
-use Rattle.std.specs.Prelude.{ℕ, ◌+◌, ◌*◌, ◌≤◌, ◌<◌, ◌≡◌, true, false, List, length}
-use Rattle.std.proofs.Common.{sym, ◌∙◌, ⊎_elim, arith, le-ltb}
-use Rattle.std.specs.Float.Ieee.{of_bits}
-use Rattle.std.specs.Float.{binary64}
+use Rattle.std.specs.Prelude.{ℕ, ◌+◌, ◌*◌, ◌≤◌, ◌<◌, ◌≡◌, false, List, length}
+use Rattle.std.proofs.Common.{sym, ◌∙◌, ⊎_elim, arith}
 use Rattle.laws.specs.Bools.{less?}
 use Rattle.laws.specs.Folds.{any, any_none, none_any}
-use Rattle.fp.specs.Ranges.{is_mass}
 use Rattle.weight_store.specs.Entries.{entry_count, entry_of, issue_lt}
 use Rattle.laws.specs.First.{none_first}
 use Rattle.weight_store.specs.Passed.{passed, is_passed}
@@ -14,7 +11,8 @@ use Rattle.weight_store.specs.Refusals.{entry_refused, first_refused}
 use Rattle.weights.specs.Answers.{weights_of, passed_answer}
 use Rattle.weight_laws.specs.Answered.{AcceptedStore}
 use Rattle.weight_laws.specs.Value.{same_inside}
-use Rattle.weight_laws.specs.Same.{SameEntry, same_entry, same_entry_sym, Among, agreed, look_up_same}
+use Rattle.weight_laws.specs.Same.{SameEntry, same_entry, same_entry_sym, Among, agreed}
+use Rattle.weight_laws.proofs.SameLookUp.{look_up_same}
 
 -- a record of t passes that is whole, is one of the first 256 and is like one of s that passes
 pub passes_too : (s t : List ℕ) (i j : ℕ) → entry_refused s i ≡ false → SameEntry (entry_of t j) (entry_of s i) → 15 * j + 15 ≤ length t → j ≤ 255

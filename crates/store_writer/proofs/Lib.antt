@@ -1,0 +1,2 @@
+-- How what the store's writer leaves is read (StoredLaws).
+pub mod StoredLaws
