@@ -1,8 +1,4 @@
--- What a writer finishes, and how it is read.
+-- What a writer finishes (Run), and how it is read (Decoded); theorems of both stand in proofs/.
 pub mod Run
-pub mod RunLaws
-pub mod Verdicts
 pub mod Decoded
-pub mod Sheets
-pub mod Optional
 pub mod Worked

@@ -1,5 +1,5 @@
 -- A worked sheet: a policy alone, as document 01's example starts, into a buffer that held ones and zeros. Assumes nothing.
-use Rattle.std.specs.Prelude.{ℕ, ◌≡◌, refl, List, [], ◌∷◌, ◌++◌, Float}
+use Rattle.std.specs.Prelude.{ℕ, ◌≡◌, refl, [], ◌∷◌, ◌++◌, Float}
 use Rattle.std.specs.Float.{binary64}
 use Rattle.std.specs.Float.Ieee.{of_bits, to_bits}
 use Rattle.laws.specs.Tables.{tab}
@@ -11,7 +11,7 @@ use Rattle.values.specs.Values.{policy_values}
 use Rattle.encoder.specs.Encoded.{fields_put, record_at}
 use Rattle.writer.specs.declared.Edition.TheVariants.{First}
 use Rattle.writer.specs.Puts.{head_put, finished}
-use Rattle.writer_laws.specs.Run.{Item, policy, counts_at, buffer_at, sheet_at}
+use Rattle.writer_laws.specs.Run.{policy, counts_at, buffer_at, sheet_at}
 
 -- SCAN with 60 ticks a second
 abbrev scan : Policy

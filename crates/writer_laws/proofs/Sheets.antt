@@ -29,9 +29,10 @@ use Rattle.accepted.specs.Accepted.{Each, counts, and_next, no_records}
 use Rattle.writer.specs.declared.Edition.{Edition}
 use Rattle.writer_laws.specs.Run.{Item, policy, stop, line, car, aboard, waiting, demand, closed, item_kind, across_of, counts_at}
 use Rattle.writer_laws.specs.Run.{AllWritten, sheet_at}
-use Rattle.writer_laws.specs.RunLaws.{taken_at, item_reads, all_at, across_at}
-use Rattle.writer_laws.specs.Verdicts.{kind_back, edition_is}
-use Rattle.writer_laws.specs.Decoded.{ItemFits, Decoded, decoded, stop_in, car_in}
+use Rattle.writer_laws.proofs.RunLaws.{taken_at, item_reads, all_at, across_at}
+use Rattle.writer_laws.proofs.Verdicts.{kind_back, edition_is}
+use Rattle.writer_laws.specs.Decoded.{ItemFits, Decoded, stop_in, car_in}
+use Rattle.writer_laws.proofs.DecodedLaws.{decoded}
 
 module _ (s : List ℕ) (e : Edition) (r : ℕ → Item) (n : ℕ) (w : AllWritten s e r n) where
   -- the record of kind k after those counted is the item with this index

@@ -29,8 +29,8 @@ use Rattle.writer.specs.declared.Edition.{Edition}
 use Rattle.writer.specs.declared.Edition.TheVariants.{First, Second}
 use Rattle.writer.specs.Puts.{padding, edition_code}
 use Rattle.writer_laws.specs.Run.{Item, item_kind, across_of, counts_at, AllWritten, sheet_at}
-use Rattle.writer_laws.specs.RunLaws.{known, across_at, end_at, ends_rise, taken_at, item_reads, sheet_length, edition_read}
-use Rattle.writer_laws.specs.RunLaws.{count_read, tail_read}
+use Rattle.writer_laws.proofs.RunLaws.{known, across_at, end_at, ends_rise, taken_at, item_reads, sheet_length, edition_read}
+use Rattle.writer_laws.proofs.RunLaws.{count_read, tail_read}
 
 -- ---- numbers that their fields can hold
 

@@ -24,7 +24,8 @@ use Rattle.encoder.specs.Encoded.{record_fields, record_values}
 use Rattle.encoder.specs.EncodedLaws.{Reads}
 use Rattle.writer.specs.declared.Edition.{Edition}
 use Rattle.writer_laws.specs.Run.{Item, car, aboard, waiting, item_kind, item_values, across_of}
-use Rattle.writer_laws.specs.Decoded.{CarFits, AboardFits, WaitingFits, phase_back}
+use Rattle.writer_laws.specs.Decoded.{CarFits, AboardFits, WaitingFits}
+use Rattle.writer_laws.proofs.DecodedLaws.{phase_back}
 
 -- ---- an optional id, a threshold, the stop of a phase
 
