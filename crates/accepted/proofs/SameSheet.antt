@@ -1,4 +1,5 @@
 -- The limit is bytes 6 and 7, whole. Two accepted byte lists that agree everywhere else have the same counts and the same sheet. Assumes nothing.
+use Rattle.std.specs.Prelude.{Ok}
 use Rattle.std.specs.Prelude.{ℕ, zero, suc, ◌+◌, ◌*◌, ◌≤◌, ◌<◌, ◌≡◌, List, ◌⊎◌}
 use Rattle.std.proofs.Common.{sym, ap, ◌∙◌, subst, inl, inr, ⊎_elim, mul-zero, mul-one, mul-le-mul_left, arith}
 use Rattle.std.proofs.Math.Path.{fun_ext}
@@ -7,7 +8,6 @@ use Rattle.bits.specs.Field.{field_at, field_ext}
 use Rattle.components.specs.Codes.{kind_of}
 use Rattle.components.specs.declared.Kind.TheVariants as kind
 use Rattle.layout.specs.declared.Counts.{Counts}
-use Rattle.layout.specs.declared.Reading.TheVariants.{Accepted}
 use Rattle.layout.specs.Table.{head_edition_field, head_count_field, policy_strategy_field, policy_rate_field, policy_traffic_field, policy_w0_field, policy_w1_field, policy_w2_field, policy_w3_field, policy_w4_field}
 use Rattle.layout.specs.Table.{policy_w5_field, closed_stop_field}
 use Rattle.layout.specs.Offsets.{head_length, stop_start, line_start, car_start, aboard_start, waiting_start, demand_start, closed_start, record_length, across_bits, none, next, end_of}
@@ -58,17 +58,17 @@ module _ (s t : List ℕ) (agree : AgreeButLimit s t) where
       (λ (l : 64 ≤ end_of c). late (end_of c + 0) 6 (omega arith))
       (less? (end_of c) 64)
 
-  counts_from : (n : ℕ) (c d e : Counts) → records_verdict s n c ≡ Accepted d → records_verdict t n c ≡ Accepted e → d ≡ e
+  counts_from : (n : ℕ) (c d e : Counts) → records_verdict s n c ≡ Ok d → records_verdict t n c ≡ Ok e → d ≡ e
   counts_from zero c d e p q = sym (at_end s c d p) ∙ at_end t c e q
   counts_from (suc n) c d e p q =
       counts_from n (next c (kind_of (kind_at s c))) d e (on s n c d p).1
-      (subst (λ k. records_verdict t n (next c (kind_of k)) ≡ Accepted e) (sym (kind_same c)) (on t n c e q).1)
+      (subst (λ k. records_verdict t n (next c (kind_of k)) ≡ Ok e) (sym (kind_same c)) (on t n c e q).1)
 
-  pub counts_same : (c d : Counts) → verdict s ≡ Accepted c → verdict t ≡ Accepted d → c ≡ d
+  pub counts_same : (c d : Counts) → verdict s ≡ Ok c → verdict t ≡ Ok d → c ≡ d
   counts_same c d p q =
       counts_from (record_count s) (at_first s) c d (headed s c p).rest
-      (subst (λ w. records_verdict t (record_count s) (none (across_bits w)) ≡ Accepted d) (sym (early head_edition_field.start head_edition_field.width (omega arith)))
-      (subst (λ n. records_verdict t n (at_first t) ≡ Accepted d) (sym (early head_count_field.start head_count_field.width (omega arith)))
+      (subst (λ w. records_verdict t (record_count s) (none (across_bits w)) ≡ Ok d) (sym (early head_edition_field.start head_edition_field.width (omega arith)))
+      (subst (λ n. records_verdict t n (at_first t) ≡ Ok d) (sym (early head_count_field.start head_count_field.width (omega arith)))
       (headed t d q).rest))
 
   policy_same : policy_of (from s head_length) ≡ policy_of (from t head_length)
@@ -107,5 +107,5 @@ module _ (s t : List ℕ) (agree : AgreeButLimit s t) where
         closed = λ j. read (past (closed_start c j) (omega arith) i) closed_stop_field;
       }
 
-  pub sheet_same : (c d : Counts) → verdict s ≡ Accepted c → verdict t ≡ Accepted d → sheet_of s c ≡ sheet_of t d
+  pub sheet_same : (c d : Counts) → verdict s ≡ Ok c → verdict t ≡ Ok d → sheet_of s c ≡ sheet_of t d
   sheet_same c d p q = by_counts c (accepted s c p).one_policy ∙ ap (sheet_of t) (counts_same c d p q)

@@ -1,4 +1,8 @@
 -- The verdict "accepted" makes a sound sheet. Assumes nothing.
+use Rattle.std.specs.Prelude.{Ok, Result}
+use Rattle.layout.specs.declared.Refusal.{Refusal}
+use Rattle.layout.specs.Refused.{refused}
+use Rattle.std.specs.Prelude.{None, Some}
 use Prim.Native.Nat.{ℕ, zero, suc, ◌+◌, ◌-◌, ◌*◌, ◌/◌, ◌≤◌, ◌<◌}
 use Rattle.std.specs.Prelude.{◌≡◌, refl, Bool, true, not, ◌&&◌, cond, List, ◌⊎◌, ◌≢◌, ltb, Float, length}
 use Rattle.std.proofs.Math.Path.{sym}
@@ -18,13 +22,10 @@ use Rattle.components.specs.declared.Kind.TheVariants.{Policy, Stop, Line, Car, 
 use Rattle.components.specs.declared.Phase.{Phase}
 use Rattle.components.specs.declared.Phase.TheVariants.{Idle, MovingToStop, Repositioning, DoorOpening, Loading, DoorClosing, Stopped}
 use Rattle.components.specs.declared.Phase.TheVariants as phases
-use Rattle.components.specs.declared.Threshold.TheVariants.{Absent, At}
 use Rattle.components.specs.Codes.{kind_of, phase_of, by_code, by_kind, strategy_code, phase_code}
 use Rattle.components.specs.Cars.{is_moving, moving_target}
 use Rattle.components.specs.declared.Kind.TheVariants as kind
 use Rattle.layout.specs.declared.Counts.{Counts}
-use Rattle.layout.specs.declared.Reading.{Reading}
-use Rattle.layout.specs.declared.Reading.TheVariants.{Refused, Accepted}
 use Rattle.layout.specs.Offsets.{head_length, stop_start, line_start, car_start, aboard_start, waiting_start, demand_start, closed_start, record_length, across_bits, next, end_of}
 use Rattle.layout.specs.Offsets.{last_kind, stops_from, lines_from, cars_from, Small}
 use Rattle.layout.specs.Table.{past, car_across_field, car_has_bypass_up_field, car_has_bypass_down_field, car_bypass_down_field, policy_limit_field, policy_rate_field, policy_w0_field, policy_w1_field, policy_w2_field}
@@ -308,38 +309,38 @@ pub record Whole (s : List ℕ) (c : Counts) : Type 0 where
   pub tail : tail_fits s c ≡ true
 
 -- a place where no rule holds
-not_given : (n at : ℕ) (rest : Reading) (c : Counts) → given n at rest ≡ Accepted c → (n ≡ 0) × (rest ≡ Accepted c)
+not_given : (n at : ℕ) (rest : Result Counts Refusal) (c : Counts) → given n at rest ≡ Ok c → (n ≡ 0) × (rest ≡ Ok c)
 not_given n at rest c e =
-    let r : Bool → Reading = λ b. cond b rest (Refused n at) in
+    let r : Bool → Result Counts Refusal = λ b. cond b rest (refused n at) in
     ⊎_elim
     (λ (t : eqb n 0 ≡ true). (eqb-true n 0 t, sym (ap r t) ∙ e))
     (λ (t : eqb n 0 ≡ false). absurd (refused≢accepted (sym (ap r t) ∙ e)))
     (which (eqb n 0))
 
-tail_end : (s : List ℕ) (c d : Counts) → tail_verdict s c ≡ Accepted d → (refusal6_empty s ≡ false) × (tail_fits s c ≡ true) × (c ≡ d)
+tail_end : (s : List ℕ) (c d : Counts) → tail_verdict s c ≡ Ok d → (refusal6_empty s ≡ false) × (tail_fits s c ≡ true) × (c ≡ d)
 unfolding tail_verdict first_of refusal16
 tail_end s c d e =
-    let a = not_given (first_of (tail_rules s c)) (end_of c) (Accepted c) d e in
+    let a = not_given (first_of (tail_rules s c)) (end_of c) (Ok c) d e in
     let b = pick_none (refusal6_empty s) 6 _ (omega arith) a.0 in
     let g = pick_none (refusal16 s c) 16 0 (omega arith) b.1 in
     (b.0, not-false (tail_fits s c) g.0, same_counts a.1)
 
 -- no record is left
-pub at_end : (s : List ℕ) (c d : Counts) → records_verdict s 0 c ≡ Accepted d → c ≡ d
+pub at_end : (s : List ℕ) (c d : Counts) → records_verdict s 0 c ≡ Ok d → c ≡ d
 unfolding records_verdict
 at_end s c d e = (tail_end s c d e).2
 
-at_tail : (s : List ℕ) (c d : Counts) → Records s c → 0 < c.policies → tail_verdict s c ≡ Accepted d → Whole s d
+at_tail : (s : List ℕ) (c d : Counts) → Records s c → 0 < c.policies → tail_verdict s c ≡ Ok d → Whole s d
 at_tail s c d h f e = let r = tail_end s c d e in subst (Whole s) r.2 (record { records = h; first = f; tail = r.1 })
 
 -- no record was refused
-pub on : (s : List ℕ) (n : ℕ) (c d : Counts) → records_verdict s (suc n) c ≡ Accepted d
-    → Clean s c × (records_verdict s n (next c (kind_of (kind_at s c))) ≡ Accepted d)
+pub on : (s : List ℕ) (n : ℕ) (c d : Counts) → records_verdict s (suc n) c ≡ Ok d
+    → Clean s c × (records_verdict s n (next c (kind_of (kind_at s c))) ≡ Ok d)
 unfolding records_verdict
 on s n c d e =
     let a = not_given (record_refusal s c) (end_of c) (records_verdict s n (next c (kind_of (kind_at s c)))) d e in (clean s c a.0, a.1)
 
-from_here : (s : List ℕ) (n : ℕ) (c d : Counts) → Records s c → (0 < c.policies) ⊎ (0 < n) → records_verdict s n c ≡ Accepted d
+from_here : (s : List ℕ) (n : ℕ) (c d : Counts) → Records s c → (0 < c.policies) ⊎ (0 < n) → records_verdict s n c ≡ Ok d
     → Whole s d
 unfolding records_verdict
 from_here s zero c d h f e = at_tail s c d h (⊎_elim (λ x. x) (λ x. absurd (omega arith)) f) e
@@ -350,16 +351,16 @@ from_here s (suc n) c d h f e =
 pub record Headed (s : List ℕ) (c : Counts) : Type 0 where
   pub three : 3 ≤ length s
   pub some : 0 < record_count s
-  pub rest : records_verdict s (record_count s) (at_first s) ≡ Accepted c
+  pub rest : records_verdict s (record_count s) (at_first s) ≡ Ok c
 
-pub headed : (s : List ℕ) (c : Counts) → verdict s ≡ Accepted c → Headed s c
+pub headed : (s : List ℕ) (c : Counts) → verdict s ≡ Ok c → Headed s c
 unfolding verdict first_of records_verdict refusal2_head refusal6_empty
 headed s c e =
     let a = not_given (first_of (head_rules s)) 0 (records_verdict s (record_count s) (at_first s)) c e in
     let b = pick_none (refusal2_head s) 2 _ (omega arith) a.0 in
     let long = ltb-false (8 * length s) head_length b.0 in
     let some : record_count s ≡ 0 → ⊥ = λ z.
-    not_both (eq-eqb (record_count s) 0 z) (tail_end s (at_first s) c (subst (λ n. records_verdict s n (at_first s) ≡ Accepted c) z a.1)).0 in
+    not_both (eq-eqb (record_count s) 0 z) (tail_end s (at_first s) c (subst (λ n. records_verdict s n (at_first s) ≡ Ok c) z a.1)).0 in
     record {
       three = omega arith;
       some = ⊎_elim (λ (l : 0 < record_count s). l) (λ (l : record_count s ≤ 0). absurd (some (omega arith))) (less? 0 (record_count s));
@@ -388,7 +389,7 @@ no_records P s =
       closures = λ i l. absurd (omega arith);
     }
 
-pub whole : (s : List ℕ) (c : Counts) → verdict s ≡ Accepted c → Whole s c
+pub whole : (s : List ℕ) (c : Counts) → verdict s ≡ Ok c → Whole s c
 whole s c e = let h = headed s c e in from_here s (record_count s) (at_first s) c (no_records (Read s) s) (inr h.some) h.rest
 
 -- ---- what the conditions leave of each record
@@ -594,7 +595,7 @@ up_to : (n m : ℕ) → ((i : ℕ) → i < n → i < m) → n ≤ m
 up_to zero m h = omega arith
 up_to (suc n) m h = h n (omega arith)
 
-threshold_or : (b : Bool) (x : Float) → is_threshold x ≡ true → is_threshold_or (cond b (At x) Absent) ≡ true
+threshold_or : (b : Bool) (x : Float) → is_threshold x ≡ true → is_threshold_or (cond b (Some x) None) ≡ true
 threshold_or true x h = h
 threshold_or false x h = refl
 
@@ -771,7 +772,7 @@ tail_length s c h =
     let b = ltb-true (8 * length s - end_of c) 8 (both_left (ltb (8 * length s - end_of c) 8) _ (both_right (not (past_end s (end_of c))) _ h)) in
     omega arith
 
-pub accepted : (s : List ℕ) (c : Counts) → verdict s ≡ Accepted c → Sound s c
+pub accepted : (s : List ℕ) (c : Counts) → verdict s ≡ Ok c → Sound s c
 unfolding limit_of sheet_of stop_of line_of car_of aboard_of waiting_of demand_of
 accepted s c e =
     let w = whole s c e in

@@ -1,5 +1,6 @@
 -- An optional id of an accepted sheet is 0 exactly where its present bit is not set: nothing is lost where the sheet holds the field alone. Assumes
 -- nothing.
+use Rattle.std.specs.Prelude.{Ok}
 use Rattle.std.specs.Prelude.{ℕ, ◌<◌, ◌≡◌, refl, Bool, true, false, not, ◌&&◌, List}
 use Rattle.std.proofs.Common.{sym, arith}
 use Rattle.std.proofs.Math.Dec.{eqb}
@@ -8,7 +9,6 @@ use Rattle.components.specs.Cars.{is_moving}
 use Rattle.components.specs.declared.Kind.TheVariants as kind
 use Rattle.components.specs.Codes.{phase_code}
 use Rattle.layout.specs.declared.Counts.{Counts}
-use Rattle.layout.specs.declared.Reading.TheVariants.{Accepted}
 use Rattle.layout.specs.Offsets.{car_start, aboard_start, waiting_start}
 use Rattle.layout.specs.Table.{car_id_field, car_line_field, car_stop_field, car_has_target_field, car_target_field, aboard_car_field, aboard_has_destination_field, aboard_destination_field}
 use Rattle.layout.specs.Table.{waiting_stop_field, waiting_has_line_field, waiting_line_field, waiting_has_destination_field, waiting_destination_field}
@@ -68,7 +68,7 @@ pub record Optionals (s : List ℕ) (c : Counts) : Type 0 where
   pub bound_for_lem : (i : ℕ) → i < c.waits → flag (from s (waiting_start c i)) waiting_has_destination_field ≡ not
       (eqb ((sheet_of s c).waiting i).destination 0)
 
-pub optional_ids : (s : List ℕ) (c : Counts) → verdict s ≡ Accepted c → Optionals s c
+pub optional_ids : (s : List ℕ) (c : Counts) → verdict s ≡ Ok c → Optionals s c
 unfolding sheet_of car_of aboard_of waiting_of
 optional_ids s c e =
     let r = (whole s c e).records in

@@ -1,5 +1,7 @@
 -- What document 01 says of every record of an accepted sheet, over the sheet without its bits: what is left where no refusal's condition holds.
 -- Assumes nothing.
+use Rattle.std.specs.Prelude.{None, Option, Some}
+use Rattle.std.specs.Float.{Float}
 use Rattle.std.specs.Prelude.{ℕ, ◌+◌, ◌*◌, ◌/◌, ◌≤◌, ◌<◌, ◌≡◌, Bool, true, false, List, ◌≢◌, length}
 use Rattle.components.specs.Points.{is_placed}
 use Rattle.fp.specs.Ranges.{is_speed, is_mass, is_threshold, is_tick_rate}
@@ -11,8 +13,6 @@ use Rattle.components.specs.declared.Car.{Car}
 use Rattle.components.specs.declared.Waiting.{Waiting}
 use Rattle.components.specs.declared.Strategy.TheVariants as strategies
 use Rattle.components.specs.declared.Phase.TheVariants as phases
-use Rattle.components.specs.declared.Threshold.{Threshold}
-use Rattle.components.specs.declared.Threshold.TheVariants.{Absent, At}
 use Rattle.components.specs.Cars.{is_moving, moving_target}
 use Rattle.components.specs.Sheet.{Sheet}
 use Rattle.layout.specs.declared.Counts.{Counts}
@@ -28,9 +28,9 @@ abbrev pub Distinct : (ℕ → ℕ) → ℕ → Type 0
 Distinct ids n = (a b : ℕ) → a < n → b < n → ids a ≡ ids b → a ≡ b
 
 -- "thresholds 0 to 1,000", where present
-abbrev pub is_threshold_or : Threshold → Bool
-is_threshold_or Absent = true
-is_threshold_or (At x) = is_threshold x
+abbrev pub is_threshold_or : Option Float → Bool
+is_threshold_or None = true
+is_threshold_or (Some x) = is_threshold x
 
 pub record SoundPolicy (p : Policy) : Type 0 where
   pub strategy : p.strategy ≢ strategies.Unknown

@@ -1,4 +1,5 @@
 -- Alike sheets have the same ranks: no cost knows a second coordinate but by a distance, nor what is barred. Assumes nothing.
+use Rattle.std.specs.Prelude.{None, Option, Some}
 use Rattle.std.specs.Prelude.{ℕ, zero, suc, ◌<◌, ◌≡◌, Bool, ◌&&◌, ◌||◌, ◌⊎◌, Float}
 use Rattle.std.proofs.Common.{arith, inl, inr, ⊎_elim}
 use Rattle.std.proofs.Math.Path.{refl, ap, ap₂}
@@ -17,10 +18,6 @@ use Rattle.components.specs.declared.Waiting.{Waiting}
 use Rattle.components.specs.declared.Demand.{Demand}
 use Rattle.components.specs.declared.Phase.{Phase}
 use Rattle.components.specs.declared.Phase.TheVariants.{Idle, MovingToStop, Repositioning, DoorOpening, Loading, DoorClosing, Stopped, Unknown}
-use Rattle.components.specs.declared.Threshold.{Threshold}
-use Rattle.components.specs.declared.Threshold.TheVariants as threshold
-use Rattle.components.specs.declared.Place.{Place}
-use Rattle.components.specs.declared.Place.TheVariants.{At, Nowhere}
 use Rattle.components.specs.Points.{distance}
 use Rattle.components.specs.Sheet.{Sheet}
 use Rattle.manifest.specs.World.{stop_id, stop_at, stop_position, goal, goal_of, rides}
@@ -57,29 +54,29 @@ both_looked {A} {B} p q f g z y (suc n) h =
     by false false e (inr (k, l, a, b)) = inr (k, omega arith, a, b)
 
 -- two places with one first coordinate, or none
-pub record LikePlace (p q : Place) : Type 0 where
+pub record LikePlace (p q : Option Point) : Type 0 where
   pub bypassed : {c d : Car} → LikeCar c d → {x y : Float} → x ≡ y → bypass c p x ≡ bypass d q y
   pub lit : {c d : Car} → LikeCar c d → {x y : Float} → x ≡ y → lamps_allow c x p ≡ lamps_allow d y q
   pub on_path_lem : {x y v w : Float} → x ≡ v → y ≡ w → on_path_to x y p ≡ on_path_to v w q
   pub bonus : {x y t v w u : Float} → x ≡ v → y ≡ w → t ≡ u → moving_bonus x y t p ≡ moving_bonus v w u q
   pub wrong : {x y v w : Float} → x ≡ v → y ≡ w → wrong_direction p x y ≡ wrong_direction q v w
 
-like_nowhere : LikePlace Nowhere Nowhere
+like_nowhere : LikePlace None None
 like_nowhere =
     record { bypassed = λ h e. refl; lit = λ h e. refl; on_path_lem = λ e f. refl; bonus = λ e f g. refl; wrong = λ e f. refl }
 
-same_loaded : {c d : Car} → LikeCar c d → {x y : Threshold} → x ≡ y → loaded_to c x ≡ loaded_to d y
+same_loaded : {c d : Car} → LikeCar c d → {x y : Option Float} → x ≡ y → loaded_to c x ≡ loaded_to d y
 same_loaded {c} {d} h {x} {y} e = rw e (by y)
   where
-    by : (z : Threshold) → loaded_to c z ≡ loaded_to d z
-    by threshold.Absent = refl
-    by (threshold.At pct) = rw (h.capacity, h.load)
+    by : (z : Option Float) → loaded_to c z ≡ loaded_to d z
+    by None = refl
+    by (Some pct) = rw (h.capacity, h.load)
 
 by_values : {a b g k x y : Float} {u v w z : Bool} → a ≡ b → g ≡ k → x ≡ y → u ≡ w → v ≡ z
     → cond (lt a g) (u && lt a x) (lt g a && (v && lt x a)) ≡ cond (lt b k) (w && lt b y) (lt k b && (z && lt y b))
 by_values e f g h i = cc
 
-like_at : (p q : Point) → p.along ≡ q.along → LikePlace (At p) (At q)
+like_at : (p q : Point) → p.along ≡ q.along → LikePlace (Some p) (Some q)
 unfolding on_path is_ahead
 like_at p q e =
     record {
@@ -97,10 +94,10 @@ module _ (s : Sheet) (stop : ℕ → Stop) (line : ℕ → Line) (car : ℕ → 
 
   -- ---- where a stop stands
 
-  both_placed : (id : ℕ) → Both (λ k. At (stop_at s k)) (λ k. At (stop_at t k)) Nowhere Nowhere s.stops (stop_position s id) (stop_position t id)
+  both_placed : (id : ℕ) → Both (λ k. Some (stop_at s k)) (λ k. Some (stop_at t k)) None None s.stops (stop_position s id) (stop_position t id)
   unfolding stop_position
   both_placed id =
-      both_looked (λ k. eqb (stop_id s k) id) (λ k. eqb (stop_id t k) id) (λ k. At (stop_at s k)) (λ k. At (stop_at t k)) Nowhere Nowhere s.stops
+      both_looked (λ k. eqb (stop_id s k) id) (λ k. eqb (stop_id t k) id) (λ k. Some (stop_at s k)) (λ k. Some (stop_at t k)) None None s.stops
       (λ k l. ap (λ (x : ℕ). eqb x id) (h.a_stop k l).id)
 
   like_placed : (id : ℕ) → LikePlace (stop_position s id) (stop_position t id)

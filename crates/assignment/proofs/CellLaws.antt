@@ -5,6 +5,8 @@
 --   held_ceiling               a held cell is at the ceiling, hence of a viable pair and no sentinel
 --   unlimited                  with no limit the order of the stops plays no part
 --   no_stop no_car             sheets where the Rust builds no matrix
+use Rattle.std.specs.Prelude.{None, Option, Some}
+use Rattle.std.specs.Float.{Float}
 use Prim.Native.Nat.{ℕ, ◌<◌, ◌≤◌, ◌+◌, ◌-◌, ◌*◌, max}
 use Rattle.std.specs.Prelude.{◌≡◌, refl, Bool, not, ◌&&◌, eqb}
 use Rattle.std.proofs.Common.{sym, ◌∙◌, true≢false, mul-le-mul}
@@ -18,8 +20,6 @@ use Rattle.laws.specs.Bools.{both, both_left, both_right, either, either_left, e
 use Rattle.laws.specs.Folds.{count, count-le, count_cong, count_below, Nth, nth_is}
 use Rattle.laws.specs.Sums.{sum}
 use Rattle.scale.specs.Scale.{sentinel, ceiling, scale_cost_le, held_ceiling as scaled-ceiling}
-use Rattle.components.specs.declared.Rank.{Rank}
-use Rattle.components.specs.declared.Rank.TheVariants.{Cost, Never}
 use Rattle.components.specs.Sheet.{Sheet}
 use Rattle.assignment_problem.specs.Choice.{total}
 use Rattle.assignment_problem.proofs.Chosen.{chosen_total}
@@ -30,9 +30,9 @@ use Rattle.assignment.specs.Cells.{rank, rank_cell, rank_held, cell, held_cell, 
 
 -- ---- every cell is at most the sentinel
 
-pub rank_cell_le : (r : Rank) → rank_cell r ≤ sentinel
-rank_cell_le (Cost x) = scale_cost_le x
-rank_cell_le Never = omega arith
+pub rank_cell_le : (r : Option Float) → rank_cell r ≤ sentinel
+rank_cell_le (Some x) = scale_cost_le x
+rank_cell_le None = omega arith
 
 module _ (s : Sheet) (limit : ℕ) where
   pub cell_le : (i j : ℕ) → cell s limit i j ≤ sentinel
@@ -97,9 +97,9 @@ viable_parts s i j h =
 
 -- ---- held cells
 
-rank_ceiling : (r : Rank) → rank_held r ≡ true → rank_cell r ≡ ceiling
-rank_ceiling (Cost x) h = scaled-ceiling x h
-rank_ceiling Never h = absurd (true≢false (sym h))
+rank_ceiling : (r : Option Float) → rank_held r ≡ true → rank_cell r ≡ ceiling
+rank_ceiling (Some x) h = scaled-ceiling x h
+rank_ceiling None h = absurd (true≢false (sym h))
 
 module _ (s : Sheet) (limit : ℕ) where
   held_cell_lem : (i j : ℕ) → held_cell s limit i j ≡ true → cell s limit i j ≡ ceiling

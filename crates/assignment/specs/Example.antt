@@ -1,4 +1,5 @@
 -- Document 01's example sheet, from its bytes to its lines, by computation. Assumes nothing.
+use Rattle.std.specs.Prelude.{Ok}
 use Rattle.std.specs.Prelude.{◌≡◌, refl, List, [], ◌∷◌, ℕ}
 use Rattle.std.specs.Float.Ieee.{of_bits, add, sub, mul, div, neg, lt, le, eq, round, of_int}
 use Rattle.laws.specs.Folds.{fold, any, every, count, nth, lookup}
@@ -9,7 +10,6 @@ use Rattle.mask.specs.Mask.{has}
 use Rattle.components.specs.Points.{distance}
 use Rattle.components.specs.Sheet.{Sheet}
 use Rattle.layout.specs.declared.Counts.{Counts}
-use Rattle.layout.specs.declared.Reading.TheVariants.{Accepted}
 use Rattle.layout.specs.Records.{sheet_of, limit_of}
 use Rattle.layout.specs.Verdict.{verdict}
 use Rattle.layout.specs.Open.{reading}
@@ -55,7 +55,7 @@ unfolding of_bits add sub mul div neg lt le eq round of_int fold any every count
 everything = 0
 
 -- it is accepted
-pub accepted : verdict bytes ≡ Accepted counts
+pub accepted : verdict bytes ≡ Ok counts
 unfolding everything
 accepted = refl
 

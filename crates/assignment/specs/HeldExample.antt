@@ -1,4 +1,5 @@
 -- Held cells and ranked pairs of a sheet, by computation. Assumes nothing.
+use Rattle.std.specs.Prelude.{None}
 use Rattle.std.specs.Prelude.{◌≡◌, refl, true, not, cond, List, [], ◌∷◌, ℕ, ◌+◌, eqb}
 use Rattle.std.specs.Float.Ieee.{of_bits, add, sub, mul, div, neg, lt, le, eq, round, of_int}
 use Rattle.laws.specs.Folds.{fold, any, every, count, nth, lookup}
@@ -12,7 +13,6 @@ use Rattle.components.specs.declared.Traffic.TheVariants as traffic
 use Rattle.components.specs.declared.Phase.TheVariants as phase
 use Rattle.components.specs.declared.Direction.TheVariants as direction
 use Rattle.components.specs.declared.Mode.TheVariants as mode
-use Rattle.components.specs.declared.Threshold.TheVariants as threshold
 use Rattle.components.specs.Points.{point_of, distance}
 use Rattle.components.specs.Sheet.{Sheet}
 use Rattle.manifest.specs.World.{stop_position, goal, in_group}
@@ -63,8 +63,8 @@ sheet =
         speed = natural 1;
         capacity = natural 100;
         load = cond (eqb i 2) (natural 100) zero;
-        bypassup = threshold.Absent;
-        bypassdown = threshold.Absent;
+        bypassup = None;
+        bypassdown = None;
         transition = 0;
         dwell = 0;
         restricted = cond (eqb i 2) 0x8000_0000_0000_0000 0;

@@ -1,11 +1,11 @@
 -- What document 01 says of the limit, of a cell at the sentinel and of coverage, and request F-6 of closure, on small sheets, by computation. Assumes
 -- nothing.
+use Rattle.std.specs.Prelude.{Ok}
 use Rattle.std.specs.Prelude.{ℕ, ◌≡◌, refl, true, false, List, [], ◌∷◌, ◌++◌, set}
 use Rattle.scale.specs.Scale.{sentinel}
 use Rattle.components.specs.declared.Kind.TheVariants.{Car, Aboard, Waiting, Closed}
 use Rattle.components.specs.Sheet.{Sheet}
 use Rattle.layout.specs.declared.Counts.{Counts}
-use Rattle.layout.specs.declared.Reading.TheVariants.{Accepted}
 use Rattle.layout.specs.Records.{sheet_of}
 use Rattle.layout.specs.Verdict.{verdict}
 use Rattle.layout.specs.Smallest.{Bits, number, widths, bytes, written, body, of, sheet, one, policy, scan, stop, line, waiting}
@@ -89,7 +89,7 @@ unfoldable crowd : Bits → Sheet
 crowd riders = sheet_of (crowd_bytes riders) crowd_counts
 
 -- "60 + 40 against 100 is covered; 60 + 41 isn't."
-crowd_accepted : verdict (crowd_bytes (any_line sixty ++ any_line forty)) ≡ Accepted crowd_counts
+crowd_accepted : verdict (crowd_bytes (any_line sixty ++ any_line forty)) ≡ Ok crowd_counts
 unfolding everything number widths bytes written body of sheet policy scan stop line opening any_line crowd_bytes crowd_counts
 crowd_accepted = refl
 
@@ -125,7 +125,7 @@ unfoldable pub shut_opened : ℕ
 unfolding everything number widths bytes written body of sheet policy scan stop line waiting above shut_bytes shut_counts shut
 shut_opened = 0
 
-shut_accepted : verdict shut_bytes ≡ Accepted shut_counts
+shut_accepted : verdict shut_bytes ≡ Ok shut_counts
 unfolding shut_opened
 shut_accepted = refl
 

@@ -1,5 +1,6 @@
 -- Two accepted byte lists that agree but in bars hold sheets that are alike but in bars; without a candidate limit the total of the second is no
 -- lower. One more bar changes one cell, to the sentinel. Assumes nothing.
+use Rattle.std.specs.Prelude.{Ok}
 use Rattle.std.specs.Prelude.{ℕ, suc, ◌+◌, ◌-◌, ◌/◌, ◌%◌, ◌^◌, ◌≤◌, ◌<◌, ◌≡◌, true, List, ◌⊎◌, ◌≢◌}
 use Rattle.std.proofs.Math.Path.{sym, ap, ap₂}
 use Rattle.std.proofs.Common.{◌∙◌, subst, arith, eqb-true, eq-eqb}
@@ -13,7 +14,6 @@ use Rattle.components.specs.declared.Stop.{Stop}
 use Rattle.components.specs.Points.{distance}
 use Rattle.components.specs.declared.Kind.TheVariants as kind
 use Rattle.layout.specs.declared.Counts.{Counts}
-use Rattle.layout.specs.declared.Reading.TheVariants.{Accepted}
 use Rattle.layout.specs.Table.{past, policy_limit_field, car_restricted_field, car_calls_field, closed_stop_field}
 use Rattle.layout.specs.Offsets.{head_length, stop_start, line_start, car_start, aboard_start, waiting_start, demand_start, closed_start}
 use Rattle.layout.specs.Offsets.{cars_from, aboards_from, record_length}
@@ -145,7 +145,7 @@ module _ (first second : List ℕ) (c : Counts) (agree : AgreeButBars first seco
       bars.total_grows (sheet_of first c) t.stop t.line t.car t.aboard t.waiting t.demand t.closed alike
       (λ i j li lj. more i j li (omega arith))
 
-  pub total_grows : (d : Counts) → verdict first ≡ Accepted c → verdict second ≡ Accepted d
+  pub total_grows : (d : Counts) → verdict first ≡ Ok c → verdict second ≡ Ok d
       → answered_total (sheet_of first c) no_limit ≤ answered_total (sheet_of second d) no_limit
   total_grows d p q =
       let a = accepted first c p in
@@ -163,7 +163,7 @@ module _ (first second : List ℕ) (c : Counts) (agree : AgreeButBars first seco
       bars.cell_same (sheet_of first c) t.stop t.line t.car t.aboard t.waiting t.demand t.closed alike a b la lb
       (bar c first a b l ∙ ap (λ (n : ℕ). eqb n 1) e ∙ sym (bar c second a b l))
 
-  pub cell_same : (d : Counts) → verdict first ≡ Accepted c → verdict second ≡ Accepted d
+  pub cell_same : (d : Counts) → verdict first ≡ Ok c → verdict second ≡ Ok d
       → (a b : ℕ) → a < c.cars → b < c.stops → bit_at first (bar_bit c a b) ≡ bit_at second (bar_bit c a b)
       → cell (sheet_of first c) no_limit a b ≡ cell (sheet_of second d) no_limit a b
   cell_same d p q a b la lb e =
@@ -177,7 +177,7 @@ module _ (first second : List ℕ) (c : Counts) (agree : AgreeButBars first seco
 
 -- "without a limit one more bar changes one cell, to the sentinel"
 module _ (first second : List ℕ) (c d : Counts) (i k : ℕ) (one : OneBar first second c i k)
-    (p : verdict first ≡ Accepted c) (q : verdict second ≡ Accepted d) where
+    (p : verdict first ≡ Ok c) (q : verdict second ≡ Ok d) where
   agree : AgreeButBars first second c
   agree = one_agrees first second c i k one
 

@@ -1,4 +1,5 @@
 -- Two accepted byte lists that agree but in bars have the same counts: no record's kind holds a bar. Assumes nothing.
+use Rattle.std.specs.Prelude.{Ok}
 use Rattle.std.specs.Prelude.{ℕ, zero, suc, ◌+◌, ◌*◌, ◌≤◌, ◌<◌, ◌≡◌, List, ltb}
 use Rattle.std.proofs.Math.Path.{refl}
 use Rattle.std.proofs.Common.{sym, ap, ap₂, ◌∙◌, subst, inl, inr, ⊎_elim, mul-le-mul_left, arith, ltb-false}
@@ -7,7 +8,6 @@ use Rattle.components.specs.Codes.{kind_of, by_kind}
 use Rattle.components.specs.declared.Kind.TheVariants as kind
 use Rattle.bits.specs.Field.{field_at}
 use Rattle.layout.specs.declared.Counts.{Counts}
-use Rattle.layout.specs.declared.Reading.TheVariants.{Accepted}
 use Rattle.layout.specs.Table.{head_edition_field, head_count_field}
 use Rattle.layout.specs.Offsets.{record_length, across_bits, none, next, end_of, last_kind}
 use Rattle.layout.specs.Refusals.{record_count, kind_at, refusal6}
@@ -130,7 +130,7 @@ module _ (s : List ℕ) where
       (λ _ h. without_late c d (next c kind.Closed) h refl refl refl refl refl (omega arith))
       (λ h. h)
 
-  prefix_of : (n : ℕ) (c d : Counts) → records_verdict s n c ≡ Accepted d → Prefix c d
+  prefix_of : (n : ℕ) (c d : Counts) → records_verdict s n c ≡ Ok d → Prefix c d
   prefix_of zero c d p = subst (Prefix c) (at_end s c d p) (whole c)
   prefix_of (suc n) c d p = let (r, v) = on s n c d p in without_last c d r (prefix_of n (next c (kind_of (kind_at s c))) d v)
 
@@ -175,22 +175,22 @@ module _ (c d : Counts) (h : Prefix c d) where
 -- ---- the counts
 
 module _ (first second : List ℕ) (c : Counts) (agree : AgreeButBars first second c) where
-  counts_from : (n : ℕ) (e d : Counts) → records_verdict first n e ≡ Accepted c → records_verdict second n e ≡ Accepted d → c ≡ d
+  counts_from : (n : ℕ) (e d : Counts) → records_verdict first n e ≡ Ok c → records_verdict second n e ≡ Ok d → c ≡ d
   counts_from zero e d p q = sym (at_end first e c p) ∙ at_end second e d q
   counts_from (suc n) e d p q =
       let clear = clear_kind e c (prefix_of first (suc n) e c p) in
       let same : kind_at first e ≡ kind_at second e = field_same first second c agree (end_of e + 0) 6 clear in
       counts_from n (next e (kind_of (kind_at first e))) d (on first n e c p).1
-      (subst (λ k. records_verdict second n (next e (kind_of k)) ≡ Accepted d) (sym same) (on second n e d q).1)
+      (subst (λ k. records_verdict second n (next e (kind_of k)) ≡ Ok d) (sym same) (on second n e d q).1)
 
   early_same : (at w : ℕ) → at + w ≤ 24 → field_at first at w ≡ field_at second at w
   early_same at w l = field_same first second c agree at w (clear_before c at w (omega arith))
 
-  pub counts_same : (d : Counts) → verdict first ≡ Accepted c → verdict second ≡ Accepted d → c ≡ d
+  pub counts_same : (d : Counts) → verdict first ≡ Ok c → verdict second ≡ Ok d → c ≡ d
   counts_same d p q =
       counts_from (record_count first) (at_first first) d (headed first c p).rest
-      (subst (λ w. records_verdict second (record_count first) (none (across_bits w)) ≡ Accepted d)
+      (subst (λ w. records_verdict second (record_count first) (none (across_bits w)) ≡ Ok d)
       (sym (early_same head_edition_field.start head_edition_field.width (omega arith)))
-      (subst (λ n. records_verdict second n (at_first second) ≡ Accepted d)
+      (subst (λ n. records_verdict second n (at_first second) ≡ Ok d)
       (sym (early_same head_count_field.start head_count_field.width (omega arith)))
       (headed second d q).rest))

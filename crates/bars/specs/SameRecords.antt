@@ -1,10 +1,10 @@
 -- Records with the same fields are the same. Assumes nothing.
+use Rattle.std.specs.Prelude.{None, Some}
 use Rattle.std.specs.Prelude.{ℕ, ◌+◌, ◌≤◌, ◌≡◌, Bool, cond, eqb}
 use Rattle.std.proofs.Math.Path.{ap, ap₂}
 use Rattle.std.proofs.Common.{arith}
 use Rattle.std.specs.Float.Ieee.{of_bits}
 use Rattle.std.specs.Float.{binary64}
-use Rattle.components.specs.declared.Threshold.TheVariants as threshold
 use Rattle.components.specs.declared.Kind.TheVariants.{Policy, Stop, Line, Aboard, Waiting, Demand}
 use Rattle.components.specs.Codes.{phase_of, direction_of, mode_of}
 use Rattle.layout.specs.Offsets.{record_length}
@@ -85,10 +85,10 @@ module _ (f g : Fields) where
     flag_same x l = ap (λ (n : ℕ). eqb n 1) (read_same x l)
 
     threshold_same : (p x : Field) → p.start + p.width ≤ (past w car_restricted_field).start → x.start + x.width ≤ (past w car_restricted_field).start
-        → cond (flag f p) (threshold.At (of_bits binary64 (read f x))) threshold.Absent
-        ≡ cond (flag g p) (threshold.At (of_bits binary64 (read g x))) threshold.Absent
+        → cond (flag f p) (Some (of_bits binary64 (read f x))) None
+        ≡ cond (flag g p) (Some (of_bits binary64 (read g x))) None
     threshold_same p x l m =
-        ap₂ (λ (b : Bool) (n : ℕ). cond b (threshold.At (of_bits binary64 n)) threshold.Absent) (flag_same p l) (read_same x m)
+        ap₂ (λ (b : Bool) (n : ℕ). cond b (Some (of_bits binary64 n)) None) (flag_same p l) (read_same x m)
 
     pub place_same : (car_of w f).position ≡ (car_of w g).position
     unfolding car_of

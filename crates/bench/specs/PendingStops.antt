@@ -1,4 +1,8 @@
 -- The pending stops for a host: what is answered and left, of the bytes of a sheet and of what the lent places held. One definition. Assumes nothing.
+use Rattle.std.specs.Prelude.{Err, Ok, Result}
+use Rattle.layout.specs.declared.Refusal.{Refusal}
+use Rattle.layout.specs.declared.Counts.{Counts}
+use Rattle.layout.specs.Refused.{refused}
 use Rattle.std.specs.Prelude.{ℕ, ◌≤◌, ◌<◌, ◌≡◌, Bool, true, false, cond, ltb, length, get_or, Float}
 use Rattle.std.proofs.Common.{sym, ◌∙◌, arith, ltb-false}
 use Rattle.std.proofs.Math.Path.{ap}
@@ -6,8 +10,6 @@ use mathlib.Core.List.{List, ◌++◌}
 use Rattle.std.proofs.Math.ListN.{drop}
 use Rattle.laws.specs.Tables.{tab, tab_cong}
 use Rattle.components.specs.Sheet.{Sheet}
-use Rattle.layout.specs.declared.Reading.{Reading}
-use Rattle.layout.specs.declared.Reading.TheVariants as reading
 use Rattle.layout.specs.Records.{sheet_of}
 use Rattle.layout.specs.Verdict.{verdict}
 use Rattle.manifest.specs.World.{stop_id}
@@ -19,16 +21,14 @@ use Rattle.rows.specs.MatrixLaws.{listed_count, listed_stop, column_below}
 use Rattle.pending.specs.declared.StopMasks.{StopMasks}
 use Rattle.pending.specs.Masks.{stop_mask, pending_are}
 use Rattle.cells.specs.Survey.{SeenStops}
-use Rattle.bench.specs.declared.PendingIds.{PendingIds}
-use Rattle.bench.specs.declared.PendingIds.TheVariants.{Found, Refused}
 
 -- refusal 1, of these places: fewer than the most stops of a sheet, 64
 unfoldable pub few_places : ℕ → Bool
 few_places places = ltb places 64
 
 -- "1 is tested first", at offset 0; then the verdict on the bytes
-unfoldable pub pending_outcome : List ℕ → ℕ → Reading
-pending_outcome bytes places = cond (few_places places) (reading.Refused 1 0) (verdict bytes)
+unfoldable pub pending_outcome : List ℕ → ℕ → Result Counts Refusal
+pending_outcome bytes places = cond (few_places places) (refused 1 0) (verdict bytes)
 
 -- the id of each pending stop, in column order; "Further entries keep their contents."
 unfoldable pub ids_of : Sheet → List ℕ → List ℕ
@@ -36,16 +36,16 @@ ids_of s entry = tab (λ c. stop_id s (column_stop s c)) (pending_stops s) ++ dr
 
 -- an answer, and the places as they were left
 pub record PendingDone : Type 0 where
-  pub answer : PendingIds
+  pub answer : Result ℕ Refusal
   pub stops : List ℕ
 
-abbrev pub pending_done : PendingIds → List ℕ → PendingDone
+abbrev pub pending_done : Result ℕ Refusal → List ℕ → PendingDone
 pending_done answer stops = record { answer = answer; stops = stops }
 
 -- "The answer is the number and the bit offset where the record starts"; "All lent buffers keep their contents."
-abbrev pub pending_done_of : Reading → List ℕ → List ℕ → PendingDone
-pending_done_of (reading.Refused number offset) bytes entry = pending_done (Refused number offset) entry
-pending_done_of (reading.Accepted c) bytes entry = let s = sheet_of bytes c in pending_done (Found (pending_stops s)) (ids_of s entry)
+abbrev pub pending_done_of : Result Counts Refusal → List ℕ → List ℕ → PendingDone
+pending_done_of (Err r) bytes entry = pending_done (Err r) entry
+pending_done_of (Ok c) bytes entry = let s = sheet_of bytes c in pending_done (Ok (pending_stops s)) (ids_of s entry)
 
 -- of what is lent
 abbrev pub pending_of : List ℕ → List ℕ → PendingDone
@@ -53,35 +53,35 @@ pending_of bytes entry = pending_done_of (pending_outcome bytes (length entry)) 
 
 -- the values of an answer: where the stops are found the number is 0
 
-abbrev pub pending_number : PendingIds → ℕ
-pending_number (Found count) = 0
-pending_number (Refused number offset) = number
+abbrev pub pending_number : Result ℕ Refusal → ℕ
+pending_number (Ok count) = 0
+pending_number (Err r) = r.number
 
 -- what is written where a value is lent: a refusal leaves the count, what is found the offset
 
-abbrev pub pending_count : PendingIds → ℕ → ℕ
-pending_count (Found count) entry = count
-pending_count (Refused number offset) entry = entry
+abbrev pub pending_count : Result ℕ Refusal → ℕ → ℕ
+pending_count (Ok count) entry = count
+pending_count (Err r) entry = entry
 
-abbrev pub pending_offset : PendingIds → ℕ → ℕ
-pending_offset (Found count) entry = entry
-pending_offset (Refused number offset) entry = offset
+abbrev pub pending_offset : Result ℕ Refusal → ℕ → ℕ
+pending_offset (Ok count) entry = entry
+pending_offset (Err r) entry = r.offset
 
 -- ---- laws
 
-pub same_pending : {r r' : PendingIds} {l l' : List ℕ} → r ≡ r' → l ≡ l' → pending_done r l ≡ pending_done r' l'
+pub same_pending : {r r' : Result ℕ Refusal} {l l' : List ℕ} → r ≡ r' → l ≡ l' → pending_done r l ≡ pending_done r' l'
 same_pending a b = cc
 
 -- what is answered and left, by its outcome
-pub is_pending : (bytes entry : List ℕ) {y : PendingDone} {v : Reading} → pending_outcome bytes (length entry) ≡ v → y ≡ pending_done_of v bytes entry
+pub is_pending : (bytes entry : List ℕ) {y : PendingDone} {v : Result Counts Refusal} → pending_outcome bytes (length entry) ≡ v → y ≡ pending_done_of v bytes entry
     → y ≡ pending_of bytes entry
-is_pending bytes entry {y} {v} e is = is ∙ ap (λ (o : Reading). pending_done_of o bytes entry) (sym e)
+is_pending bytes entry {y} {v} e is = is ∙ ap (λ (o : Result Counts Refusal). pending_done_of o bytes entry) (sym e)
 
-pub few : (bytes : List ℕ) (places : ℕ) → few_places places ≡ true → pending_outcome bytes places ≡ reading.Refused 1 0
+pub few : (bytes : List ℕ) (places : ℕ) → few_places places ≡ true → pending_outcome bytes places ≡ refused 1 0
 unfolding pending_outcome
 few bytes places e = rw e
 
-pub enough : (bytes : List ℕ) (places : ℕ) {v : Reading} → few_places places ≡ false → v ≡ verdict bytes → pending_outcome bytes places ≡ v
+pub enough : (bytes : List ℕ) (places : ℕ) {v : Result Counts Refusal} → few_places places ≡ false → v ≡ verdict bytes → pending_outcome bytes places ≡ v
 unfolding pending_outcome
 enough bytes places {v} e f = rw e (sym f)
 

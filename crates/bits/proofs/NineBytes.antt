@@ -1,13 +1,13 @@
 -- Laws of 64 bits read at once, across nine bytes. Assumes nothing.
-use Prim.Native.Nat.{ℕ, zero, suc, ◌+◌, ◌-◌, ◌*◌, ◌/◌, ◌%◌, ◌^◌, ◌≤◌, ◌<◌}
+use Prim.Native.Nat.{ℕ, ◌+◌, ◌-◌, ◌*◌, ◌/◌, ◌%◌, ◌^◌, ◌≤◌, ◌<◌}
 use mathlib.Core.Path.{◌≡◌, sym, ap, ◌∙◌, subst}
-use mathlib.Core.List.{List}
+use mathlib.Core.List.{List, [], ◌∷◌}
+use Rattle.std.specs.Int.{w64, from_be_bytes}
 use native.Mathlib.Omega.{arith}
 use lib.ListN.{get_or, length, get_or-eq_default}
 use native.Mathlib.Nat.{add-mul, mul_assoc, zero-div}
 use lib.Pow.{shl_lt, shl-shr, shr-shr, shr_mod, high, low, pow-add}
-use lib.Bits.{bit_and, and_mask}
-use Rattle.bits.specs.Field.{field_at, low_first, field_lt, field_split, field_byte, field_join, field_past}
+use Rattle.bits.specs.Field.{field_at, field_lt, field_split, field_byte, field_join, field_past}
 
 -- a whole byte
 whole_byte : (s : List ℕ) (k : ℕ) → get_or s k 0 < 256 → field_at s (8 * k) 8 ≡ get_or s k 0
@@ -16,6 +16,14 @@ whole_byte s k h =
     let m : 8 * k % 8 ≡ 0 = omega arith in
     let b : get_or s k 0 / 1 % 256 ≡ get_or s k 0 = omega arith in
     field_byte s (8 * k) 8 (omega arith) ∙ rw (d, m) b
+
+-- a field of whole bytes, and the byte after it
+next_byte : (s : List ℕ) (k i : ℕ) → get_or s (k + i) 0 < 256 → field_at s (8 * k) (8 * (i + 1)) ≡ field_at s (8 * k) (8 * i) * 256 + get_or s (k + i) 0
+next_byte s k i b =
+    let e : 8 * (i + 1) ≡ 8 * i + 8 = omega arith in
+    let f : 8 * (k + i) ≡ 8 * k + 8 * i = omega arith in
+    ap (field_at s (8 * k)) e ∙ field_split s (8 * k) (8 * i) 8
+    ∙ ap (λ (x : ℕ). field_at s (8 * k) (8 * i) * 256 + x) (ap (λ (x : ℕ). field_at s x 8) (sym f) ∙ whole_byte s (k + i) b)
 
 -- one byte more
 pub word_grows : (s : List ℕ) (k i : ℕ) → i < 8 → get_or s (k + i) 0 < 256
@@ -26,37 +34,20 @@ word_grows s k i h b =
     ap (λ (x : ℕ). field_at s (8 * k) (8 * i) * 2 ^ 8 % 2 ^ 64 + x) (sym (whole_byte s (k + i) b) ∙ ap (λ (x : ℕ). field_at s x 8) e)
     ∙ field_join s (8 * k) (8 * i) 8 (omega arith) ∙ ap (field_at s (8 * k)) f
 
--- ---- a load, and its bytes swapped
-
--- two bytes, then the rest
-pub two_more : (s : List ℕ) (k n : ℕ) → low_first s k (suc (suc n)) ≡ low_first s k 2 + 65536 * low_first s (k + 2) n
-unfolding low_first
-two_more s k n =
-    let e : low_first s (k + 1 + 1) n ≡ low_first s (k + 2) n = ap (λ (x : ℕ). low_first s x n) (omega arith) in
-    omega (arith, e)
-
--- byte i of those loaded
-pub nth_byte : (s : List ℕ) (k n i : ℕ) → ((j : ℕ) → get_or s j 0 < 256) → i < n → low_first s k n / 2 ^ (8 * i) % 256 ≡ get_or s (k + i) 0
-unfolding low_first
-nth_byte s k zero i h l = absurd (omega (arith, l))
-nth_byte s k (suc n) zero h l =
-    let e : (get_or s k 0 + 256 * low_first s (k + 1) n) / 1 % 256 ≡ get_or s k 0 = omega (arith, h k) in
-    e ∙ ap (λ (x : ℕ). get_or s x 0) (omega arith)
-nth_byte s k (suc n) (suc i) h l =
-    let rest = low_first s (k + 1) n in
-    let whole = get_or s k 0 + 256 * rest in
-    let e : 8 * suc i ≡ 8 + 8 * i = omega arith in
-    let f : whole / 2 ^ 8 ≡ rest = omega (arith, h k) in
-    let g : k + 1 + i ≡ k + suc i = omega arith in
-    ap (λ (x : ℕ). whole / 2 ^ x % 256) e ∙ ap (λ (x : ℕ). x % 256) (sym (shr-shr whole 8 (8 * i)) ∙ ap (λ (x : ℕ). x / 2 ^ (8 * i)) f)
-    ∙ nth_byte s (k + 1) n i h (omega (arith, l)) ∙ ap (λ (x : ℕ). get_or s x 0) g
-
--- a byte more of the load, the next below
-pub swap_grows : (s : List ℕ) (k i : ℕ) → ((j : ℕ) → get_or s j 0 < 256) → i < 8
-    → field_at s (8 * k) (8 * i) * 2 ^ 8 % 2 ^ 64 + bit_and (low_first s k 8 / 2 ^ (8 * i)) 255 ≡ field_at s (8 * k) (8 * (i + 1))
-swap_grows s k i h l =
-    ap (λ (x : ℕ). field_at s (8 * k) (8 * i) * 2 ^ 8 % 2 ^ 64 + x) (and_mask (low_first s k 8 / 2 ^ (8 * i)) 8 ∙ nth_byte s k 8 i h l)
-    ∙ word_grows s k i l (h (k + i))
+-- eight bytes, the first highest
+pub eight_bytes : (s : List ℕ) (k : ℕ) → ((j : ℕ) → get_or s j 0 < 256)
+    → from_be_bytes w64 (get_or s k 0 ∷ get_or s (k + 1) 0 ∷ get_or s (k + 2) 0 ∷ get_or s (k + 3) 0 ∷ get_or s (k + 4) 0 ∷ get_or s (k + 5) 0 ∷ get_or s (k + 6) 0 ∷ get_or s (k + 7) 0 ∷ [])
+    ≡ field_at s (8 * k) 64
+eight_bytes s k h =
+    let a : field_at s (8 * k) 8 ≡ get_or s k 0 = whole_byte s k (h k) in
+    let b : field_at s (8 * k) 16 ≡ field_at s (8 * k) 8 * 256 + get_or s (k + 1) 0 = next_byte s k 1 (h (k + 1)) in
+    let c : field_at s (8 * k) 24 ≡ field_at s (8 * k) 16 * 256 + get_or s (k + 2) 0 = next_byte s k 2 (h (k + 2)) in
+    let d : field_at s (8 * k) 32 ≡ field_at s (8 * k) 24 * 256 + get_or s (k + 3) 0 = next_byte s k 3 (h (k + 3)) in
+    let e : field_at s (8 * k) 40 ≡ field_at s (8 * k) 32 * 256 + get_or s (k + 4) 0 = next_byte s k 4 (h (k + 4)) in
+    let f : field_at s (8 * k) 48 ≡ field_at s (8 * k) 40 * 256 + get_or s (k + 5) 0 = next_byte s k 5 (h (k + 5)) in
+    let g : field_at s (8 * k) 56 ≡ field_at s (8 * k) 48 * 256 + get_or s (k + 6) 0 = next_byte s k 6 (h (k + 6)) in
+    let i : field_at s (8 * k) 64 ≡ field_at s (8 * k) 56 * 256 + get_or s (k + 7) 0 = next_byte s k 7 (h (k + 7)) in
+    omega arith
 
 -- ---- where not all of the bytes are there
 

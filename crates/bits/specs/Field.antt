@@ -14,11 +14,6 @@ unfoldable pub field_at : List ℕ → ℕ → ℕ → ℕ
 field_at s at zero = 0
 field_at s at (suc w) = field_at s at w * 2 + bit_at s (at + w)
 
--- n bytes from byte k as one number, the first lowest: the order of a load
-unfoldable pub low_first : List ℕ → ℕ → ℕ → ℕ
-low_first s k zero = 0
-low_first s k (suc n) = get_or s k 0 + 256 * low_first s (k + 1) n
-
 -- what `field` promises of its result; that it is small lets later sums and casts close
 pub record IsField (s : List ℕ) (at w r : ℕ) : Type 0 where
   pub is : r ≡ field_at s at w

@@ -2,7 +2,7 @@
 #![tactic(auto)]
 
 ghost use Rattle.std.specs.Prelude.{◌≡◌, ◌+◌, ◌-◌, ◌*◌, ◌/◌, ◌%◌, ◌^◌, ◌<◌, ◌≤◌, get_or, length, eqb};
-ghost use Rattle.bits.specs.Field.{field_at, low_first, IsField};
+ghost use Rattle.bits.specs.Field.{field_at, IsField};
 
 // Where a bit stands: its byte, and its place in that byte, 0 for the highest.
 #[derive(Clone, Copy)]
@@ -21,52 +21,28 @@ fn place(at: usize) -> BitPlace
     }
 }
 
-fn wide(x: u8) -> u64
-    ensures { (result ≡ x) × (result < 256) }
-{
-    x as u64
-}
-
 // Byte k, or 0 past the end.
 fn byte(s: &[u8], k: usize) -> u64
     ensures { (result ≡ get_or s.now k 0) × (result < 256) }
 {
-    if k < s.len() { wide(s[k]) } else { 0 }
+    if k < s.len() { u64::from(s[k]) } else { 0 }
 }
 
-// The two bytes from byte k, the first lowest.
-fn two_low_first(s: &[u8], k: usize) -> u64
-    requires { k + 2 ≤ length s.now }
-    ensures { (result ≡ low_first s.now k 2) × (result < 65536) }
-{
-    wide(s[k]) + (wide(s[k + 1]) << 8)
-}
-
-// The eight bytes from byte k, the first lowest: a single load.
-fn low_first(s: &[u8], k: usize) -> u64
-    requires { k + 8 ≤ length s.now }
-    ensures { result ≡ low_first s.now k 8 }
-{
-    let a = two_low_first(s, k);
-    let b = two_low_first(s, k + 2);
-    let c = two_low_first(s, k + 4);
-    let d = two_low_first(s, k + 6);
-    a + (b << 16) + (c << 32) + (d << 48)
-}
-
-// The eight bytes from byte k, which all lie in the slice: that load, its bytes swapped.
+// The eight bytes from byte k, which all lie in the slice: a single load, its bytes swapped.
 fn word_inside(s: &[u8], k: usize) -> u64
     requires { k + 8 ≤ length s.now }
     ensures { result ≡ field_at s.now (8 * k) 64 }
 {
-    let x = low_first(s, k);
-    let mut r: u64 = 0;
-    let mut i: usize = 0;
-    while i < 8 {
-        r = (r << 8) + ((x >> (8 * i)) & 0xff);
-        i += 1;
-    }
-    r
+    u64::from_be_bytes([
+        s[k],
+        s[k + 1],
+        s[k + 2],
+        s[k + 3],
+        s[k + 4],
+        s[k + 5],
+        s[k + 6],
+        s[k + 7],
+    ])
 }
 
 // The eight bytes from byte k, at most these to the end: past it 0. Met in the last bytes only, and kept small, so that reads are inlined.
@@ -79,10 +55,8 @@ fn word_past(s: &[u8], k: usize) -> u64
         return 0;
     }
     let mut r: u64 = 0;
-    let mut i: usize = 0;
-    while k + i < n {
-        r = (r << 8) + wide(s[k + i]);
-        i += 1;
+    for b in &s[k..] {
+        r = (r << 8) + u64::from(*b);
     }
     r << (8 * (k + 8 - n))
 }
@@ -104,11 +78,9 @@ fn window(s: &[u8], at: usize) -> u64
     requires { at < 2 ^ 60 }
     ensures { result ≡ field_at s.now at 64 }
 {
-    let p = place(at);
-    let k = p.byte;
-    let o = p.bit;
+    let BitPlace { byte: k, bit: o } = place(at);
     if k + 9 <= s.len() {
-        return (word_inside(s, k) << o) + (wide(s[k + 8]) >> (8 - o));
+        return (word_inside(s, k) << o) + (u64::from(s[k + 8]) >> (8 - o));
     }
     word_past(s, k) << o
 }
@@ -118,9 +90,7 @@ fn in_word(s: &[u8], at: usize, w: usize) -> u64
     requires { (at < 2 ^ 60) × (0 < w) × (w ≤ 57) }
     ensures { IsField s.now at w result }
 {
-    let p = place(at);
-    let k = p.byte;
-    let o = p.bit;
+    let BitPlace { byte: k, bit: o } = place(at);
     (word(s, k) << o) >> (64 - w)
 }
 
@@ -142,9 +112,7 @@ pub fn field(s: &[u8], at: u32, off: u32, w: usize) -> u64
 pub fn flag(s: &[u8], at: u32, off: u32) -> bool
     ensures { result ≡ eqb (field_at s.now (at + off) 1) 1 }
 {
-    let p = place(at as usize + off as usize);
-    let k = p.byte;
-    let o = p.bit;
+    let BitPlace { byte: k, bit: o } = place(at as usize + off as usize);
     (byte(s, k) >> (7 - o)) & 1 == 1
 }
 
@@ -159,15 +127,13 @@ pub fn field32(s: &[u8], at: u32, off: u32) -> u32
 pub fn bytes_for(n: u32) -> usize
     ensures { result ≡ (n + 7) / 8 }
 {
-    let p = place(n as usize + 7);
-    p.byte
+    place(n as usize + 7).byte
 }
 
 // How many bits are left of the byte that n bits end in, none where they end with it.
 pub fn padding(n: u32) -> usize
     ensures { result ≡ (8 - n % 8) % 8 }
 {
-    let p = place(n as usize);
-    let o = p.bit;
+    let BitPlace { bit: o, .. } = place(n as usize);
     if o == 0 { 0 } else { 8 - o }
 }

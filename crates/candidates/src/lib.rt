@@ -13,6 +13,9 @@ ghost use Rattle.candidates.specs.Cut.{viable_by, comes_before, cut, Reaches};
 
 use components::Point;
 
+// The limit that cuts nothing.
+const NO_LIMIT: u32 = 65535;
+
 // The stops that are pending and on the car's line, and not barred to it.
 pub fn viable_stops(pending: u64, restricted: u64, serves: u64) -> u64
     ensures { result ≡ built (viable_by pending restricted serves) 64 }
@@ -20,15 +23,13 @@ pub fn viable_stops(pending: u64, restricted: u64, serves: u64) -> u64
     mask::both(pending, mask::without(serves, restricted))
 }
 
-// How far each of 64 points is from x.
+// How far each of 64 points is from x. By index: a point is two numbers of the other list.
 fn fill_distances(xs: &[f64], x: Point, ds: &mut [f64])
     requires { (length xs.now ≡ 128) × (length ds.old ≡ 64) }
     ensures { ds.new ≡ tab (λ j. distance x (point_in xs.now j)) 64 }
 {
-    let mut j: usize = 0;
-    while j < 64 {
+    for j in 0..64 {
         ds[j] = x.distance(manifest::point(xs, j));
-        j += 1;
     }
 }
 
@@ -50,11 +51,7 @@ fn one_before(viable: u64, ds: &[f64], j: usize, k: usize) -> u32
     requires { (length ds.now ≡ 64) × (j < 64) × (k < 64) }
     ensures { result ≡ bit (comes_before viable ds.now j k) }
 {
-    if mask::has(viable, k) & precedes(ds[k], k, ds[j], j) {
-        1
-    } else {
-        0
-    }
+    u32::from(mask::has(viable, k) & precedes(ds[k], k, ds[j], j))
 }
 
 // A number of stops past which none is viable: few stops are counted in a few steps.
@@ -73,10 +70,8 @@ fn count_before(viable: u64, ds: &[f64], j: usize, e: usize) -> u32
     ensures { result ≡ count (comes_before viable ds.now j) 64 }
 {
     let mut n: u32 = 0;
-    let mut k: usize = 0;
-    while k < e {
+    for k in 0..e {
         n += one_before(viable, ds, j, k);
-        k += 1;
     }
     n
 }
@@ -89,13 +84,10 @@ fn is_kept(viable: u64, ds: &[f64], limit: u32, j: usize, e: usize) -> bool
     if !mask::has(viable, j) {
         return false;
     }
-    if limit == 65535 {
-        return true;
-    }
-    count_before(viable, ds, j, e) < limit
+    limit == NO_LIMIT || count_before(viable, ds, j, e) < limit
 }
 
-// The stops that the limit keeps, one by one.
+// The stops that the limit keeps, one by one, up to the last that is viable.
 fn cut_stops(viable: u64, ds: &[f64], limit: u32) -> u64
     requires { length ds.now ≡ 64 }
     ensures { result ≡ built (cut viable ds.now limit) 64 }
@@ -115,7 +107,7 @@ pub fn kept_stops(viable: u64, xs: &[f64], x: Point, limit: u32) -> u64
     requires { length xs.now ≡ 128 }
     ensures { result ≡ built (cut viable (tab (λ j. distance x (point_in xs.now j)) 64) limit) 64 }
 {
-    if limit == 65535 {
+    if limit == NO_LIMIT {
         return viable;
     }
     if mask::size(viable) <= limit {

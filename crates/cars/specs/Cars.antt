@@ -1,4 +1,5 @@
 -- The idle cars of a sheet, four at a time. Assumes nothing.
+use Rattle.std.specs.Prelude.{None}
 use Rattle.std.specs.Prelude.{ℕ, ◌+◌, ◌-◌, ◌/◌, ◌%◌, ◌<◌, ◌≤◌, min, ◌≡◌, false, cond, List, ◌++◌, ◌≢◌, eqb, length, get_or, drop, replicate, Float}
 use Rattle.std.proofs.Math.Path.{refl, ap}
 use Rattle.std.proofs.Common.{◌∙◌, eq-eqb, ne_eqb}
@@ -14,7 +15,6 @@ use Rattle.components.specs.declared.Car.{Car}
 use Rattle.components.specs.declared.Phase.TheVariants as phase
 use Rattle.components.specs.declared.Direction.TheVariants as direction
 use Rattle.components.specs.declared.Mode.TheVariants as mode
-use Rattle.components.specs.declared.Threshold.TheVariants as threshold
 use Rattle.components.specs.Sheet.{Sheet}
 
 -- a car that is no record, with x for its doubles
@@ -34,8 +34,8 @@ empty_car x =
       speed = x;
       capacity = x;
       load = x;
-      bypassup = threshold.Absent;
-      bypassdown = threshold.Absent;
+      bypassup = None;
+      bypassdown = None;
       transition = 0;
       dwell = 0;
       restricted = 0;

@@ -6,7 +6,7 @@ ghost use Rattle.layout.specs.Offsets.{Small};
 ghost use Rattle.layout.specs.Records.{sheet_of};
 ghost use Rattle.cars.specs.Cars.{blank, four_from};
 
-use components::{Car, Direction, Mode, Phase, Point, Threshold};
+use components::{Car, Direction, Mode, Phase, Point};
 use layout::Counts;
 use mask::Ones;
 
@@ -31,8 +31,8 @@ pub fn blank() -> Car
         speed: 0.0,
         capacity: 0.0,
         load: 0.0,
-        bypassup: Threshold::Absent,
-        bypassdown: Threshold::Absent,
+        bypassup: None,
+        bypassdown: None,
         transition: 0,
         dwell: 0,
         restricted: 0,
@@ -40,37 +40,26 @@ pub fn blank() -> Car
     }
 }
 
-// At most four.
-fn few(n: usize) -> usize
-    ensures { result ≡ min n 4 }
-{
-    if n < 4 { n } else { 4 }
-}
-
 // The listed cars from one on, at most four, then blank ones.
-fn four_from(s: &[u8], c: Counts, idle: Ones, first: usize) -> [Car; 4]
-    requires { Small c × (idle.count ≤ 64) × (first ≤ idle.count) × ((k : ℕ) → k < idle.count → get_or idle.at k 0 < c.cars) }
-    ensures { result ≡ four_from (sheet_of s.now c) idle first }
+fn four_from(s: &[u8], c: Counts, idle: &Ones, first: usize) -> [Car; 4]
+    requires { Small c × (idle.now.count ≤ 64) × (first ≤ idle.now.count) × ((k : ℕ) → k < idle.now.count → get_or idle.now.at k 0 < c.cars) }
+    ensures { result ≡ four_from (sheet_of s.now c) idle.now first }
 {
     let mut cars = [blank(); 4];
-    let n = few(idle.count - first);
-    let mut k: usize = 0;
-    while k < n {
+    let n = (idle.count - first).min(4);
+    for k in 0..n {
         let i = idle.at[first + k];
         cars[k] = sheet::car_at(s, c, i as u32);
-        k += 1;
     }
     cars
 }
 
 // The four of which the listed car r is one: at every fourth car they are decoded, at the others they are at hand.
-pub fn four_at(s: &[u8], c: Counts, idle: Ones, r: usize, cars: [Car; 4]) -> [Car; 4]
-    requires { Small c × (idle.count ≤ 64) × (r ≤ idle.count) × ((k : ℕ) → k < idle.count → get_or idle.at k 0 < c.cars) }
-    ensures { result ≡ cond (eqb (r % 4) 0) (four_from (sheet_of s.now c) idle r) cars }
+pub fn four_at(s: &[u8], c: Counts, idle: &Ones, r: usize, cars: &mut [Car; 4])
+    requires { Small c × (idle.now.count ≤ 64) × (r ≤ idle.now.count) × ((k : ℕ) → k < idle.now.count → get_or idle.now.at k 0 < c.cars) }
+    ensures { cars.new ≡ cond (eqb (r % 4) 0) (four_from (sheet_of s.now c) idle.now r) cars.old }
 {
     if (r & 3) == 0 {
-        four_from(s, c, idle, r)
-    } else {
-        cars
+        *cars = four_from(s, c, idle, r);
     }
 }

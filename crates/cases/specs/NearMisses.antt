@@ -1,5 +1,6 @@
 -- Near misses that P1 to P10 do not show, by computation: "Applying the limit before the line filter." "Dropping covered stops from ETD's count."
 -- Sums in another order; "60 + 40 against 100 is covered", at its edge. Assumes nothing.
+use Rattle.std.specs.Prelude.{None}
 use Rattle.std.specs.Prelude.{◌≡◌, refl, true, false, List, [], ◌∷◌, ℕ, ◌+◌, eqb, length, get_or}
 use Rattle.fp.specs.Num.{zero, natural}
 use Rattle.components.specs.declared.Policy.{Policy}
@@ -10,7 +11,6 @@ use Rattle.components.specs.declared.Phase.{Phase}
 use Rattle.components.specs.declared.Phase.TheVariants as phase
 use Rattle.components.specs.declared.Direction.TheVariants as direction
 use Rattle.components.specs.declared.Mode.TheVariants as mode
-use Rattle.components.specs.declared.Threshold.TheVariants as threshold
 use Rattle.components.specs.Points.{point_of}
 use Rattle.components.specs.Sheet.{Sheet}
 use Rattle.dispatch.specs.Waits.{wait_ticks_sum}
@@ -51,8 +51,8 @@ car_of id line ph target =
       speed = natural 2;
       capacity = natural 100;
       load = zero;
-      bypassup = threshold.Absent;
-      bypassdown = threshold.Absent;
+      bypassup = None;
+      bypassdown = None;
       transition = 1;
       dwell = 1;
       restricted = 0;

@@ -1,6 +1,7 @@
 -- Document 01's cases P1 to P10, in its order and numbering, as one table that holds by computation: P1 to P3 of the choice, P4 to P6 of scale_cost,
 -- P7 to P10 of the ranks that the pass uses, over sheets of one car; request F-9's of the choice, request F-5's, on both sides of the ceiling, and
 -- request F-12's, of a stop to the side. Assumes nothing.
+use Rattle.std.specs.Prelude.{None, Option}
 use Rattle.std.specs.Prelude.{◌≡◌, refl, Bool, true, false, ◌&&◌, List, [], ◌∷◌, ℕ, ◌+◌, ltb, length, get_or, Float}
 use Rattle.std.specs.Float.Ieee.{of_bits, add, sub, mul, div, neg, lt, le, eq, round, of_int}
 use Rattle.std.specs.Float.{binary64}
@@ -20,9 +21,6 @@ use Rattle.components.specs.declared.Phase.TheVariants as phase
 use Rattle.components.specs.declared.Direction.TheVariants as direction
 use Rattle.components.specs.declared.Mode.{Mode}
 use Rattle.components.specs.declared.Mode.TheVariants as mode
-use Rattle.components.specs.declared.Threshold.TheVariants as threshold
-use Rattle.components.specs.declared.Rank.{Rank}
-use Rattle.components.specs.declared.Rank.TheVariants.{Never}
 use Rattle.components.specs.Points.{point_of, distance}
 use Rattle.components.specs.Sheet.{Sheet}
 use Rattle.manifest.specs.World.{stop_position, goal, in_group}
@@ -73,8 +71,8 @@ car ph calls =
       speed = natural 2;
       capacity = natural 100;
       load = zero;
-      bypassup = threshold.Absent;
-      bypassdown = threshold.Absent;
+      bypassup = None;
+      bypassdown = None;
       transition = 0;
       dwell = 0;
       restricted = 0;
@@ -121,11 +119,11 @@ abbrev pub scaled : Float → ℕ × Bool
 scaled x = (scale_cost x, held_down x)
 
 -- a car at 0 that sweeps up, and a stop at 1e-9
-abbrev pub up_at_zero : Mode → Rank
+abbrev pub up_at_zero : Mode → Option Float
 up_at_zero m = sweep_rank (record { direction = direction.Up; mode = m }) (point_of zero zero) (point_of epsilon zero)
 
 -- a strict sweep up from 0
-abbrev pub up_from_zero : Point → Rank
+abbrev pub up_from_zero : Point → Option Float
 up_from_zero p = sweep_rank (record { direction = direction.Up; mode = mode.Strict }) (point_of zero zero) p
 
 -- the cells of two cars over two columns
@@ -172,7 +170,7 @@ pub record Table : Type 0 where
   pub F5 : (scaled (of_bits binary64 0x41b0_c6f7_a0b5_ed7c) ≡ (ceiling, false)) × (scaled (of_bits binary64 0x41b0_c6f7_a0b5_ed84) ≡ (ceiling, false))
       × (scaled (of_bits binary64 0x41b0_c6f7_a0b5_ed85) ≡ (ceiling, true))
   -- "P7 strict up at 0, stop at 1e-9: no rank; lenient: cell 0."
-  pub P7 : (up_at_zero mode.Strict ≡ Never) × (rank_cell (up_at_zero mode.Lenient) ≡ 0)
+  pub P7 : (up_at_zero mode.Strict ≡ None) × (rank_cell (up_at_zero mode.Lenient) ≡ 0)
   -- "P8 ETD, wait weight 1, others 0, idle phase, distance 10, speed 2: 3,500,000; moving to a stop beyond: 2,500,000."
   pub P8 : (rank_cell (etd_rank (sheet (policy strategy.Etd traffic.Idle 1 0 0 0) (natural 20) (car phase.Idle 0)) 0 0) ≡ 3_500_000)
       × (rank_cell (etd_rank (sheet (policy strategy.Etd traffic.Idle 1 0 0 0) (natural 20) (car (phase.MovingToStop 2) 0)) 0 0) ≡ 2_500_000)
@@ -187,7 +185,7 @@ pub record Table : Type 0 where
       ≡ 3_500_000)
       × (rank_cell (rsr_rank (sheet_aside (natural 4) (policy strategy.Rsr traffic.Idle 1 0 0 0) (natural 20) (car phase.Idle 0)) 0 0) ≡ 7_000_000)
   -- and SCAN's cost; "Directions .. use the first coordinate": a stop to the side alone is not ahead
-  pub F12-scan : (rank_cell (up_from_zero (point_of (natural 10) (natural 4))) ≡ 14_000_000) × (up_from_zero (point_of zero (natural 4)) ≡ Never)
+  pub F12-scan : (rank_cell (up_from_zero (point_of (natural 10) (natural 4))) ≡ 14_000_000) × (up_from_zero (point_of zero (natural 4)) ≡ None)
 
 pub table : Table
 unfolding everything

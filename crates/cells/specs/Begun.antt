@@ -1,10 +1,10 @@
 -- What the stops of an accepted sheet give the stages that make masks of them. Assumes nothing.
+use Rattle.std.specs.Prelude.{Ok}
 use Rattle.std.specs.Prelude.{ℕ, ◌≤◌, ◌≡◌, List, ◌++◌, length, Float}
 use Rattle.std.proofs.Common.{arith}
 use Rattle.laws.specs.Tables.{tab}
 use Rattle.components.specs.Sheet.{Sheet}
 use Rattle.layout.specs.declared.Counts.{Counts}
-use Rattle.layout.specs.declared.Reading.TheVariants.{Accepted}
 use Rattle.layout.specs.Records.{sheet_of}
 use Rattle.layout.specs.Verdict.{verdict}
 use Rattle.accepted.specs.Accepted.{accepted}
@@ -22,7 +22,7 @@ pub record Begun (bytes : List ℕ) (c : Counts) (ids : List ℕ) (xs : List Flo
   pub few_demands : c.demands ≤ 64
   pub few_closures : c.closures ≤ 64
 
-pub begun : (bytes : List ℕ) (c : Counts) → verdict bytes ≡ Accepted c → (ids : List ℕ) (xs : List Float) (r : List ℕ) (q : List Float)
+pub begun : (bytes : List ℕ) (c : Counts) → verdict bytes ≡ Ok c → (ids : List ℕ) (xs : List Float) (r : List ℕ) (q : List Float)
     → ids ≡ tab (stop_id (sheet_of bytes c)) c.stops ++ r → xs ≡ coordinates (stop_at (sheet_of bytes c)) c.stops q → length q ≡ 128
     → Begun bytes c ids xs
 unfolding sheet_of

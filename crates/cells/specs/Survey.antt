@@ -1,4 +1,5 @@
 -- What a pass has read of an accepted sheet before it fills rows. Assumes nothing.
+use Rattle.std.specs.Prelude.{Ok}
 use Rattle.std.specs.Prelude.{ℕ, ◌+◌, ◌≤◌, ◌<◌, ◌≡◌, refl, ◌&&◌, List, [], ◌++◌, ltb, length, get_or, take, drop, Float}
 use Rattle.std.proofs.Common.{sym, ap, ◌∙◌, append_assoc, append-nil, ⊎_elim, arith, length-append, length-take, length-drop, drop_of_length-le, take_all, take_at, drop_at, get_or-append-add, le-ltb}
 use Rattle.std.specs.Float.{nan}
@@ -11,7 +12,6 @@ use Rattle.fields.specs.Held.{held}
 use Rattle.components.specs.declared.Point.{Point}
 use Rattle.components.specs.Sheet.{Sheet}
 use Rattle.layout.specs.declared.Counts.{Counts}
-use Rattle.layout.specs.declared.Reading.TheVariants.{Accepted}
 use Rattle.layout.specs.Records.{sheet_of}
 use Rattle.layout.specs.Verdict.{verdict}
 use Rattle.accepted.specs.Sound.{SoundSheet}
@@ -141,7 +141,7 @@ weighed_of s h i l =
       room = room_finite (s.car i).capacity (s.car i).load (h.car i l).capacity (h.car i l).load;
     }
 
-pub ready : (bytes : List ℕ) (c : Counts) → verdict bytes ≡ Accepted c
+pub ready : (bytes : List ℕ) (c : Counts) → verdict bytes ≡ Ok c
     → (ids : List ℕ) (xs : List Float) (masks : StopMasks) (stops idle : Ones)
     → Survey (sheet_of bytes c) ids xs masks stops idle → (acar adest : List ℕ)
     → HoldsAboard (sheet_of bytes c) acar adest (sheet_of bytes c).aboards
@@ -163,7 +163,7 @@ ready bytes c e ids xs masks stops idle h acar adest ha someone entry sums hw =
     }
 
 -- what is held of the sheet where riders and stops were seen
-pub held_of : (bytes : List ℕ) (c : Counts) → verdict bytes ≡ Accepted c → (ids : List ℕ) (xs : List Float) (masks : StopMasks)
+pub held_of : (bytes : List ℕ) (c : Counts) → verdict bytes ≡ Ok c → (ids : List ℕ) (xs : List Float) (masks : StopMasks)
     → SeenStops (sheet_of bytes c) ids xs masks → (acar adest : List ℕ) → HoldsAboard (sheet_of bytes c) acar adest (sheet_of bytes c).aboards
     → Held (sheet_of bytes c) ids xs acar adest masks
 held_of bytes c e ids xs masks h acar adest ha =

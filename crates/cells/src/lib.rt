@@ -1,16 +1,15 @@
 // From an accepted sheet to its cells: what is read of it once, and the rows of its idle cars.
 #![tactic(auto)]
 
-ghost use Rattle.std.specs.Prelude.{◌≡◌, ◌++◌, ◌+◌, ◌≤◌, ◌<◌, length, get_or, drop};
+ghost use Rattle.std.specs.Prelude.{◌≡◌, ◌++◌, ◌+◌, ◌≤◌, ◌<◌, length, get_or, drop, Ok};
 ghost use Rattle.std.specs.Float.{nan};
 ghost use Rattle.laws.specs.Tables.{tab};
-ghost use Rattle.layout.specs.declared.Reading.TheVariants.{Accepted};
 ghost use Rattle.layout.specs.Offsets.{Small};
 ghost use Rattle.layout.specs.Records.{sheet_of, waiting_of, from};
 ghost use Rattle.layout.specs.Verdict.{verdict};
 ghost use Rattle.manifest.specs.World.{stop_id, stop_at};
 ghost use Rattle.manifest.specs.Rising.{Rising};
-ghost use Rattle.manifest.specs.Stops.{HoldsStops, Ascending, position_in};
+ghost use Rattle.manifest.specs.Stops.{HoldsStops, AtHand, position_in};
 ghost use Rattle.manifest.specs.Waiters.{with_rider};
 ghost use Rattle.manifest.specs.Manifest.{riderless_call};
 ghost use Rattle.mask.specs.Ones.{ones_of};
@@ -20,12 +19,13 @@ ghost use Rattle.rows.specs.Gathered.{put_at, Cleared, Gathered};
 ghost use Rattle.ranking.specs.RankingLaws.{HoldsRow};
 ghost use Rattle.cells.specs.Survey.{SeenStops, Survey, coordinates, idle_mask};
 
+use dispatch::Row;
 use layout::{Counts, aboard, car, stop, waiting};
-use manifest::Waiters;
+use manifest::{Stops, Waiters};
 use mask::Ones;
 use pending::StopMasks;
-use ranking::Row;
-use rows::Counted;
+use riders::Aboard;
+use rows::{Counted, Known};
 
 // The ids and the points of the stops.
 fn fill_stops(s: &[u8], c: Counts, ids: &mut [u32], xs: &mut [f64])
@@ -46,7 +46,7 @@ fn fill_stops(s: &[u8], c: Counts, ids: &mut [u32], xs: &mut [f64])
 
 // The ids and the points of the stops of an accepted sheet, and their masks.
 pub fn see_stops(s: &[u8], c: Counts, ids: &mut [u32], xs: &mut [f64]) -> StopMasks
-    requires { (verdict s.now ≡ Accepted c) × (length ids.old ≡ 64) × (length xs.old ≡ 128) }
+    requires { (verdict s.now ≡ Ok c) × (length ids.old ≡ 64) × (length xs.old ≡ 128) }
     ensures ids { (length ids.new ≡ length ids.old)
         × (ids.new ≡ tab (stop_id (sheet_of s.now c)) c.stops ++ drop c.stops ids.old) }
     ensures points { (length xs.new ≡ length xs.old)
@@ -91,32 +91,23 @@ fn clear_waiters(n: usize, sums: &mut [f64])
     requires { (n ≤ 64) × (length sums.old ≡ 320) }
     ensures { Cleared n sums.old sums.new }
 {
-    let mut j: usize = 0;
-    while j < n {
+    for j in 0..n {
         put_waiters(Waiters::none(false), j, sums);
-        j += 1;
     }
 }
 
 // The rider of the record at a bit of the sheet is met at stop j.
-fn met<'a>(
-    v: Waiters,
-    s: &'a [u8],
-    at: u32,
-    ids: &'a [u32],
-    xs: &'a [f64],
-    n: usize,
-    j: usize,
-) -> Waiters
-    requires { (n ≤ length ids.now) × Ascending ids.now n × (64 + n ≤ length xs.now) × (j < n) }
+fn met(v: Waiters, s: &[u8], at: u32, stops: &Stops, j: usize) -> Waiters
+    requires { AtHand stops.now.ids.now stops.now.points.now stops.now.count × (j < stops.now.count) }
     ensures { let rider = waiting_of (from s.now at) in
-        result ≡ with_rider v (get_or xs.now j nan) (position_in ids.now xs.now n rider.destination) rider.weight
-        rider.wait }
+        let xs = stops.now.points.now in
+        let place = position_in stops.now.ids.now xs stops.now.count rider.destination in
+        result ≡ with_rider v (get_or xs j nan) place rider.weight rider.wait }
 {
     let dest = bits::field32(s, at, waiting::DESTINATION);
     let weight = fp::double(bits::field(s, at, waiting::WEIGHT, 64));
     let wait = bits::field(s, at, waiting::WAIT, 64);
-    v.meet(ids, xs, n, j, dest, weight, wait)
+    v.meet(stops, j, dest, weight, wait)
 }
 
 // What waits at each stop, five places of sums a stop, and where someone does: each rider is met once, at the stop whose id it names.
@@ -133,19 +124,22 @@ pub fn waiting<'a>(
     ensures { Gathered (sheet_of s.now c) calls result sums.old sums.new }
 {
     let n = c.stops as usize;
+    let stops = Stops {
+        ids,
+        points: xs,
+        count: n,
+    };
     let first = c.waits_from();
     clear_waiters(n, sums);
     let mut someone: u64 = 0;
-    let mut w: u32 = 0;
-    while w < c.waits {
+    for w in 0..c.waits {
         let at = first + waiting::BITS * w;
-        let j = manifest::stop_index(ids, n, bits::field32(s, at, waiting::STOP));
+        let j = stops.index(bits::field32(s, at, waiting::STOP));
         if j < n {
             let v = rows::waiters_at(someone, calls, sums, j);
-            put_waiters(met(v, s, at, ids, xs, n, j), j, sums);
+            put_waiters(met(v, s, at, &stops, j), j, sums);
             someone = mask::with(someone, j);
         }
-        w += 1;
     }
     someone
 }
@@ -162,7 +156,7 @@ pub fn row_of<'a>(
     dests: &mut [f64],
     sides: &mut [f64],
 ) -> Row
-    requires s_value { (verdict s.now ≡ Accepted c) × (i < c.cars) × (length ids.now ≡ 64) × (length xs.now ≡ 128)
+    requires s_value { (verdict s.now ≡ Ok c) × (i < c.cars) × (length ids.now ≡ 64) × (length xs.now ≡ 128)
         × (length dests.old ≡ 512) × (length sides.old ≡ 512) }
     requires seen_stops { SeenStops (sheet_of s.now c) ids.now xs.now masks }
     ensures { HoldsRow (sheet_of s.now c) i limit result dests.new sides.new
@@ -171,11 +165,25 @@ pub fn row_of<'a>(
     let mut acar = [0u32; 512];
     let mut adest = [0u32; 512];
     fill_aboard(s, c, &mut acar, &mut adest);
-    let policy = sheet::policy_at(s);
+    let known = Known {
+        sheet: s,
+        counts: c,
+        policy: sheet::policy_at(s),
+        limit,
+        stops: Stops {
+            ids,
+            points: xs,
+            count: c.stops as usize,
+        },
+        aboard: Aboard {
+            cars: &acar,
+            destinations: &adest,
+            count: c.aboards as usize,
+        },
+        masks,
+    };
     let car = sheet::car_at(s, c, i);
-    rows::row_for(
-        s, c, policy, car, limit, ids, xs, &acar, &adest, masks, dests, sides,
-    )
+    known.row_for(car, dests, sides)
 }
 
 // The idle cars of a sheet, as a mask of their records.
@@ -184,11 +192,9 @@ fn idle_cars(s: &[u8], c: Counts) -> u64
     ensures { result ≡ idle_mask (sheet_of s.now c) }
 {
     let mut m: u64 = 0;
-    let mut i: u32 = 0;
-    while i < c.cars {
+    for i in 0..c.cars {
         let listed = bits::flag(s, c.car_start(i), car::LISTED);
         m = mask::with_if(m, listed, i as usize);
-        i += 1;
     }
     m
 }
@@ -214,7 +220,7 @@ pub fn fill_matrix<'a>(
     columns: usize,
     matrix: &mut [u64],
 ) -> Counted
-    requires s_value { (verdict s.now ≡ Accepted c) × (length ids.now ≡ 64) × (length xs.now ≡ 128) × (stops.count ≤ columns)
+    requires s_value { (verdict s.now ≡ Ok c) × (length ids.now ≡ 64) × (length xs.now ≡ 128) × (stops.count ≤ columns)
         × (columns ≤ 64) × (2048 ≤ length matrix.old) }
     requires survey { Survey (sheet_of s.now c) ids.now xs.now masks stops idle }
     ensures { FilledRows (sheet_of s.now c) limit idle.count columns matrix.old result matrix.new }
@@ -224,7 +230,22 @@ pub fn fill_matrix<'a>(
     fill_aboard(s, c, &mut acar, &mut adest);
     let mut sums = [0.0f64; 320];
     let someone = waiting(s, c, ids, xs, masks.calls, &mut sums);
-    rows::fill_rows(
-        s, c, limit, ids, xs, &acar, &adest, masks, someone, &sums, stops, idle, columns, matrix,
-    )
+    let known = Known {
+        sheet: s,
+        counts: c,
+        policy: sheet::policy_at(s),
+        limit,
+        stops: Stops {
+            ids,
+            points: xs,
+            count: c.stops as usize,
+        },
+        aboard: Aboard {
+            cars: &acar,
+            destinations: &adest,
+            count: c.aboards as usize,
+        },
+        masks,
+    };
+    rows::fill_rows(&known, someone, &sums, &stops, &idle, columns, matrix)
 }

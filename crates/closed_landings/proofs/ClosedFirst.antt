@@ -6,6 +6,10 @@
 --   fewer, other-pass    where they meet at one, fewer stops are pending, so the answer is another
 --   none-sent            no car is sent to a closed landing
 --   before               a worked case by F-2's rule; by the rule of now it is in assignment: Variants
+use Rattle.std.specs.Prelude.{Err, Ok, Result}
+use Rattle.bench.specs.declared.Passed.{Passed}
+use Rattle.layout.specs.declared.Refusal.{Refusal}
+use Rattle.bench.specs.Answers.{passed}
 use Rattle.std.specs.Prelude.{ℕ, ◌*◌, ◌<◌, ◌≤◌, min, max, ◌≡◌, refl, Bool, true, false, not, ◌&&◌, ◌||◌, cond, ◌++◌, ◌≢◌, ltb, get_or, drop}
 use Rattle.std.proofs.Common.{sym, ap, ◌∙◌, true≢false, ⊎_elim, arith, lt-ltb, le-ltb}
 use Rattle.std.proofs.Math.Path.{fun_ext}
@@ -17,8 +21,6 @@ use Rattle.laws.specs.Tables.{tab, tabs}
 use Rattle.scale.specs.Scale.{sentinel}
 use Rattle.components.specs.Sheet.{Sheet}
 use Rattle.layout.specs.declared.Counts.{Counts}
-use Rattle.layout.specs.declared.Reading.{Reading}
-use Rattle.layout.specs.declared.Reading.TheVariants as reading
 use Rattle.layout.specs.Records.{sheet_of, limit_of}
 use Rattle.manifest.specs.World.{stop_id, in_group}
 use Rattle.manifest.specs.Manifest.{has_demand, demand_stop}
@@ -30,8 +32,6 @@ use Rattle.assignment.specs.Cells.{rank_held}
 use Rattle.assignment.proofs.Decided.{never_closed}
 use Rattle.assignment.specs.Variants.{shut, shut_opened}
 use Rattle.outcome.specs.Written.{decided}
-use Rattle.bench.specs.declared.Answer.{Answer}
-use Rattle.bench.specs.declared.Answer.TheVariants.{Passed, Refused}
 use Rattle.bench.specs.Done.{Lent, Done, done, outcome_of, done_of, pass_of, written, is_written}
 use Rattle.closed_landings.specs.Under.{written_under, stops_under, column_stop_under, viable_under, nearer_under, kept_under, sweep_under, cell_under}
 use Rattle.closed_landings.specs.Under.{rank_under, matrix_under, decision_under, total_under, held_at_under, ranked_under, by_rule}
@@ -121,7 +121,7 @@ made s x ranked m place cells held swept =
     let n = idle_cars s in
     let w = max n m in
     let column = column_of cells n w in
-    done (Passed n m (least_total cells n w) ranked (sum n (λ r. count (held r) w)))
+    done (passed n m (least_total cells n w) ranked (sum n (λ r. count (held r) w)))
     (tab (λ r. cond (ltb (column r) m && ltb (cells r (column r)) sentinel) (stop_id s (place (column r))) 0) n ++ drop n x.decisions)
     (tabs cells w n ++ drop (n * w) x.cells)
     (tab (λ i. sweep_code (swept i)) s.cars ++ drop s.cars x.sweeps)
@@ -153,13 +153,13 @@ same_written s e limit x =
     by_rule s limit x ∙ same_rule s (pending s) (pending_before s) (λ j l. agrees s j (any_none (rules_meet s) s.stops e j l)) limit x
 
 -- every answer and every buffer is the same
-pub same_pass : (x : Lent) → ((c : Counts) → outcome_of x ≡ reading.Accepted c → some_meet (sheet_of x.bytes c) ≡ false)
+pub same_pass : (x : Lent) → ((c : Counts) → outcome_of x ≡ Ok c → some_meet (sheet_of x.bytes c) ≡ false)
     → pass_of x ≡ pass_before x
 same_pass x h = by (outcome_of x) h
   where
-    by : (v : Reading) → ((c : Counts) → v ≡ reading.Accepted c → some_meet (sheet_of x.bytes c) ≡ false) → done_of v x ≡ done_before v x
-    by (reading.Refused number offset) f = refl
-    by (reading.Accepted c) f = same_written (sheet_of x.bytes c) (f c refl) (limit_of x.bytes) x
+    by : (v : Result Counts Refusal) → ((c : Counts) → v ≡ Ok c → some_meet (sheet_of x.bytes c) ≡ false) → done_of v x ≡ done_before v x
+    by (Err r) f = refl
+    by (Ok c) f = same_written (sheet_of x.bytes c) (f c refl) (limit_of x.bytes) x
 
 -- ---- where they meet at one
 
@@ -177,7 +177,7 @@ fewer s e =
     weaker k h = right (closed_at s k) _ h
 
 -- "Answers that change are exactly those": the answered number of pending stops is another
-pub other_pass : (x : Lent) (c : Counts) → outcome_of x ≡ reading.Accepted c → some_meet (sheet_of x.bytes c) ≡ true
+pub other_pass : (x : Lent) (c : Counts) → outcome_of x ≡ Ok c → some_meet (sheet_of x.bytes c) ≡ true
     → pass_of x ≢ pass_before x
 unfolding pending_stops
 other_pass x c e h q =
@@ -188,14 +188,14 @@ other_pass x c e h q =
     ∙ ap (λ v. stops_of (done_before v x).answer) e in
     absurd (omega (arith, same, fewer s h))
   where
-    stops_of : Answer → ℕ
-    stops_of (Passed n m total k held) = m
-    stops_of (Refused number offset) = 0
+    stops_of : Result Passed Refusal → ℕ
+    stops_of (Ok p) = p.stops
+    stops_of (Err r) = 0
 
 -- ---- "no car is sent there"
 
 -- of the decisions that a pass writes, one that sends a car is no closed landing's stop
-pub none_sent : (x : Lent) {y : Done} → y ≡ pass_of x → (c : Counts) → outcome_of x ≡ reading.Accepted c → (r k : ℕ)
+pub none_sent : (x : Lent) {y : Done} → y ≡ pass_of x → (c : Counts) → outcome_of x ≡ Ok c → (r k : ℕ)
     → r < idle_cars (sheet_of x.bytes c) → k < (sheet_of x.bytes c).closures → get_or y.decisions r 0 ≢ 0
     → get_or y.decisions r 0 ≢ (sheet_of x.bytes c).closed k
 none_sent x {y} h c e r k lr lk d q =

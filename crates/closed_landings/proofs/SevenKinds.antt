@@ -1,4 +1,6 @@
 -- How a bench of seven kinds reads: as this one does, or with 4 at a record of kind 8. Assumes nothing.
+use Rattle.std.specs.Prelude.{Ok, Result}
+use Rattle.layout.specs.declared.Refusal.{Refusal}
 use Prim.Native.Nat.{ℕ, zero, suc, ◌+◌, ◌≤◌}
 use Rattle.std.specs.Prelude.{◌≡◌, Bool, cond, List, ◌⊎◌, ◌≢◌, eqb}
 use Rattle.std.proofs.Math.Path.{refl}
@@ -9,8 +11,6 @@ use Rattle.laws.specs.Bools.{same?, which}
 use Rattle.components.specs.declared.Kind.TheVariants.{Unknown}
 use Rattle.components.specs.Codes.{kind_of, by_kind}
 use Rattle.layout.specs.declared.Counts.{Counts}
-use Rattle.layout.specs.declared.Reading.{Reading}
-use Rattle.layout.specs.declared.Reading.TheVariants.{Accepted}
 use Rattle.layout.specs.Offsets.{next, end_of}
 use Rattle.layout.specs.Refusals.{record_count, kind_at, refusal2}
 use Rattle.layout.specs.Readings.{refused≢accepted, same_counts}
@@ -29,11 +29,11 @@ eighth_kind n h = rw (eq-eqb n 8 h)
 
 module _ (s : List ℕ) where
   -- as now, or 4 at a record of kind 8
-  abbrev As : Reading → Reading → Type 0
+  abbrev As : Result Counts Refusal → Result Counts Refusal → Type 0
   As v w = (v ≡ w) ⊎ FourAtEight s v
 
   -- at a place where both find the same
-  same_place : (number at : ℕ) (v w : Reading) → As v w → As (given number at v) (given number at w)
+  same_place : (number at : ℕ) (v w : Result Counts Refusal) → As v w → As (given number at v) (given number at w)
   same_place number at v w (inl e) = inl (ap (given number at) e)
   same_place number at v w (inr h) =
       ⊎_elim
@@ -41,7 +41,7 @@ module _ (s : List ℕ) where
       (λ (t : eqb number 0 ≡ false). inl (rw t))
       (which (eqb number 0))
 
-  at_eight : (c : Counts) (v w : Reading) → kind_at s c ≡ 8 → As (given (refusal_of_seven s c) (end_of c) v) (given (record_refusal s c) (end_of c) w)
+  at_eight : (c : Counts) (v w : Result Counts Refusal) → kind_at s c ≡ 8 → As (given (refusal_of_seven s c) (end_of c) v) (given (record_refusal s c) (end_of c) w)
   unfolding refusal_of_seven record_refusal first_of pick
   at_eight c v w e = rw (eighth_kind (kind_at s c) e) (by (refusal2 s c) _)
     where
@@ -82,24 +82,24 @@ none_counted n c =
     (λ e. absurd (h e)) refl))
     (same? n 8)
 
-given_accepted : (number at : ℕ) (v : Reading) (d : Counts) → given number at v ≡ Accepted d → v ≡ Accepted d
+given_accepted : (number at : ℕ) (v : Result Counts Refusal) (d : Counts) → given number at v ≡ Ok d → v ≡ Ok d
 given_accepted number at v d h =
     ⊎_elim
     (λ (t : eqb number 0 ≡ true). rw t at h)
     (λ (t : eqb number 0 ≡ false). absurd (refused≢accepted (rw t at h)))
     (which (eqb number 0))
 
-tail_counts : (s : List ℕ) (c d : Counts) → tail_verdict s c ≡ Accepted d → c ≡ d
+tail_counts : (s : List ℕ) (c d : Counts) → tail_verdict s c ≡ Ok d → c ≡ d
 unfolding tail_verdict
-tail_counts s c d h = same_counts (given_accepted (first_of (tail_rules s c)) (end_of c) (Accepted c) d h)
+tail_counts s c d h = same_counts (given_accepted (first_of (tail_rules s c)) (end_of c) (Ok c) d h)
 
-records_open : (s : List ℕ) (n : ℕ) (c d : Counts) → records_of_seven s n c ≡ Accepted d → c.closures ≡ 0 → d.closures ≡ 0
+records_open : (s : List ℕ) (n : ℕ) (c d : Counts) → records_of_seven s n c ≡ Ok d → c.closures ≡ 0 → d.closures ≡ 0
 unfolding records_of_seven
 records_open s zero c d h e = rw (← tail_counts s c d h) e
 records_open s (suc n) c d h e =
     records_open s n (next c (kind_of_seven (kind_at s c))) d (given_accepted (refusal_of_seven s c) (end_of c) _ d h) (none_counted (kind_at s c) c ∙ e)
 
-pub seven_open : (s : List ℕ) (c : Counts) → verdict_of_seven s ≡ Accepted c → c.closures ≡ 0
+pub seven_open : (s : List ℕ) (c : Counts) → verdict_of_seven s ≡ Ok c → c.closures ≡ 0
 unfolding verdict_of_seven
 seven_open s c h = records_open s (record_count s) (at_first s) c (given_accepted (first_of (head_rules s)) 0 _ c h) refl
 
@@ -114,22 +114,22 @@ eight_counts : (n : ℕ) (c : Counts) → n ≡ 8 → (next c (kind_of n)).closu
 unfolding kind_of
 eight_counts n c e = rw e
 
-records_more : (s : List ℕ) (n : ℕ) (c d : Counts) → records_verdict s n c ≡ Accepted d → c.closures ≤ d.closures
+records_more : (s : List ℕ) (n : ℕ) (c d : Counts) → records_verdict s n c ≡ Ok d → c.closures ≤ d.closures
 unfolding records_verdict
 records_more s zero c d h = rw (tail_counts s c d h) (omega arith)
 records_more s (suc n) c d h =
     let on = records_more s n (next c (kind_of (kind_at s c))) d (given_accepted (record_refusal s c) (end_of c) _ d h) in
     omega (arith, never_fewer (kind_at s c) c, on)
 
-same_refusal : (s : List ℕ) (c : Counts) (n : ℕ) (d : Counts) → kind_at s c ≢ 8 → records_of_seven s n (next c (kind_of (kind_at s c))) ≡ Accepted d
-    → given (record_refusal s c) (end_of c) (records_verdict s n (next c (kind_of (kind_at s c)))) ≡ Accepted d
-    → given (refusal_of_seven s c) (end_of c) (records_of_seven s n (next c (kind_of_seven (kind_at s c)))) ≡ Accepted d
+same_refusal : (s : List ℕ) (c : Counts) (n : ℕ) (d : Counts) → kind_at s c ≢ 8 → records_of_seven s n (next c (kind_of (kind_at s c))) ≡ Ok d
+    → given (record_refusal s c) (end_of c) (records_verdict s n (next c (kind_of (kind_at s c)))) ≡ Ok d
+    → given (refusal_of_seven s c) (end_of c) (records_of_seven s n (next c (kind_of_seven (kind_at s c)))) ≡ Ok d
 unfolding refusal_of_seven record_refusal
 same_refusal s c n d q on h =
     rw (other_kind (kind_at s c) q)
     (sym (ap (given (record_refusal s c) (end_of c)) (given_accepted (record_refusal s c) (end_of c) _ d h ∙ sym on)) ∙ h)
 
-records_accepted : (s : List ℕ) (n : ℕ) (c d : Counts) → records_verdict s n c ≡ Accepted d → d.closures ≡ 0 → records_of_seven s n c ≡ Accepted d
+records_accepted : (s : List ℕ) (n : ℕ) (c d : Counts) → records_verdict s n c ≡ Ok d → d.closures ≡ 0 → records_of_seven s n c ≡ Ok d
 unfolding records_verdict records_of_seven
 records_accepted s zero c d h e = h
 records_accepted s (suc n) c d h e =
@@ -140,7 +140,7 @@ records_accepted s (suc n) c d h e =
     (λ (q : kind_at s c ≢ 8). same_refusal s c n d q (records_accepted s n (next c (kind_of k)) d rest e) h)
     (same? (kind_at s c) 8)
 
-pub seven_accepted : (s : List ℕ) (c : Counts) → verdict s ≡ Accepted c → c.closures ≡ 0 → verdict_of_seven s ≡ Accepted c
+pub seven_accepted : (s : List ℕ) (c : Counts) → verdict s ≡ Ok c → c.closures ≡ 0 → verdict_of_seven s ≡ Ok c
 unfolding verdict verdict_of_seven
 seven_accepted s c h e =
     let rest = given_accepted (first_of (head_rules s)) 0 _ c h in

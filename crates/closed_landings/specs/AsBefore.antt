@@ -1,23 +1,24 @@
 -- A sheet without kind 8 has the answer and the buffers that a bench of seven kinds gives. Assumes nothing.
+use Rattle.std.specs.Prelude.{Err, Ok, Result}
+use Rattle.layout.specs.declared.Refusal.{Refusal}
+use Rattle.layout.specs.declared.Counts.{Counts}
+use Rattle.layout.specs.Refused.{refused}
 use Rattle.std.specs.Prelude.{cond, length}
 use Rattle.components.specs.Sheet.{Sheet}
-use Rattle.layout.specs.declared.Reading.{Reading}
-use Rattle.layout.specs.declared.Reading.TheVariants as reading
 use Rattle.layout.specs.Records.{sheet_of, limit_of}
 use Rattle.outcome.specs.Outcome.{refusal1}
-use Rattle.bench.specs.declared.Answer.TheVariants.{Refused}
 use Rattle.bench.specs.Done.{Lent, Done, done}
 use Rattle.closed_landings.specs.Closing.{pending_open}
 use Rattle.closed_landings.specs.SevenKinds.{verdict_of_seven}
 use Rattle.closed_landings.specs.Under.{written_under}
 
 -- "1 is tested first", then the reading
-unfoldable pub outcome_of_seven : Lent → Reading
-outcome_of_seven x = cond (refusal1 (length x.decisions) (length x.cells) (length x.sweeps)) (reading.Refused 1 0) (verdict_of_seven x.bytes)
+unfoldable pub outcome_of_seven : Lent → Result Counts Refusal
+outcome_of_seven x = cond (refusal1 (length x.decisions) (length x.cells) (length x.sweeps)) (refused 1 0) (verdict_of_seven x.bytes)
 
-abbrev pub done_of_seven : Reading → Lent → Done
-done_of_seven (reading.Refused number offset) x = done (Refused number offset) x.decisions x.cells x.sweeps
-done_of_seven (reading.Accepted c) x =
+abbrev pub done_of_seven : Result Counts Refusal → Lent → Done
+done_of_seven (Err r) x = done (Err r) x.decisions x.cells x.sweeps
+done_of_seven (Ok c) x =
     let s : Sheet = sheet_of x.bytes c in written_under s (pending_open s) (limit_of x.bytes) x
 
 -- what a bench of seven kinds answers and leaves

@@ -6,16 +6,17 @@
 --   fewer, other_pass    where they meet at one, fewer stops are pending, so the answer is another
 --   none_sent            no car is sent to a closed landing
 --   before               a worked case by F-2's rule; by the rule of now it is in assignment: Variants
+use Rattle.std.specs.Prelude.{Err, Ok, Result}
+use Rattle.layout.specs.declared.Refusal.{Refusal}
+use Rattle.layout.specs.declared.Counts.{Counts}
+use Rattle.layout.specs.Refused.{refused}
 use Rattle.std.specs.Prelude.{ℕ, Bool, not, ◌&&◌, ◌||◌}
 use Rattle.laws.specs.Folds.{any}
 use Rattle.components.specs.Sheet.{Sheet}
-use Rattle.layout.specs.declared.Reading.{Reading}
-use Rattle.layout.specs.declared.Reading.TheVariants as reading
 use Rattle.layout.specs.Records.{sheet_of, limit_of}
 use Rattle.manifest.specs.World.{in_group}
 use Rattle.manifest.specs.Manifest.{has_demand, demand_stop}
 use Rattle.assignment.specs.Pending.{closed_at, covered, idle_bound}
-use Rattle.bench.specs.declared.Answer.TheVariants.{Refused}
 use Rattle.bench.specs.Done.{Lent, Done, done, outcome_of}
 use Rattle.closed_landings.specs.Under.{written_under}
 
@@ -36,9 +37,9 @@ some_meet s = any (rules_meet s) s.stops
 -- ---- the passes by either rule
 
 -- what a bench of F-2's rule answers and leaves
-abbrev pub done_before : Reading → Lent → Done
-done_before (reading.Refused number offset) x = done (Refused number offset) x.decisions x.cells x.sweeps
-done_before (reading.Accepted c) x =
+abbrev pub done_before : Result Counts Refusal → Lent → Done
+done_before (Err r) x = done (Err r) x.decisions x.cells x.sweeps
+done_before (Ok c) x =
     let s : Sheet = sheet_of x.bytes c in written_under s (pending_before s) (limit_of x.bytes) x
 
 abbrev pub pass_before : Lent → Done

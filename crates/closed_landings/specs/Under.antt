@@ -1,12 +1,13 @@
 -- A pass with another rule for which stops are pending: the definitions of assignment: Pending, Candidates, Cells, outcome: Outcome and bench: Done
 -- over a rule. Over the rule of now they are those definitions (`by_rule`). Assumes nothing.
+use Rattle.bench.specs.Answers.{passed}
+use Rattle.std.specs.Prelude.{None, Option}
+use Rattle.std.specs.Float.{Float}
 use Rattle.std.specs.Prelude.{ℕ, ◌*◌, min, max, ◌≡◌, refl, Bool, not, ◌&&◌, cond, ◌++◌, ltb, drop}
 use Rattle.laws.specs.Folds.{count, nth}
 use Rattle.laws.specs.Sums.{sum}
 use Rattle.laws.specs.Tables.{tab, tabs}
 use Rattle.scale.specs.Scale.{sentinel}
-use Rattle.components.specs.declared.Rank.{Rank}
-use Rattle.components.specs.declared.Rank.TheVariants.{Never}
 use Rattle.components.specs.Sheet.{Sheet}
 use Rattle.manifest.specs.World.{stop_id}
 use Rattle.sweep.specs.declared.Sweep.{Sweep}
@@ -20,7 +21,6 @@ use Rattle.assignment.specs.Candidates.{keeps, precedes, line_serves, barred, aw
 use Rattle.assignment.specs.Cells.{by_strategy, rank_cell, rank_held, sweep_after, rank, cell, matrix, column, answered_total, goes, decision}
 use Rattle.assignment.specs.Cells.{held_cell, held_at, held_in_row, held_cells, ranked_pairs}
 use Rattle.outcome.specs.Outcome.{decisions_of, cells_of, sweeps_of}
-use Rattle.bench.specs.declared.Answer.TheVariants.{Passed}
 use Rattle.bench.specs.Done.{Lent, Done, done, written}
 
 module _ (s : Sheet) (rule : ℕ → Bool) where
@@ -48,8 +48,8 @@ module _ (s : Sheet) (rule : ℕ → Bool) where
       (cond (idle s i && ltb 0 stops_under) (prepared_sweep s i) (sweep_of (s.car i)))
       (sweep_of (s.car i))
 
-  abbrev pub rank_under : ℕ → ℕ → Rank
-  rank_under i j = by_strategy s.policy.strategy (etd_rank s i j) (rsr_rank s i j) (scan_rank s (sweep_under i) i j) Never
+  abbrev pub rank_under : ℕ → ℕ → Option Float
+  rank_under i j = by_strategy s.policy.strategy (etd_rank s i j) (rsr_rank s i j) (scan_rank s (sweep_under i) i j) None
 
   module _ (limit : ℕ) where
     abbrev pub cell_under : ℕ → ℕ → ℕ
@@ -83,7 +83,7 @@ module _ (s : Sheet) (rule : ℕ → Bool) where
 
     abbrev pub written_under : Lent → Done
     written_under x =
-        done (Passed (idle_cars s) stops_under total_under ranked_under held_under)
+        done (passed (idle_cars s) stops_under total_under ranked_under held_under)
         (tab decision_under (idle_cars s) ++ drop (idle_cars s) x.decisions)
         (tabs matrix_under columns_under (idle_cars s) ++ drop (idle_cars s * columns_under) x.cells)
         (tab (λ i. sweep_code (sweep_under i)) s.cars ++ drop s.cars x.sweeps)

@@ -10,7 +10,7 @@ ghost use Rattle.components.specs.Cars.{is_moving, is_idle, servicing, remaining
 ghost use Rattle.components.specs.Points.{distance};
 
 // The kinds of records.
-#[derive(Clone, Copy)]
+#[derive(Clone, Copy, Debug, PartialEq, Eq)]
 pub enum Kind {
     Policy,
     Stop,
@@ -23,7 +23,7 @@ pub enum Kind {
     Unknown,
 }
 
-#[derive(Clone, Copy)]
+#[derive(Clone, Copy, Debug, PartialEq, Eq)]
 pub enum Strategy {
     Etd,
     Rsr,
@@ -32,7 +32,7 @@ pub enum Strategy {
 }
 
 // TrafficMode of traffic_detector.rs.
-#[derive(Clone, Copy)]
+#[derive(Clone, Copy, Debug, PartialEq, Eq)]
 pub enum Traffic {
     Idle,
     UpPeak,
@@ -41,7 +41,7 @@ pub enum Traffic {
 }
 
 // ElevatorPhase; the moving phases hold the stop's id.
-#[derive(Clone, Copy)]
+#[derive(Clone, Copy, Debug, PartialEq, Eq)]
 pub enum Phase {
     Idle,
     MovingToStop(u32),
@@ -54,48 +54,28 @@ pub enum Phase {
 }
 
 // SweepDirection and SweepMode of sweep.rs.
-#[derive(Clone, Copy)]
+#[derive(Clone, Copy, Debug, PartialEq, Eq)]
 pub enum Direction {
     Up,
     Down,
 }
 
-#[derive(Clone, Copy)]
+#[derive(Clone, Copy, Debug, PartialEq, Eq)]
 pub enum Mode {
     Strict,
     Lenient,
 }
 
-// bypass_load_up_pct and bypass_load_down_pct.
-#[derive(Clone, Copy)]
-pub enum Threshold {
-    Absent,
-    At(f64),
-}
-
 // Where a stop or a car stands: its position in the shaft, and of a shuttle that also runs sideways how far across it is.
-#[derive(Clone, Copy)]
+#[derive(Clone, Copy, Debug, PartialEq)]
 pub struct Point {
     pub along: f64,
     pub across: f64,
 }
 
-// Where a stop stands, by its id: stop_position of world.rs. An id without a record stands nowhere.
-#[derive(Clone, Copy)]
-pub enum Place {
-    Nowhere,
-    At(Point),
-}
-
-// What a strategy's rank answers of a pair: a cost, or none.
-#[derive(Clone, Copy)]
-pub enum Rank {
-    Never,
-    Cost(f64),
-}
-
 // The six weights by their slots. ETD: wait, delay, door, wait squared, age. RSR: eta, wrong direction, coincident call, load, age, peak multiplier.
-#[derive(Clone, Copy)]
+// Six fields, and no array: the definitions of costs and records speak of w0 to w5 (etd: Etd, layout: Records).
+#[derive(Clone, Copy, Debug, PartialEq)]
 pub struct Policy {
     pub strategy: Strategy,
     pub rate: f64,
@@ -108,13 +88,13 @@ pub struct Policy {
     pub w5: f64,
 }
 
-#[derive(Clone, Copy)]
+#[derive(Clone, Copy, Debug, PartialEq)]
 pub struct Stop {
     pub id: u32,
     pub position: Point,
 }
 
-#[derive(Clone, Copy)]
+#[derive(Clone, Copy, Debug, PartialEq, Eq)]
 pub struct Line {
     pub id: u32,
     pub serves: u64,
@@ -123,7 +103,7 @@ pub struct Line {
 // Elevator. The Rust's names, where they differ: target target_stop, up going_up, down going_down, speed max_speed, capacity weight_capacity,
 // load current_load, bypassup and bypassdown bypass_load_up_pct and bypass_load_down_pct, transition door_transition_ticks, dwell
 // door_open_ticks, restricted restricted_stops. calls are the stops of its car calls; listed says that the car is among the idle ones.
-#[derive(Clone, Copy)]
+#[derive(Clone, Copy, Debug, PartialEq)]
 pub struct Car {
     pub id: u32,
     pub line: u32,
@@ -138,8 +118,8 @@ pub struct Car {
     pub speed: f64,
     pub capacity: f64,
     pub load: f64,
-    pub bypassup: Threshold,
-    pub bypassdown: Threshold,
+    pub bypassup: Option<f64>,
+    pub bypassdown: Option<f64>,
     pub transition: u32,
     pub dwell: u32,
     pub restricted: u64,
@@ -147,14 +127,14 @@ pub struct Car {
 }
 
 // A rider in a car, with the destination of its route.
-#[derive(Clone, Copy)]
+#[derive(Clone, Copy, Debug, PartialEq, Eq)]
 pub struct Aboard {
     pub car: u32,
     pub destination: u32,
 }
 
 // A rider at a stop: line is the one its route requires, wait its wait_ticks.
-#[derive(Clone, Copy)]
+#[derive(Clone, Copy, Debug, PartialEq)]
 pub struct Waiting {
     pub stop: u32,
     pub line: u32,
@@ -164,17 +144,18 @@ pub struct Waiting {
 }
 
 // What the manifest says of a stop beside its waiting riders: riding_to_stop, and whether a hall call there has no pending rider.
-#[derive(Clone, Copy)]
+#[derive(Clone, Copy, Debug, PartialEq, Eq)]
 pub struct Demand {
     pub stop: u32,
     pub riding: u16,
     pub call: bool,
 }
 
-impl Kind {
-    pub fn of_code(code: u64) -> Self
-        ensures { HasCode kind_of kind_code 8 code result }
-    {
+// The name `of_code` stays beside `from`, since docs/manual/reviewers.md names it; a phase takes its stop's id too, so it has no `from`.
+impl From<u64> for Kind {
+    ghost from_gives = { λ code x. HasCode kind_of kind_code 8 code x };
+
+    fn from(code: u64) -> Self {
         match code {
             0 => Kind::Unknown,
             1 => Kind::Policy,
@@ -190,10 +171,18 @@ impl Kind {
     }
 }
 
-impl Strategy {
+impl Kind {
     pub fn of_code(code: u64) -> Self
-        ensures { HasCode strategy_of strategy_code 3 code result }
+        ensures { HasCode kind_of kind_code 8 code result }
     {
+        Kind::from(code)
+    }
+}
+
+impl From<u64> for Strategy {
+    ghost from_gives = { λ code x. HasCode strategy_of strategy_code 3 code x };
+
+    fn from(code: u64) -> Self {
         match code {
             0 => Strategy::Etd,
             1 => Strategy::Rsr,
@@ -203,16 +192,32 @@ impl Strategy {
     }
 }
 
-impl Traffic {
+impl Strategy {
     pub fn of_code(code: u64) -> Self
-        ensures { HasCode traffic_of traffic_code 3 code result }
+        ensures { HasCode strategy_of strategy_code 3 code result }
     {
+        Strategy::from(code)
+    }
+}
+
+impl From<u64> for Traffic {
+    ghost from_gives = { λ code x. HasCode traffic_of traffic_code 3 code x };
+
+    fn from(code: u64) -> Self {
         match code {
             0 => Traffic::Idle,
             1 => Traffic::UpPeak,
             2 => Traffic::InterFloor,
             3..=0xffff_ffff_ffff_ffff => Traffic::DownPeak,
         }
+    }
+}
+
+impl Traffic {
+    pub fn of_code(code: u64) -> Self
+        ensures { HasCode traffic_of traffic_code 3 code result }
+    {
+        Traffic::from(code)
     }
 }
 
@@ -236,63 +241,123 @@ impl Phase {
     pub fn is_moving(self) -> bool
         ensures { result ≡ is_moving self }
     {
-        match self {
-            Phase::Idle => false,
-            Phase::MovingToStop(_) => true,
-            Phase::Repositioning(_) => true,
-            Phase::DoorOpening => false,
-            Phase::Loading => false,
-            Phase::DoorClosing => false,
-            Phase::Stopped => false,
-            Phase::Unknown => false,
-        }
+        matches!(self, Phase::MovingToStop(_) | Phase::Repositioning(_))
     }
 
     pub fn is_idle(self) -> bool
         ensures { result ≡ is_idle self }
     {
-        match self {
-            Phase::Idle => true,
-            Phase::MovingToStop(_) => false,
-            Phase::Repositioning(_) => false,
-            Phase::DoorOpening => false,
-            Phase::Loading => false,
-            Phase::DoorClosing => false,
-            Phase::Stopped => false,
-            Phase::Unknown => false,
-        }
+        matches!(self, Phase::Idle)
     }
 
     // Whether a car in this phase opens its doors at its target: assignment.rs's servicing cars.
     pub fn servicing(self) -> bool
         ensures { result ≡ servicing self }
     {
-        match self {
-            Phase::Idle => false,
-            Phase::MovingToStop(_) => true,
-            Phase::Repositioning(_) => false,
-            Phase::DoorOpening => true,
-            Phase::Loading => true,
-            Phase::DoorClosing => true,
-            Phase::Stopped => false,
-            Phase::Unknown => false,
-        }
+        matches!(
+            self,
+            Phase::MovingToStop(_) | Phase::DoorOpening | Phase::Loading | Phase::DoorClosing
+        )
     }
 }
 
-impl Direction {
-    pub fn of_bit(down: bool) -> Self
-        ensures { (result ≡ direction_of down) × (direction_code result ≡ bit down) }
-    {
+impl From<bool> for Direction {
+    ghost from_gives = { λ down x. (x ≡ direction_of down) × (direction_code x ≡ bit down) };
+
+    fn from(down: bool) -> Self {
         if down { Direction::Down } else { Direction::Up }
     }
 }
 
-impl Mode {
-    pub fn of_bit(lenient: bool) -> Self
-        ensures { (result ≡ mode_of lenient) × (mode_code result ≡ bit lenient) }
-    {
+impl From<bool> for Mode {
+    ghost from_gives = { λ lenient x. (x ≡ mode_of lenient) × (mode_code x ≡ bit lenient) };
+
+    fn from(lenient: bool) -> Self {
         if lenient { Mode::Lenient } else { Mode::Strict }
+    }
+}
+
+// Document 01's number of each case. 0 is no kind's.
+impl From<Kind> for u64 {
+    ghost from_gives = { λ x n. n ≡ kind_code x };
+
+    fn from(kind: Kind) -> u64 {
+        match kind {
+            Kind::Policy => 1,
+            Kind::Stop => 2,
+            Kind::Line => 3,
+            Kind::Car => 4,
+            Kind::Aboard => 5,
+            Kind::Waiting => 6,
+            Kind::Demand => 7,
+            Kind::Closed => 8,
+            Kind::Unknown => 0,
+        }
+    }
+}
+
+impl From<Strategy> for u64 {
+    ghost from_gives = { λ x n. n ≡ strategy_code x };
+
+    fn from(strategy: Strategy) -> u64 {
+        match strategy {
+            Strategy::Etd => 0,
+            Strategy::Rsr => 1,
+            Strategy::Scan => 2,
+            Strategy::Unknown => 3,
+        }
+    }
+}
+
+impl From<Traffic> for u64 {
+    ghost from_gives = { λ x n. n ≡ traffic_code x };
+
+    fn from(traffic: Traffic) -> u64 {
+        match traffic {
+            Traffic::Idle => 0,
+            Traffic::UpPeak => 1,
+            Traffic::InterFloor => 2,
+            Traffic::DownPeak => 3,
+        }
+    }
+}
+
+impl From<Phase> for u64 {
+    ghost from_gives = { λ x n. n ≡ phase_code x };
+
+    fn from(phase: Phase) -> u64 {
+        match phase {
+            Phase::Idle => 0,
+            Phase::MovingToStop(_) => 1,
+            Phase::Repositioning(_) => 2,
+            Phase::DoorOpening => 3,
+            Phase::Loading => 4,
+            Phase::DoorClosing => 5,
+            Phase::Stopped => 6,
+            Phase::Unknown => 7,
+        }
+    }
+}
+
+impl From<Direction> for u64 {
+    ghost from_gives = { λ x n. n ≡ direction_code x };
+
+    fn from(direction: Direction) -> u64 {
+        match direction {
+            Direction::Up => 0,
+            Direction::Down => 1,
+        }
+    }
+}
+
+impl From<Mode> for u64 {
+    ghost from_gives = { λ x n. n ≡ mode_code x };
+
+    fn from(mode: Mode) -> u64 {
+        match mode {
+            Mode::Strict => 0,
+            Mode::Lenient => 1,
+        }
     }
 }
 

@@ -19,7 +19,7 @@ pub struct Optional {
     pub zero: bool,
 }
 
-// The number where the condition holds, else the rest; 0 is no refusal.
+// The number where the condition holds, else the rest; 0 is no refusal, as in the definition (layout: Verdict, first_of), and no branch asks for it.
 pub fn pick(b: bool, n: u32, rest: u32) -> u32
     ensures { result ≡ pick b n rest }
 {
@@ -31,12 +31,10 @@ fn seen(s: &[u8], base: u32, len: u32, n: u32, id: u32) -> bool
     requires { (base < 2 ^ 31) × (len ≤ 1000) × (n ≤ 65535) }
     ensures { result ≡ seen s.now base len n id }
 {
-    let mut i: u32 = 0;
-    while i < n {
+    for i in 0..n {
         if bits::field32(s, base + len * i, record::BODY) == id {
             return true;
         }
-        i += 1;
     }
     false
 }

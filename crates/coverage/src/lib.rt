@@ -5,6 +5,26 @@ ghost use Rattle.std.specs.Prelude.{◌≡◌, cond, not, ◌||◌, eqb, ◌≤�
 ghost use Rattle.fp.specs.Num.{plus};
 ghost use Rattle.coverage.specs.Coverage.{line_room, capacity_by, weight_by, line_served_by, lines_served, covered_by};
 
+// The cars and the lines, in record order. Of a car its target, 0 where it serves none, its line and its room; of a line its id. Columns, since a
+// target is compared with several cars' at a time.
+#[derive(Clone, Copy)]
+pub struct Serving<'a> {
+    pub targets: &'a [u32],
+    pub lines: &'a [u32],
+    pub rooms: &'a [f64],
+    pub line_ids: &'a [u32],
+    ghost cars: { (length targets.now ≤ length lines.now) × (length targets.now ≤ length rooms.now) },
+}
+
+// Those who wait, in record order: the stop of each, the line that it requires, 0 for none, and its weight.
+#[derive(Clone, Copy)]
+pub struct Waiting<'a> {
+    pub stops: &'a [u32],
+    pub required: &'a [u32],
+    pub weights: &'a [f64],
+    ghost riders: { (length stops.now ≤ length required.now) × (length stops.now ≤ length weights.now) },
+}
+
 // a with x added where b holds.
 fn add_if(b: bool, a: f64, x: f64) -> f64
     ensures { result ≡ cond b (plus a x) a }
@@ -12,147 +32,91 @@ fn add_if(b: bool, a: f64, x: f64) -> f64
     if b { a + x } else { a }
 }
 
-// a, and the room of each car of the line that serves the stop, in record order.
-fn line_room<'a>(
-    targets: &'a [u32],
-    lines: &'a [u32],
-    rooms: &'a [f64],
-    n: usize,
-    id: u32,
-    line: u32,
-    a: f64,
-) -> f64
-    requires { (n ≤ length targets.now) × (n ≤ length lines.now) × (n ≤ length rooms.now) }
-    ensures { result ≡ line_room targets.now lines.now rooms.now n id a line }
-{
-    let mut b = a;
-    let mut i: usize = 0;
-    while i < n {
-        b = add_if((lines[i] == line) & (targets[i] == id), b, rooms[i]);
-        i += 1;
+// The loops go by index where each step reads two or three columns.
+impl Serving<'_> {
+    // a, and the room of each car of the line that serves the stop.
+    fn line_room(&self, id: u32, line: u32, a: f64) -> f64
+        ensures { result ≡ line_room self.now.targets.now self.now.lines.now self.now.rooms.now (length self.now.targets.now) id a line }
+    {
+        let mut b = a;
+        for i in 0..self.targets.len() {
+            b = add_if(
+                (self.lines[i] == line) & (self.targets[i] == id),
+                b,
+                self.rooms[i],
+            );
+        }
+        b
     }
-    b
-}
 
-// The room of the cars that serve the stop, line by line.
-fn capacity_at<'a>(
-    targets: &'a [u32],
-    lines: &'a [u32],
-    rooms: &'a [f64],
-    n: usize,
-    ids: &'a [u32],
-    nl: usize,
-    id: u32,
-) -> f64
-    requires { (n ≤ length targets.now) × (n ≤ length lines.now) × (n ≤ length rooms.now) × (nl ≤ length ids.now) }
-    ensures { result ≡ capacity_by targets.now lines.now rooms.now n ids.now nl id }
-{
-    let mut a: f64 = 0.0;
-    let mut l: usize = 0;
-    while l < nl {
-        a = line_room(targets, lines, rooms, n, id, ids[l], a);
-        l += 1;
+    // The room of the cars that serve the stop, line by line.
+    fn capacity_at(&self, id: u32) -> f64
+        ensures { result ≡ capacity_by self.now.targets.now self.now.lines.now self.now.rooms.now (length self.now.targets.now)
+            self.now.line_ids.now (length self.now.line_ids.now) id }
+    {
+        let mut a: f64 = 0.0;
+        for &line in self.line_ids {
+            a = self.line_room(id, line, a);
+        }
+        a
     }
-    a
-}
 
-// The weights of those who wait at the stop, in record order.
-fn weight_at<'a>(stops: &'a [u32], weights: &'a [f64], n: usize, id: u32) -> f64
-    requires { (n ≤ length stops.now) × (n ≤ length weights.now) }
-    ensures { result ≡ weight_by stops.now weights.now n id }
-{
-    let mut a: f64 = 0.0;
-    let mut w: usize = 0;
-    while w < n {
-        a = add_if(stops[w] == id, a, weights[w]);
-        w += 1;
-    }
-    a
-}
-
-// Whether no line is required, or that of a car that serves the stop.
-fn line_served<'a>(targets: &'a [u32], lines: &'a [u32], n: usize, id: u32, line: u32) -> bool
-    requires { (n ≤ length targets.now) × (n ≤ length lines.now) }
-    ensures { result ≡ line_served_by targets.now lines.now n id line }
-{
-    if line == 0 {
-        return true;
-    }
-    let mut i: usize = 0;
-    while i < n {
-        if (targets[i] == id) & (lines[i] == line) {
+    // Whether no line is required, or that of a car that serves the stop.
+    fn line_served(&self, id: u32, line: u32) -> bool
+        ensures { result ≡ line_served_by self.now.targets.now self.now.lines.now (length self.now.targets.now) id line }
+    {
+        if line == 0 {
             return true;
         }
-        i += 1;
-    }
-    false
-}
-
-// Whether one who waits at a stop is at another, or requires no line, or that of a car that serves this one.
-fn waiter_served<'a>(
-    targets: &'a [u32],
-    lines: &'a [u32],
-    n: usize,
-    at: u32,
-    line: u32,
-    id: u32,
-) -> bool
-    requires { (n ≤ length targets.now) × (n ≤ length lines.now) }
-    ensures { result ≡ (not (eqb at id) || line_served_by targets.now lines.now n id line) }
-{
-    if at != id {
-        return true;
-    }
-    line_served(targets, lines, n, id, line)
-}
-
-// Whether each who waits at the stop requires no line, or that of a car that serves it.
-fn lines_served<'a>(
-    targets: &'a [u32],
-    lines: &'a [u32],
-    n: usize,
-    stops: &'a [u32],
-    required: &'a [u32],
-    nw: usize,
-    id: u32,
-) -> bool
-    requires { (n ≤ length targets.now) × (n ≤ length lines.now) × (nw ≤ length stops.now) × (nw ≤ length required.now) }
-    ensures { result ≡ lines_served targets.now lines.now n stops.now required.now nw id }
-{
-    let mut w: usize = 0;
-    while w < nw {
-        if !waiter_served(targets, lines, n, stops[w], required[w], id) {
-            return false;
+        for i in 0..self.targets.len() {
+            if (self.targets[i] == id) & (self.lines[i] == line) {
+                return true;
+            }
         }
-        w += 1;
+        false
     }
-    true
+
+    // Whether one who waits at a stop is at another, or requires no line, or that of a car that serves this one.
+    fn waiter_served(&self, at: u32, line: u32, id: u32) -> bool
+        ensures { result ≡ (not (eqb at id) || line_served_by self.now.targets.now self.now.lines.now (length self.now.targets.now) id line) }
+    {
+        at != id || self.line_served(id, line)
+    }
+}
+
+impl Waiting<'_> {
+    // The weights of those who wait at the stop.
+    fn weight_at(&self, id: u32) -> f64
+        ensures { result ≡ weight_by self.now.stops.now self.now.weights.now (length self.now.stops.now) id }
+    {
+        let mut a: f64 = 0.0;
+        for w in 0..self.stops.len() {
+            a = add_if(self.stops[w] == id, a, self.weights[w]);
+        }
+        a
+    }
+
+    // Whether each who waits at the stop requires no line, or that of a car that serves it.
+    fn lines_served(&self, cars: &Serving<'_>, id: u32) -> bool
+        ensures { result ≡ lines_served cars.now.targets.now cars.now.lines.now (length cars.now.targets.now)
+            self.now.stops.now self.now.required.now (length self.now.stops.now) id }
+    {
+        for w in 0..self.stops.len() {
+            if !cars.waiter_served(self.stops[w], self.required[w], id) {
+                return false;
+            }
+        }
+        true
+    }
 }
 
 // Whether the stop with this id is covered.
-pub fn is_covered<'a>(
-    targets: &'a [u32],
-    lines: &'a [u32],
-    rooms: &'a [f64],
-    n: usize,
-    ids: &'a [u32],
-    nl: usize,
-    stops: &'a [u32],
-    required: &'a [u32],
-    weights: &'a [f64],
-    nw: usize,
-    id: u32,
-) -> bool
-    requires n_in_bounds { (n ≤ length targets.now) × (n ≤ length lines.now) × (n ≤ length rooms.now) × (nl ≤ length ids.now) }
-    requires nw_in_bounds { (nw ≤ length stops.now) × (nw ≤ length required.now) × (nw ≤ length weights.now) }
-    ensures { result ≡ covered_by targets.now lines.now rooms.now n ids.now nl stops.now
-        required.now weights.now nw id }
+pub fn is_covered(cars: &Serving<'_>, waiting: &Waiting<'_>, id: u32) -> bool
+    ensures { result ≡ covered_by cars.now.targets.now cars.now.lines.now cars.now.rooms.now (length cars.now.targets.now)
+        cars.now.line_ids.now (length cars.now.line_ids.now) waiting.now.stops.now waiting.now.required.now waiting.now.weights.now
+        (length waiting.now.stops.now) id }
 {
-    if !fields::contains(targets, n, id) {
-        return false;
-    }
-    if !lines_served(targets, lines, n, stops, required, nw, id) {
-        return false;
-    }
-    weight_at(stops, weights, nw, id) <= capacity_at(targets, lines, rooms, n, ids, nl, id)
+    fields::contains(cars.targets, cars.targets.len(), id)
+        && waiting.lines_served(cars, id)
+        && waiting.weight_at(id) <= cars.capacity_at(id)
 }

@@ -1,7 +1,7 @@
 // The covered stops of a sheet: its columns, and is_covered for each stop that is asked for.
 #![tactic(auto)]
 
-ghost use Rattle.std.specs.Prelude.{◌≡◌, ◌&&◌, ◌++◌, ℕ, ◌<◌, ◌≤◌, length, drop};
+ghost use Rattle.std.specs.Prelude.{◌≡◌, cond, ◌&&◌, ◌||◌, ◌++◌, ℕ, ◌<◌, ◌≤◌, eqb, ltb, length, drop};
 ghost use Rattle.laws.specs.Tables.{tab};
 ghost use Rattle.mask.specs.Mask.{has, built};
 ghost use Rattle.components.specs.Cars.{remaining};
@@ -16,15 +16,23 @@ ghost use Rattle.manifest.specs.Stops.{Ascending};
 ghost use Rattle.laws.specs.Folds.{any};
 
 use components::Phase;
+use coverage::{Serving, Waiting};
 use layout::{Counts, car, closed, line, waiting};
+
+// The mask with stop j where b holds, if j is one of n.
+pub fn with_index(m: u64, b: bool, j: usize, n: usize) -> u64
+    requires { n ≤ 64 }
+    ensures { result ≡ cond (b && ltb j n) (built (λ k. has m k || eqb k j) 64) m }
+{
+    if b & (j < n) { mask::with(m, j) } else { m }
+}
 
 // The mask with the stop that has the id, one of n with their names.
 pub fn with_named(m: u64, names: &[u32], n: usize, id: u32) -> u64
     requires { (n ≤ 64) × (n ≤ length names.now) × Ascending names.now n }
     ensures { result ≡ with_named names.now n m id }
 {
-    let j = manifest::stop_index(names, n, id);
-    if j < n { mask::with(m, j) } else { m }
+    with_index(m, true, manifest::stop_index(names, n, id), n)
 }
 
 // The target of a car that serves it, else 0; it stands before a second coordinate of any bits.
@@ -56,12 +64,13 @@ fn fill_targets(s: &[u8], c: Counts, out: &mut [u32])
     ensures { (length out.new ≡ length out.old)
         × (out.new ≡ tab (λ i. served_target ((sheet_of s.now c).car i)) c.cars ++ drop c.cars out.old) }
 {
-    let n = c.cars;
-    let mut i: u32 = 0;
-    while i < n {
-        out[i as usize] = target_at(s, c.car_start(i));
-        i += 1;
-    }
+    fields::fill(
+        c.cars_from(),
+        c.car_bits(),
+        c.cars as usize,
+        |at| target_at(s, at),
+        out,
+    );
 }
 
 fn fill_rooms(s: &[u8], c: Counts, out: &mut [f64])
@@ -69,69 +78,36 @@ fn fill_rooms(s: &[u8], c: Counts, out: &mut [f64])
     ensures { (length out.new ≡ length out.old)
         × (out.new ≡ tab (λ i. remaining ((sheet_of s.now c).car i)) c.cars ++ drop c.cars out.old) }
 {
-    let n = c.cars;
-    let mut i: u32 = 0;
-    while i < n {
-        out[i as usize] = room_at(s, c.car_start(i), c.across);
-        i += 1;
-    }
+    fields::fill(
+        c.cars_from(),
+        c.car_bits(),
+        c.cars as usize,
+        |at| room_at(s, at, c.across),
+        out,
+    );
 }
 
 // Whether stop j is in the mask and covered.
-fn covered_at<'a>(
-    targets: &'a [u32],
-    lines: &'a [u32],
-    rooms: &'a [f64],
-    n: usize,
-    ids: &'a [u32],
-    nl: usize,
-    stops: &'a [u32],
-    required: &'a [u32],
-    weights: &'a [f64],
-    nw: usize,
-    asked: u64,
-    j: usize,
-    id: u32,
-) -> bool
-    requires n_in_bounds { (n ≤ length targets.now) × (n ≤ length lines.now) × (n ≤ length rooms.now) × (nl ≤ length ids.now) }
-    requires nw_in_bounds { (nw ≤ length stops.now) × (nw ≤ length required.now) × (nw ≤ length weights.now) × (j < 64) }
-    ensures { result ≡ (has asked j && covered_by targets.now lines.now rooms.now n ids.now nl
-        stops.now required.now weights.now nw id) }
+fn covered_at(cars: &Serving<'_>, riders: &Waiting<'_>, asked: u64, j: usize, id: u32) -> bool
+    requires { j < 64 }
+    ensures { result ≡ (has asked j && covered_by cars.now.targets.now cars.now.lines.now cars.now.rooms.now (length cars.now.targets.now)
+        cars.now.line_ids.now (length cars.now.line_ids.now) riders.now.stops.now riders.now.required.now riders.now.weights.now
+        (length riders.now.stops.now) id) }
 {
-    if !mask::has(asked, j) {
-        return false;
-    }
-    coverage::is_covered(
-        targets, lines, rooms, n, ids, nl, stops, required, weights, nw, id,
-    )
+    mask::has(asked, j) && coverage::is_covered(cars, riders, id)
 }
 
-// The stops of the mask that are covered.
-fn covered_mask<'a>(
-    targets: &'a [u32],
-    lines: &'a [u32],
-    rooms: &'a [f64],
-    n: usize,
-    ids: &'a [u32],
-    nl: usize,
-    stops: &'a [u32],
-    required: &'a [u32],
-    weights: &'a [f64],
-    nw: usize,
-    asked: u64,
-    names: &'a [u32],
-) -> u64
-    requires n_in_bounds { (n ≤ length targets.now) × (n ≤ length lines.now) × (n ≤ length rooms.now) × (nl ≤ length ids.now) }
-    requires nw_in_bounds { (nw ≤ length stops.now) × (nw ≤ length required.now) × (nw ≤ length weights.now) × (length names.now ≡ 64) }
-    ensures { result ≡ built (covered_in targets.now lines.now rooms.now n ids.now nl
-        stops.now required.now weights.now nw asked names.now) 64 }
+// The stops of the mask that are covered. A test of the mask ends the loop, and no range.
+fn covered_mask(cars: &Serving<'_>, riders: &Waiting<'_>, asked: u64, names: &[u32]) -> u64
+    requires { length names.now ≡ 64 }
+    ensures { result ≡ built (covered_in cars.now.targets.now cars.now.lines.now cars.now.rooms.now (length cars.now.targets.now)
+        cars.now.line_ids.now (length cars.now.line_ids.now) riders.now.stops.now riders.now.required.now riders.now.weights.now
+        (length riders.now.stops.now) asked names.now) 64 }
 {
     let mut m: u64 = 0;
     let mut j: usize = 0;
     while mask::past_stops(asked, j) {
-        let covered = covered_at(
-            targets, lines, rooms, n, ids, nl, stops, required, weights, nw, asked, j, names[j],
-        );
+        let covered = covered_at(cars, riders, asked, j, names[j]);
         m = mask::with_if(m, covered, j);
         j += 1;
     }
@@ -139,23 +115,19 @@ fn covered_mask<'a>(
 }
 
 // The stops of the mask that are covered, with the columns of those who wait, which have room.
-fn covered_columns<'a>(
-    s: &'a [u8],
+fn covered_columns(
+    s: &[u8],
     c: Counts,
-    targets: &'a [u32],
-    lines: &'a [u32],
-    rooms: &'a [f64],
-    ids: &'a [u32],
+    cars: &Serving<'_>,
     asked: u64,
-    names: &'a [u32],
+    names: &[u32],
     stops: &mut [u32],
     required: &mut [u32],
     weights: &mut [f64],
 ) -> u64
-    requires small { Small c × (length targets.now ≡ 32) × (length lines.now ≡ 32) × (length rooms.now ≡ 32) × (length ids.now ≡ 8)
-        × (length names.now ≡ 64) × (c.waits ≤ length stops.old) × (c.waits ≤ length required.old) × (c.waits ≤ length weights.old) }
-    requires holds_serving { HoldsServing (sheet_of s.now c) targets.now lines.now rooms.now ids.now
-        × HoldsIds (sheet_of s.now c) asked names.now }
+    requires small { Small c × (length names.now ≡ 64) × (c.waits ≤ length stops.old) × (c.waits ≤ length required.old) × (c.waits ≤ length weights.old) }
+    requires holds_serving { HoldsServing (sheet_of s.now c) cars.now.targets.now cars.now.lines.now cars.now.rooms.now cars.now.line_ids.now
+        × (length cars.now.targets.now ≡ c.cars) × (length cars.now.line_ids.now ≡ c.lines) × HoldsIds (sheet_of s.now c) asked names.now }
     ensures { result ≡ built (λ j. has asked j && covered_by_cars (sheet_of s.now c) j) 64 }
 {
     let n = c.waits as usize;
@@ -163,67 +135,34 @@ fn covered_columns<'a>(
     fields::fill32(s, at, waiting::BITS, waiting::STOP, n, stops);
     fields::fill32(s, at, waiting::BITS, waiting::LINE, n, required);
     fields::fill_doubles(s, at, waiting::BITS, waiting::WEIGHT, 64, n, weights);
-    covered_mask(
-        targets,
-        lines,
-        rooms,
-        c.cars as usize,
-        ids,
-        c.lines as usize,
-        stops,
-        required,
-        weights,
-        n,
-        asked,
-        names,
-    )
+    let riders = Waiting {
+        stops: &stops[..n],
+        required: &required[..n],
+        weights: &weights[..n],
+    };
+    covered_mask(cars, &riders, asked, names)
 }
 
-// The stops of the mask that are covered. Few riders have short columns, which are cleared sooner.
-fn covered_waits<'a>(
-    s: &'a [u8],
+// The stops of the mask that are covered, where no more than N wait.
+fn covered_within<const N: usize>(
+    s: &[u8],
     c: Counts,
-    targets: &'a [u32],
-    lines: &'a [u32],
-    rooms: &'a [f64],
-    ids: &'a [u32],
+    cars: &Serving<'_>,
     asked: u64,
-    names: &'a [u32],
+    names: &[u32],
 ) -> u64
-    requires small { Small c × (length targets.now ≡ 32) × (length lines.now ≡ 32) × (length rooms.now ≡ 32) × (length ids.now ≡ 8)
-        × (length names.now ≡ 64) }
-    requires holds_serving { HoldsServing (sheet_of s.now c) targets.now lines.now rooms.now ids.now
-        × HoldsIds (sheet_of s.now c) asked names.now }
+    requires small { Small c × (length names.now ≡ 64) × (c.waits ≤ N) × (N ≤ 512) }
+    requires holds_serving { HoldsServing (sheet_of s.now c) cars.now.targets.now cars.now.lines.now cars.now.rooms.now cars.now.line_ids.now
+        × (length cars.now.targets.now ≡ c.cars) × (length cars.now.line_ids.now ≡ c.lines) × HoldsIds (sheet_of s.now c) asked names.now }
     ensures { result ≡ built (λ j. has asked j && covered_by_cars (sheet_of s.now c) j) 64 }
 {
-    if c.waits <= 64 {
-        let mut stops = [0u32; 64];
-        let mut required = [0u32; 64];
-        let mut weights = [0.0f64; 64];
-        return covered_columns(
-            s,
-            c,
-            targets,
-            lines,
-            rooms,
-            ids,
-            asked,
-            names,
-            &mut stops,
-            &mut required,
-            &mut weights,
-        );
-    }
-    let mut stops = [0u32; 512];
-    let mut required = [0u32; 512];
-    let mut weights = [0.0f64; 512];
+    let mut stops = [0u32; N];
+    let mut required = [0u32; N];
+    let mut weights = [0.0f64; N];
     covered_columns(
         s,
         c,
-        targets,
-        lines,
-        rooms,
-        ids,
+        cars,
         asked,
         names,
         &mut stops,
@@ -232,23 +171,39 @@ fn covered_waits<'a>(
     )
 }
 
+// The stops of the mask that are covered. Few riders have short columns, which are cleared sooner.
+fn covered_waits(s: &[u8], c: Counts, cars: &Serving<'_>, asked: u64, names: &[u32]) -> u64
+    requires small { Small c × (length names.now ≡ 64) }
+    requires holds_serving { HoldsServing (sheet_of s.now c) cars.now.targets.now cars.now.lines.now cars.now.rooms.now cars.now.line_ids.now
+        × (length cars.now.targets.now ≡ c.cars) × (length cars.now.line_ids.now ≡ c.lines) × HoldsIds (sheet_of s.now c) asked names.now }
+    ensures { result ≡ built (λ j. has asked j && covered_by_cars (sheet_of s.now c) j) 64 }
+{
+    if c.waits <= 64 {
+        covered_within::<64>(s, c, cars, asked, names)
+    } else {
+        covered_within::<512>(s, c, cars, asked, names)
+    }
+}
+
 // The stops of the mask that are covered by cars, by the columns of cars and lines.
-fn covered_by_columns<'a>(s: &'a [u8], c: Counts, asked: u64, names: &'a [u32]) -> u64
+fn covered_by_columns(s: &[u8], c: Counts, asked: u64, names: &[u32]) -> u64
     requires { Small c × (length names.now ≡ 64) × HoldsIds (sheet_of s.now c) asked names.now }
     ensures { result ≡ built (λ j. has asked j && covered_by_cars (sheet_of s.now c) j) 64 }
 {
+    let cars = c.cars as usize;
+    let lines = c.lines as usize;
     let mut targets = [0u32; 32];
-    let mut lines = [0u32; 32];
+    let mut served_lines = [0u32; 32];
     let mut rooms = [0.0f64; 32];
-    let mut ids = [0u32; 8];
+    let mut line_ids = [0u32; 8];
     fill_targets(s, c, &mut targets);
     fields::fill32(
         s,
         c.cars_from(),
         c.car_bits(),
         car::LINE,
-        c.cars as usize,
-        &mut lines,
+        cars,
+        &mut served_lines,
     );
     fill_rooms(s, c, &mut rooms);
     fields::fill32(
@@ -256,33 +211,37 @@ fn covered_by_columns<'a>(s: &'a [u8], c: Counts, asked: u64, names: &'a [u32]) 
         c.lines_from(),
         line::BITS,
         line::ID,
-        c.lines as usize,
-        &mut ids,
+        lines,
+        &mut line_ids,
     );
-    covered_waits(s, c, &targets, &lines, &rooms, &ids, asked, names)
+    let serving = Serving {
+        targets: &targets[..cars],
+        lines: &served_lines[..cars],
+        rooms: &rooms[..cars],
+        line_ids: &line_ids[..lines],
+    };
+    covered_waits(s, c, &serving, asked, names)
 }
 
 // The stops of the mask that a car serves.
-fn served_stops<'a>(s: &'a [u8], c: Counts, asked: u64, names: &'a [u32]) -> u64
+fn served_stops(s: &[u8], c: Counts, asked: u64, names: &[u32]) -> u64
     requires { Small c × (length names.now ≡ 64) × HoldsIds (sheet_of s.now c) asked names.now }
     ensures { result ≡ built (λ j. has asked j && any (serves (sheet_of s.now c) j) c.cars) 64 }
 {
     let n = c.cars;
     let mut m: u64 = 0;
-    let mut i: u32 = 0;
-    while i < n {
+    for i in 0..n {
         let target = target_at(s, c.car_start(i));
         if target != 0 {
             m = with_named(m, names, c.stops as usize, target);
         }
-        i += 1;
     }
     mask::both(asked, m)
 }
 
 // The stops of the mask that are covered by cars. The mask has stops with a record only, and names holds their ids. Few stops are served by a
 // car; the others are not looked at.
-fn covered_by_cars<'a>(s: &'a [u8], c: Counts, asked: u64, names: &'a [u32]) -> u64
+fn covered_by_cars(s: &[u8], c: Counts, asked: u64, names: &[u32]) -> u64
     requires { Small c × (length names.now ≡ 64) × HoldsIds (sheet_of s.now c) asked names.now }
     ensures { result ≡ built (λ j. has asked j && covered_by_cars (sheet_of s.now c) j) 64 }
 {
@@ -294,7 +253,7 @@ fn covered_by_cars<'a>(s: &'a [u8], c: Counts, asked: u64, names: &'a [u32]) -> 
 }
 
 // The places whose names are those of closed landings.
-pub fn closed_stops<'a>(s: &'a [u8], c: Counts, names: &'a [u32]) -> u64
+pub fn closed_stops(s: &[u8], c: Counts, names: &[u32]) -> u64
     requires { Small c × (c.closures ≤ 64) × (length names.now ≡ 64) }
     ensures { result ≡ built (closed_in (sheet_of s.now c) names.now) 64 }
 {
@@ -315,7 +274,7 @@ pub fn closed_stops<'a>(s: &'a [u8], c: Counts, names: &'a [u32]) -> u64
 }
 
 // The stops of the mask that are covered, by cars or since they are closed; the closed ones are at hand.
-pub fn covered_stops<'a>(s: &'a [u8], c: Counts, asked: u64, closed: u64, names: &'a [u32]) -> u64
+pub fn covered_stops(s: &[u8], c: Counts, asked: u64, closed: u64, names: &[u32]) -> u64
     requires small { Small c × (length names.now ≡ 64) × HoldsIds (sheet_of s.now c) asked names.now }
     requires closed_value { closed ≡ built (closed_in (sheet_of s.now c) names.now) 64 }
     ensures { result ≡ built (λ j. has asked j && covered (sheet_of s.now c) j) 64 }

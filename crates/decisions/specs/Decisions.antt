@@ -1,5 +1,5 @@
 -- Decisions from a filled matrix. Assumes nothing.
-use Rattle.std.specs.Prelude.{ℕ, ◌+◌, ◌*◌, ◌≤◌, ◌<◌, ◌≡◌, false, ◌&&◌, cond, ltb, length}
+use Rattle.std.specs.Prelude.{ℕ, ◌*◌, ◌≤◌, ◌<◌, ◌≡◌, false, ◌&&◌, cond, ltb, length, Option}
 use Rattle.std.proofs.Math.Path.{ap}
 use Rattle.std.proofs.Common.{◌∙◌, arith, le-ltb}
 use mathlib.Core.List.{List, ◌++◌}
@@ -11,7 +11,6 @@ use Rattle.mask.specs.declared.Ones.{Ones}
 use Rattle.assignment_problem.specs.Choice.{cell_at}
 use Rattle.assignment_problem.specs.Recursion.{chosen, least_total, column_of}
 use Rattle.assignment_problem.proofs.Chosen.{chosen_length, chosen_choice}
-use Rattle.matcher.specs.declared.Matching.{Matching}
 use Rattle.matcher.specs.Promise.{too_large, refused, matching, written, least_or, all_fit}
 
 -- n rows of cells, none above the sentinel; columns with a listed stop; and room for the decisions
@@ -53,11 +52,11 @@ module _ (cells : List ℕ) (n columns : ℕ) (stops : Ones) (ids : List ℕ) (r
       all_fit n columns cells places h.few h.narrow h.wide h.whole l
       (none_any (too_large cells) (length cells) (λ k lk. le-ltb sentinel (get_or cells k 0) (h.small k lk)))
 
-  pub least_told : (places : ℕ) {answer : Matching} {t : ℕ} → n ≤ places → answer ≡ matching n columns cells places
+  pub least_told : (places : ℕ) {answer : Option ℕ} {t : ℕ} → n ≤ places → answer ≡ matching n columns cells places
       → t ≡ least_or answer 0
       → t ≡ least_total (cell_at cells columns) n columns
   unfolding matching
-  least_told places {answer} {t} l e d = d ∙ ap (λ (a : Matching). least_or a 0) e ∙ rw (taken places l)
+  least_told places {answer} {t} l e d = d ∙ ap (λ (a : Option ℕ). least_or a 0) e ∙ rw (taken places l)
 
   module _ (entry : List ℕ) (places : List ℕ) (l : n ≤ length entry) (e : places ≡ written n columns cells entry) where
     placed : (r : ℕ) → r < n → get_or places r 0 ≡ column_of (cell_at cells columns) n columns r

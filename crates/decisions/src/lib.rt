@@ -5,19 +5,10 @@ ghost use Rattle.std.specs.Prelude.{◌≡◌, ◌++◌, ℕ, ◌+◌, ◌*◌, 
 ghost use Rattle.laws.specs.Tables.{tab};
 ghost use Rattle.assignment_problem.specs.Choice.{cell_at};
 ghost use Rattle.assignment_problem.specs.Recursion.{least_total};
-ghost use Rattle.matcher.specs.Promise.{least_or};
 ghost use Rattle.decisions.specs.Decisions.{Filled, told, told_at, decision_by};
 
+use assignment_problem::Matrix;
 use mask::Ones;
-use matcher::Matching;
-
-// The cell of row r and column k.
-fn cell(cells: &[u64], columns: usize, r: usize, k: usize) -> u64
-    requires { r * columns + k < length cells.now }
-    ensures { result ≡ cell_at cells.now columns r k }
-{
-    cells[r * columns + k]
-}
 
 // What a car is told: the stop of its column, or 0 where the column is spare or its cell is the sentinel.
 fn decision(place: usize, cell: u64, stops: Ones, ids: &[u32]) -> u32
@@ -34,38 +25,18 @@ fn decision(place: usize, cell: u64, stops: Ones, ids: &[u32]) -> u32
     ids[j]
 }
 
-// The decisions of the first n cars, whose columns are placed.
-fn write<'a>(
-    cells: &'a [u64],
-    n: usize,
-    columns: usize,
-    places: &'a [u32],
-    stops: Ones,
-    ids: &'a [u32],
-    decisions: &mut [u32],
-)
-    requires { Filled cells.now n columns stops ids.now (length decisions.old) × (length places.now ≡ 32)
-        × ((r : ℕ) → r < n → get_or places.now r 0 < columns) }
+// The decisions of the cars, whose columns are placed.
+fn write(m: Matrix<'_>, places: &[u32; 32], stops: Ones, ids: &[u32], decisions: &mut [u32])
+    requires { Filled m.cells.now m.rows m.columns stops ids.now (length decisions.old)
+        × ((r : ℕ) → r < m.rows → get_or places.now r 0 < m.columns) }
     ensures { (length decisions.new ≡ length decisions.old)
-        × (decisions.new ≡ tab (told_at cells.now columns places.now stops ids.now) n ++
-        drop n decisions.old) }
+        × (decisions.new ≡ tab (told_at m.entry.cells.now m.entry.columns places.now stops ids.now) m.entry.rows ++
+        drop m.entry.rows decisions.old) }
 {
-    let mut r: usize = 0;
-    while r < n {
+    for r in 0..m.rows {
         let place = places[r] as usize;
-        let cell = cell(cells, columns, r, place);
+        let cell = m.at(r, place);
         decisions[r] = decision(place, cell, stops, ids);
-        r += 1;
-    }
-}
-
-// The total of a matching, 0 where there is none.
-fn total(answer: Matching) -> u64
-    ensures { result ≡ least_or answer 0 }
-{
-    match answer {
-        Matching::Least(least) => least,
-        Matching::None => 0,
     }
 }
 
@@ -86,6 +57,11 @@ pub fn decide<'a>(
 {
     let mut places = [0u32; 32];
     let answer = matcher::assign(n, columns, cells, &mut places);
-    write(cells, n, columns, &places, stops, ids, decisions);
-    total(answer)
+    let m = Matrix {
+        cells,
+        rows: n,
+        columns,
+    };
+    write(m, &places, stops, ids, decisions);
+    answer.unwrap_or(0)
 }

@@ -1,4 +1,6 @@
 -- pair_is_useful from what is held of a car's riders is the sheet's. Assumes nothing.
+use Rattle.std.specs.Prelude.{None, Option, Some}
+use Rattle.components.specs.declared.Point.{Point}
 use Rattle.std.specs.Prelude.{ℕ, ◌<◌, ◌≡◌, Bool, ◌&&◌, ◌||◌, Float}
 use Rattle.std.proofs.Common.{◌∙◌}
 use Rattle.std.proofs.Math.Path.{refl, ap₂}
@@ -9,8 +11,6 @@ use Rattle.std.specs.Float.Ieee.{nan}
 use Rattle.laws.specs.Folds.{any, any_cong}
 use Rattle.laws.specs.Collected.{any_collected}
 use Rattle.mask.specs.Mask.{has}
-use Rattle.components.specs.declared.Place.{Place}
-use Rattle.components.specs.declared.Place.TheVariants.{At, Nowhere}
 use Rattle.components.specs.Sheet.{Sheet}
 use Rattle.manifest.specs.declared.Waiters.{Waiters}
 use Rattle.manifest.specs.World.{stop_at, goal, rides}
@@ -38,11 +38,11 @@ module _ (s : Sheet) (i j : ℕ) (weighed : Weighed s i) (r : Riders) (dests sid
         (λ a. rides s i a && on_path_to (s.car i).position.along (stop_at s j).along (bound_for s i a)) s.aboards
         (λ a l. by (rides s i a) (bound_for s i a))
       where
-        by : (b : Bool) (d : Place)
+        by : (b : Bool) (d : Option Point)
             → ((b && is_at d) && passes (stands_at d).along) ≡ (b && on_path_to (s.car i).position.along (stop_at s j).along d)
         by false d = refl
-        by true Nowhere = refl
-        by true (At x) = refl
+        by true None = refl
+        by true (Some x) = refl
 
     path_is : (path : Bool) → path_allows (s.car i) r dests (stop_at s j).along path ≡ (not path || on_aboard_path s i j)
     unfolding path_allows on_aboard_path

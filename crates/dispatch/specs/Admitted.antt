@@ -1,4 +1,6 @@
 -- Document 01's admitted ranges, as far as a rank depends on them, and how large the waiters' sums and a bonus can be in them. Assumes nothing.
+use Rattle.std.specs.Prelude.{None, Option, Some}
+use Rattle.components.specs.declared.Point.{Point}
 use Rattle.std.specs.Prelude.{ℕ, zero, suc, ◌+◌, ◌*◌, ◌^◌, ◌≤◌, ◌<◌, ◌≡◌, Bool, eqb, Float}
 use Rattle.std.proofs.Common.{arith, pow_mono}
 use Rattle.std.proofs.Math.Bool.{true, false, cond}
@@ -12,8 +14,6 @@ use Rattle.fp.specs.Inside.{AtMost, mass_finite}
 use Rattle.fp.specs.Apart.{room_finite}
 use Rattle.fp.specs.Nonneg.{max_zero_nonneg}
 use Rattle.fp.specs.Sizes.{size_mono, neg_size, max_zero_size, plus_size, times_size}
-use Rattle.components.specs.declared.Place.{Place}
-use Rattle.components.specs.declared.Place.TheVariants.{At, Nowhere}
 use Rattle.components.specs.Points.{is_placed, Sized, placed_size}
 use Rattle.components.specs.Sheet.{Sheet}
 use Rattle.manifest.specs.World.{stop_id, stop_at, stop_position}
@@ -83,9 +83,9 @@ zero_size k = omega arith
 
 -- ---- where a stop stands
 
-abbrev pub Placed : Place → Type 0
-Placed Nowhere = Unit {0}
-Placed (At d) = Sized 20 d
+abbrev pub Placed : Option Point → Type 0
+Placed None = Unit {0}
+Placed (Some d) = Sized 20 d
 
 lookup_all : {A : Type 0} (P : A → Type 0) (p : ℕ → Bool) (f : ℕ → A) (z : A) (n : ℕ) → P z → ((k : ℕ) → k < n → P (f k))
     → P (lookup p f z n)
@@ -100,4 +100,4 @@ lookup_all {A} P p f z (suc n) h g = by (p n) (lookup_all P p f z n h (λ k l. g
 pub placed : (s : Sheet) → Admitted s → (id : ℕ) → Placed (stop_position s id)
 unfolding stop_position
 placed s a id =
-    lookup_all Placed (λ j. eqb (stop_id s j) id) (λ j. At (stop_at s j)) Nowhere s.stops tt (λ k l. placed_size (stop_at s k) (a.stop_at_lem k l))
+    lookup_all Placed (λ j. eqb (stop_id s j) id) (λ j. Some (stop_at s j)) None s.stops tt (λ k l. placed_size (stop_at s k) (a.stop_at_lem k l))

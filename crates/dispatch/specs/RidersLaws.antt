@@ -1,4 +1,5 @@
 -- What is held of a car's riders is the sheet's, and so is pair_is_useful from what is held. Assumes nothing.
+use Rattle.std.specs.Prelude.{None, Option, Some}
 use Rattle.std.specs.Prelude.{ℕ, ◌<◌, ◌≤◌, ◌≡◌, Bool, ◌&&◌, cond, ltb, Float}
 use Rattle.std.proofs.Common.{arith, sym, ◌∙◌}
 use Rattle.std.proofs.Math.Path.{refl, ap, ap₂}
@@ -13,8 +14,6 @@ use Rattle.laws.specs.Collected.{collected, collected_cong}
 use Rattle.mask.specs.Mask.{has}
 use Rattle.mask.specs.MaskLaws.{has_built}
 use Rattle.components.specs.declared.Point.{Point}
-use Rattle.components.specs.declared.Place.{Place}
-use Rattle.components.specs.declared.Place.TheVariants.{At, Nowhere}
 use Rattle.components.specs.Points.{point_of}
 use Rattle.components.specs.Sheet.{Sheet}
 use Rattle.manifest.specs.World.{stop_id, stop_position, rides}
@@ -24,18 +23,18 @@ use Rattle.riders.specs.declared.Riders.{Riders}
 use Rattle.riders.specs.Riders.{known_at, exits_at, exits_in, dests_in, routed, routed_in, riders_in, Seats}
 use Rattle.dispatch.specs.Useful.{can_exit_here}
 
-abbrev pub is_at : Place → Bool
-is_at Nowhere = false
-is_at (At d) = true
+abbrev pub is_at : Option Point → Bool
+is_at None = false
+is_at (Some d) = true
 
 -- the point of a place that is one
-abbrev pub stands_at : Place → Point
-stands_at Nowhere = point_of nan nan
-stands_at (At d) = d
+abbrev pub stands_at : Option Point → Point
+stands_at None = point_of nan nan
+stands_at (Some d) = d
 
 module _ (s : Sheet) (i : ℕ) where
   -- where rider a is bound for
-  abbrev pub bound_for : ℕ → Place
+  abbrev pub bound_for : ℕ → Option Point
   bound_for a = stop_position s (s.aboard a).destination
 
   -- rider a is in car i and its destination has a record
@@ -59,14 +58,14 @@ module _ (s : Sheet) (ids : List ℕ) (xs : List Float) (n : ℕ) (hs : HoldsSto
   unfolding position_in place_at
   place_known id = by (ltb (stop_index ids n id) n) ∙ ap is_at (position_is s ids xs n hs id)
     where
-      by : (b : Bool) → b ≡ is_at (cond b (At (point_in xs (stop_index ids n id))) Nowhere)
+      by : (b : Bool) → b ≡ is_at (cond b (Some (point_in xs (stop_index ids n id))) None)
       by true = refl
       by false = refl
 
   place_is : (id : ℕ) → ltb (stop_index ids n id) n ≡ true → point_in xs (stop_index ids n id) ≡ stands_at (stop_position s id)
   unfolding position_in place_at
   place_is id e =
-      ap (λ (b : Bool). stands_at (cond b (At (point_in xs (stop_index ids n id))) Nowhere)) (sym e) ∙ ap stands_at (position_is s ids xs n hs id)
+      ap (λ (b : Bool). stands_at (cond b (Some (point_in xs (stop_index ids n id))) None)) (sym e) ∙ ap stands_at (position_is s ids xs n hs id)
 
   known_is : (a : ℕ) → a < na → known_at ids n acar adest (s.car i).id a ≡ rides_to s i a
   known_is a l =

@@ -1,14 +1,12 @@
 -- Whether a car's trip to a stop does any work: pair_is_useful of mod.rs, "as there, in its order; the aboard-path test for RSR only". F-12:
 -- "Directions, intervening stops and the aboard-path test use the first coordinate." Assumes nothing.
+use Rattle.std.specs.Prelude.{None, Option, Some}
+use Rattle.components.specs.declared.Point.{Point}
 use Rattle.std.specs.Prelude.{ℕ, ◌≡◌, refl, Bool, true, false, not, ◌&&◌, ◌||◌, cond, eqb, Float}
 use Rattle.std.specs.Float.Ieee.{lt, le}
 use Rattle.laws.specs.Folds.{any}
 use Rattle.fp.specs.Num.{zero, minus, times, over, abs}
 use Rattle.components.specs.declared.Car.{Car}
-use Rattle.components.specs.declared.Place.{Place}
-use Rattle.components.specs.declared.Place.TheVariants as place
-use Rattle.components.specs.declared.Threshold.{Threshold}
-use Rattle.components.specs.declared.Threshold.TheVariants as threshold
 use Rattle.components.specs.Cars.{remaining}
 use Rattle.components.specs.Sheet.{Sheet}
 use Rattle.manifest.specs.World.{stop_id, stop_at, stop_position, goal, rides}
@@ -17,34 +15,34 @@ use Rattle.manifest.specs.Manifest.{waits_at, someone_waits, riderless_call}
 -- ---- on values: c a car, x its first coordinate, p the stop's
 
 -- the car is at or above the threshold
-abbrev pub loaded_to : Car → Threshold → Bool
-loaded_to c threshold.Absent = false
-loaded_to c (threshold.At pct) = not (le c.capacity zero) && not (lt (over c.load c.capacity) pct)
+abbrev pub loaded_to : Car → Option Float → Bool
+loaded_to c None = false
+loaded_to c (Some pct) = not (le c.capacity zero) && not (lt (over c.load c.capacity) pct)
 
 -- bypass_in_current_direction: the car moves to g, is loaded to the threshold of that direction, and the stop lies that way
-abbrev pub bypass : Car → Place → Float → Bool
-bypass c place.Nowhere p = false
-bypass c (place.At g) p =
+abbrev pub bypass : Car → Option Point → Float → Bool
+bypass c None p = false
+bypass c (Some g) p =
     cond (lt c.position.along g.along)
     (loaded_to c c.bypassup && lt c.position.along p)
     (lt g.along c.position.along && (loaded_to c c.bypassdown && lt p c.position.along))
 
 -- the car's lamps let a rider bound for d board at p
-abbrev pub lamps_allow : Car → Float → Place → Bool
-lamps_allow c p place.Nowhere = true
-lamps_allow c p (place.At d) = not (lt p d.along && not c.up) && not (lt d.along p && not c.down)
+abbrev pub lamps_allow : Car → Float → Option Point → Bool
+lamps_allow c p None = true
+lamps_allow c p (Some d) = not (lt p d.along && not c.up) && not (lt d.along p && not c.down)
 
 -- rider_can_board
-unfoldable pub rider_can_board : Car → Float → Float → Place → Bool
+unfoldable pub rider_can_board : Car → Float → Float → Option Point → Bool
 rider_can_board c p weight d = not (lt (remaining c) weight) && lamps_allow c p d
 
 -- the stop is on the path to d: to_dest * to_cand >= 0.0 && to_cand.abs() <= to_dest.abs()
 unfoldable pub on_path : Float → Float → Float → Bool
 on_path x p d = le zero (times (minus d x) (minus p x)) && le (abs (minus p x)) (abs (minus d x))
 
-abbrev pub on_path_to : Float → Float → Place → Bool
-on_path_to x p place.Nowhere = false
-on_path_to x p (place.At d) = on_path x p d.along
+abbrev pub on_path_to : Float → Float → Option Point → Bool
+on_path_to x p None = false
+on_path_to x p (Some d) = on_path x p d.along
 
 -- the tests in their order, as one answer and as the number of the first that fails
 pub by_tests : (here passes full some path : Bool)

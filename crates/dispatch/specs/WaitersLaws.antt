@@ -1,5 +1,7 @@
 -- When what is held of a stop's waiters is the sheet's (proofs/WaitersLaws: it is, where lists hold the sheet); and the least weight of each class
 -- answers rider_can_board for all of them. Assumes nothing.
+use Rattle.std.specs.Prelude.{None, Option, Some}
+use Rattle.components.specs.declared.Point.{Point}
 use Rattle.std.specs.Prelude.{ℕ, ◌<◌, ◌≡◌, Bool, not, ◌&&◌, ◌||◌, Float}
 use Rattle.std.proofs.Math.Path.{refl, ap}
 use Rattle.std.proofs.Common.{sym, ap₂, ◌∙◌}
@@ -11,8 +13,6 @@ use Rattle.fp.specs.Num.{finite}
 use Rattle.fp.specs.Order.{real, lt_asym}
 use Rattle.fp.specs.Least.{least, least_any}
 use Rattle.components.specs.declared.Car.{Car}
-use Rattle.components.specs.declared.Place.{Place}
-use Rattle.components.specs.declared.Place.TheVariants.{At, Nowhere}
 use Rattle.components.specs.Cars.{remaining}
 use Rattle.components.specs.Sheet.{Sheet}
 use Rattle.manifest.specs.declared.Waiters.{Waiters}
@@ -26,7 +26,7 @@ use Rattle.dispatch.specs.Pairs.{can_board, servable_by}
 -- ---- the classes of waiters, over a sheet
 
 module _ (s : Sheet) (j : ℕ) where
-  abbrev pub place_of : ℕ → Place
+  abbrev pub place_of : ℕ → Option Point
   place_of w = stop_position s (s.waiting w).destination
 
   abbrev pub weight_of : ℕ → Float
@@ -73,13 +73,13 @@ one_rider true true false true up false h = simp and-false
 one_rider true true false false up down h = refl
 
 -- the lamps by the two classes
-lamps : (c : Car) (p : Float) (d : Place) → lamps_allow c p d ≡ (not (goes_up p d && not c.up) && not (goes_down p d && not c.down))
-lamps c p Nowhere = refl
-lamps c p (At d) = refl
+lamps : (c : Car) (p : Float) (d : Option Point) → lamps_allow c p d ≡ (not (goes_up p d && not c.up) && not (goes_down p d && not c.down))
+lamps c p None = refl
+lamps c p (Some d) = refl
 
-not_both_ways : (p : Float) (d : Place) → goes_up p d ≡ true → goes_down p d ≡ false
-not_both_ways p Nowhere h = refl
-not_both_ways p (At d) h = lt_asym p d.along h
+not_both_ways : (p : Float) (d : Option Point) → goes_up p d ≡ true → goes_down p d ≡ false
+not_both_ways p None h = refl
+not_both_ways p (Some d) h = lt_asym p d.along h
 
 module _ (s : Sheet) (i j : ℕ) (h : Weighed s i) where
   fits : ℕ → Bool

@@ -9,8 +9,9 @@ ghost use Rattle.std.specs.Float.Ieee.{to_bits};
 pub fn bits_of(x: f64) -> u64
     ensures { result ≡ to_bits binary64 x }
 {
-    if x != x {
-        return 0x7ff8_0000_0000_0000;
+    if x.is_nan() {
+        0x7ff8_0000_0000_0000
+    } else {
+        x.to_bits()
     }
-    f64::to_bits(x)
 }

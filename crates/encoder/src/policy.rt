@@ -16,12 +16,10 @@ pub fn put_terms(s: &mut [u8], at: u32, limit: u16, x: Policy)
     ensures { s.new ≡ fields_put s.old at (policy_strategy_field ∷ policy_limit_field ∷ policy_rate_field ∷ policy_traffic_field ∷ [])
         (strategy_code x.strategy ∷ limit ∷ bits_of x.rate ∷ traffic_code x.traffic ∷ []) }
 {
-    let strategy = x.strategy;
-    let traffic = x.traffic;
-    put(s, at, policy::STRATEGY, 2, values::strategy_code(strategy));
+    put(s, at, policy::STRATEGY, 2, u64::from(x.strategy));
     put(s, at, policy::LIMIT, 16, limit as u64);
     put_double(s, at, policy::RATE, x.rate);
-    put(s, at, policy::TRAFFIC, 2, values::traffic_code(traffic));
+    put(s, at, policy::TRAFFIC, 2, u64::from(x.traffic));
 }
 
 pub fn put_weights(s: &mut [u8], at: u32, x: Policy)

@@ -1,15 +1,12 @@
 -- ETD: etd.rs, with its order of operations. F-12: "Every distance becomes the sum of the two absolute differences, in .. travel, detours";
 -- "Directions, intervening stops .. use the first coordinate." Assumes nothing.
+use Rattle.std.specs.Prelude.{None, Option, Some}
 use Rattle.std.specs.Prelude.{ℕ, ◌+◌, ◌*◌, Bool, false, ◌&&◌, cond, Float}
 use Rattle.std.specs.Float.Ieee.{lt, le, neg}
 use Rattle.laws.specs.Folds.{fold, count}
 use Rattle.fp.specs.Num.{zero, half, three_tenths, epsilon, plus, minus, times, over, max_zero, fma, natural}
 use Rattle.components.specs.declared.Point.{Point}
-use Rattle.components.specs.declared.Place.{Place}
-use Rattle.components.specs.declared.Place.TheVariants.{At, Nowhere}
 use Rattle.components.specs.declared.Phase.{Phase}
-use Rattle.components.specs.declared.Rank.{Rank}
-use Rattle.components.specs.declared.Rank.TheVariants.{Never}
 use Rattle.components.specs.Cars.{is_moving, is_idle}
 use Rattle.components.specs.Points.{distance}
 use Rattle.components.specs.Sheet.{Sheet}
@@ -35,21 +32,21 @@ unfoldable pub extra_delay : Point → Point → Point → Float → Float
 extra_delay x p d speed = over (max_zero (minus (plus (distance x p) (distance p d)) (distance x d))) speed
 
 -- a rider's delay, added where the destination has a position
-abbrev pub add_delay : Point → Point → Float → Float → Place → Float
-add_delay x p speed a Nowhere = a
-add_delay x p speed a (At d) = plus a (extra_delay x p d speed)
+abbrev pub add_delay : Point → Point → Float → Float → Option Point → Float
+add_delay x p speed a None = a
+add_delay x p speed a (Some d) = plus a (extra_delay x p d speed)
 
 -- the stop is ahead of a car that moves to g, up to g
 unfoldable pub is_ahead : Float → Float → Float → Bool
 is_ahead x p g = cond (lt x g) (lt x p && le p g) (lt p x && le g p)
 
 -- half of the travel time off where the car moves past the stop
-abbrev pub moving_bonus : Float → Float → Float → Place → Float
-moving_bonus x p travel Nowhere = zero
-moving_bonus x p travel (At g) = cond (is_ahead x p g.along) (times (neg travel) half) zero
+abbrev pub moving_bonus : Float → Float → Float → Option Point → Float
+moving_bonus x p travel None = zero
+moving_bonus x p travel (Some g) = cond (is_ahead x p g.along) (times (neg travel) half) zero
 
 -- direction_bonus: that, three tenths off for an idle car, nothing for any other
-unfoldable pub direction_bonus : Phase → Place → Float → Float → Float → Float
+unfoldable pub direction_bonus : Phase → Option Point → Float → Float → Float → Float
 direction_bonus phase g x p travel =
     cond (is_moving phase) (moving_bonus x p travel g) (cond (is_idle phase) (times (neg travel) three_tenths) zero)
 
@@ -100,5 +97,5 @@ module _ (s : Sheet) (i j : ℕ) where
       }
 
   -- rank. "Speed 0 gives ETD and RSR no rank": the Rust comes to it by way of an infinite cost
-  unfoldable pub etd_rank : Rank
-  etd_rank = cond (pair_is_useful s i j false && lt zero (s.car i).speed) (finite_rank fair_cost) Never
+  unfoldable pub etd_rank : Option Float
+  etd_rank = cond (pair_is_useful s i j false && lt zero (s.car i).speed) (finite_rank fair_cost) None

@@ -1,4 +1,5 @@
 -- ETD's rank from what is held is the sheet's. Assumes nothing.
+use Rattle.std.specs.Prelude.{None, Option, Some}
 use Rattle.std.specs.Prelude.{ℕ, zero, suc, ◌+◌, ◌≤◌, ◌<◌, ◌≡◌, Bool, ◌&&◌, ◌⊎◌, Float}
 use Rattle.std.proofs.Common.{arith, sym, ◌∙◌, inl, inr}
 use Rattle.std.proofs.Math.Path.{refl, ap, ap₂}
@@ -14,8 +15,6 @@ use Rattle.fp.specs.Num as Num
 use Rattle.fp.specs.Num.{plus}
 use Rattle.mask.specs.Mask.{has}
 use Rattle.components.specs.declared.Point.{Point}
-use Rattle.components.specs.declared.Place.{Place}
-use Rattle.components.specs.declared.Place.TheVariants.{At, Nowhere}
 use Rattle.components.specs.Points.{point_of}
 use Rattle.components.specs.Sheet.{Sheet}
 use Rattle.manifest.specs.declared.Waiters.{Waiters}
@@ -100,11 +99,11 @@ module _ (s : Sheet) (ids : List ℕ) (xs : List Float) (n demand : ℕ) (hs : H
         (λ a b. cond (rides s i b) (add_delay (s.car i).position (stop_at s j) (s.car i).speed a (bound_for s i b)) a)
         Num.zero s.aboards (λ a b l. by a (rides s i b) (bound_for s i b))
       where
-        by : (a : Float) (b : Bool) (d : Place)
+        by : (a : Float) (b : Bool) (d : Option Point)
             → cond (b && is_at d) (delayed a (stands_at d)) a ≡ cond b (add_delay (s.car i).position (stop_at s j) (s.car i).speed a d) a
         by a false d = refl
-        by a true Nowhere = refl
-        by a true (At x) = refl
+        by a true None = refl
+        by a true (Some x) = refl
 
     cost_is : cost_by s.policy (s.car i) (goal s i) r.count dests sides
         (halts_at (s.car i).position.along demand xs n j) (stop_at s j) ≡ compute_cost s i j

@@ -1,5 +1,6 @@
 -- ETD's ranks are finite and never below zero, on every sheet; and in document 01's admitted ranges a useful pair of a car that can move has a rank:
 -- its cost passes the test that it is finite. Assumes nothing.
+use Rattle.std.specs.Prelude.{None, Option, Some}
 use Rattle.std.specs.Prelude.{ℕ, ◌+◌, ◌*◌, ◌^◌, ◌≤◌, ◌<◌, ◌≡◌, Bool, ◌&&◌, Float}
 use Rattle.std.proofs.Common.{arith, lit≤}
 use Rattle.std.proofs.Math.Nat.{le_trans}
@@ -13,10 +14,7 @@ use Rattle.fp.specs.Inside.{AtMost, size_finite}
 use Rattle.fp.specs.Sizes.{AtLeast, natural_size, neg_size, max_zero_size, plus_size, minus_size, times_size, over_size, fold_size}
 use Rattle.fp.specs.Sizes.{mass_power, speed_power, tick_rate_power}
 use Rattle.components.specs.declared.Point.{Point}
-use Rattle.components.specs.declared.Place.{Place}
-use Rattle.components.specs.declared.Place.TheVariants.{At, Nowhere}
 use Rattle.components.specs.declared.Phase.{Phase}
-use Rattle.components.specs.declared.Rank.TheVariants.{Cost}
 use Rattle.components.specs.Cars.{is_moving, is_idle}
 use Rattle.components.specs.Points.{distance, Sized, distance_size, placed_size}
 use Rattle.components.specs.Sheet.{Sheet}
@@ -40,7 +38,7 @@ module _ (s : Sheet) (i j : ℕ) where
       (with_bonus_nonneg (compute_cost s i j) s.policy.w3 (wait_ticks_squared_sum s j) (max_zero_nonneg _))
 
   -- a rank is never negative and never a NaN: 0 is at most it
-  pub etd_nonneg : (x : Float) → etd_rank s i j ≡ Cost x → (le Num.zero x ≡ true) × (finite x ≡ true)
+  pub etd_nonneg : (x : Float) → etd_rank s i j ≡ Some x → (le Num.zero x ≡ true) × (finite x ≡ true)
   unfolding etd_rank
   etd_nonneg x h =
       let (e, f) = ranked (pair_is_useful s i j false && lt Num.zero (s.car i).speed) (fair_cost s i j) x h in (rw e at cost_nonneg, rw e at f)
@@ -71,13 +69,13 @@ three_tenths_size : AtMost (2 ^ 0) three_tenths
 unfolding of_bits
 three_tenths_size = lit≤ tt
 
-bonus_size : (phase : Phase) (g : Place) (x p travel : Float) → AtMost (2 ^ 32) travel → AtMost (2 ^ 32) (direction_bonus phase g x p travel)
+bonus_size : (phase : Phase) (g : Option Point) (x p travel : Float) → AtMost (2 ^ 32) travel → AtMost (2 ^ 32) (direction_bonus phase g x p travel)
 unfolding direction_bonus
 bonus_size phase g x p travel t = by (is_moving phase) (is_idle phase)
   where
-    to : (g : Place) → AtMost (2 ^ 32) (moving_bonus x p travel g)
-    to Nowhere = zero_size (2 ^ 32)
-    to (At d) = ahead (is_ahead x p d.along)
+    to : (g : Option Point) → AtMost (2 ^ 32) (moving_bonus x p travel g)
+    to None = zero_size (2 ^ 32)
+    to (Some d) = ahead (is_ahead x p d.along)
       where
         ahead : (b : Bool) → AtMost (2 ^ 32) (cond b (times (neg travel) half) Num.zero)
         ahead true = times_size 32 0 (neg travel) half (lit≤ tt) (neg_size (2 ^ 32) travel t) half_size
@@ -120,11 +118,11 @@ module _ (s : Sheet) (a : Admitted s) (i j : ℕ) (li : i < s.cars) (lj : j < s.
       34 s.aboards Num.zero (omega arith) (zero_size (2 ^ 34))
       (λ b k x lb u v p. by (rides s i b) (stop_position s (s.aboard b).destination) (placed s a (s.aboard b).destination) k x u v p))
     where
-      by : (r : Bool) (d : Place) → Placed d → (k : ℕ) (x : Float) → 34 ≤ k → k < 1023 → AtMost (2 ^ k) x
+      by : (r : Bool) (d : Option Point) → Placed d → (k : ℕ) (x : Float) → 34 ≤ k → k < 1023 → AtMost (2 ^ k) x
           → AtMost (2 ^ (k + 1)) (cond r (add_delay (s.car i).position (stop_at s j) (s.car i).speed x d) x)
       by false d q k x u v p = grow k (k + 1) x (omega arith) p
-      by true Nowhere q k x u v p = grow k (k + 1) x (omega arith) p
-      by true (At d) q k x u v p =
+      by true None q k x u v p = grow k (k + 1) x (omega arith) p
+      by true (Some d) q k x u v p =
           plus_size k x (extra_delay (s.car i).position (stop_at s j) d (s.car i).speed) v p
           (grow 34 k (extra_delay (s.car i).position (stop_at s j) d (s.car i).speed) u
           (extra_size (s.car i).position (stop_at s j) d (s.car i).speed car_size stop_size q speed_size))
@@ -158,6 +156,6 @@ module _ (s : Sheet) (a : Admitted s) (i j : ℕ) (li : i < s.cars) (lj : j < s.
       (mass_power s.policy.w4 a.w4) (waitsum_size s a j))
 
   -- "In the admitted ranges every rank is finite": a useful pair has one
-  pub etd_ranked : pair_is_useful s i j false ≡ true → etd_rank s i j ≡ Cost (fair_cost s i j)
+  pub etd_ranked : pair_is_useful s i j false ≡ true → etd_rank s i j ≡ Some (fair_cost s i j)
   unfolding etd_rank finite_rank
   etd_ranked u = rw (u, moves, cost_finite)

@@ -1,5 +1,6 @@
 -- ETD's cost and rank from what is held: the number of demand stops between, and the riders' destinations as two lists, of first and of second
 -- coordinates; that number from the demand stops as a mask over n stops. Assumes nothing.
+use Rattle.std.specs.Prelude.{None, Option, Some}
 use Rattle.std.specs.Prelude.{ℕ, ◌≡◌, Bool, true, false, ◌&&◌, cond, List, get_or, Float}
 use Rattle.std.proofs.Common.{sym, ◌∙◌}
 use Rattle.std.proofs.Math.Path.{ap}
@@ -11,10 +12,6 @@ use Rattle.mask.specs.Mask.{has}
 use Rattle.components.specs.declared.Car.{Car}
 use Rattle.components.specs.declared.Policy.{Policy}
 use Rattle.components.specs.declared.Point.{Point}
-use Rattle.components.specs.declared.Place.{Place}
-use Rattle.components.specs.declared.Place.TheVariants.{At}
-use Rattle.components.specs.declared.Rank.{Rank}
-use Rattle.components.specs.declared.Rank.TheVariants.{Never}
 use Rattle.components.specs.Points.{point_of, distance}
 use Rattle.manifest.specs.declared.Waiters.{Waiters}
 use Rattle.manifest.specs.Stops.{point_in}
@@ -26,7 +23,7 @@ use Rattle.etd.specs.Etd.{intervenes, door_cost, extra_delay, is_ahead, moving_b
 use Rattle.dispatch.specs.FiniteRank.{finite_rank}
 
 -- the bonus of a moving car, by whether its goal lies ahead
-module _ (x p travel : Float) (goal : Place) {g : Point} (at : goal ≡ At g) {ahead : Bool} (e : ahead ≡ is_ahead x p g.along) where
+module _ (x p travel : Float) (goal : Option Point) {g : Point} (at : goal ≡ Some g) {ahead : Bool} (e : ahead ≡ is_ahead x p g.along) where
   as_ahead : (b : Bool) → ahead ≡ b → cond b (times (neg travel) half) zero ≡ moving_bonus x p travel goal
   as_ahead b t = ap (λ (c : Bool). cond c (times (neg travel) half) zero) (sym t ∙ e) ∙ sym (ap (moving_bonus x p travel) at)
 
@@ -61,7 +58,7 @@ unfoldable pub delay_in : Point → Point → Float → List Float → List Floa
 delay_in x p speed dests sides n = fold (λ a k. plus a (extra_delay x p (point_of (get_or dests k nan) (get_or sides k nan)) speed)) zero n
 
 -- compute_cost, of a stop at p with so many halts before it
-unfoldable pub cost_by : Policy → Car → Place → ℕ → List Float → List Float → ℕ → Point → Float
+unfoldable pub cost_by : Policy → Car → Option Point → ℕ → List Float → List Float → ℕ → Point → Float
 cost_by y c goal count dests sides halts p =
     weighted y.w0 y.w1 y.w2 (over (distance c.position p) c.speed)
     (delay_in c.position p c.speed dests sides count)
@@ -69,12 +66,12 @@ cost_by y c goal count dests sides halts p =
     (direction_bonus c.phase goal c.position.along p.along (over (distance c.position p) c.speed))
 
 -- the cost less both fairness bonuses, wait squared first
-unfoldable pub fair_cost_by : Policy → Car → Place → ℕ → List Float → List Float → Waiters → ℕ → Point → Float
+unfoldable pub fair_cost_by : Policy → Car → Option Point → ℕ → List Float → List Float → Waiters → ℕ → Point → Float
 fair_cost_by y c goal count dests sides w halts p =
     with_bonus (with_bonus (cost_by y c goal count dests sides halts p) y.w3 w.squares) y.w4 w.waitsum
 
 -- what the cost is made of
-unfoldable pub terms_by : Policy → Car → Place → ℕ → List Float → List Float → Waiters → ℕ → Point → Terms
+unfoldable pub terms_by : Policy → Car → Option Point → ℕ → List Float → List Float → Waiters → ℕ → Point → Terms
 terms_by y c goal count dests sides w halts p =
     record {
       travel = over (distance c.position p) c.speed;
@@ -87,7 +84,7 @@ terms_by y c goal count dests sides w halts p =
       cost = fair_cost_by y c goal count dests sides w halts p;
     }
 
-module _ (y : Policy) (c : Car) (goal : Place) (count : ℕ) (dests sides : List Float) (w : Waiters) (halts : ℕ) (p : Point)
+module _ (y : Policy) (c : Car) (goal : Option Point) (count : ℕ) (dests sides : List Float) (w : Waiters) (halts : ℕ) (p : Point)
   where
     pub cost_by_lem : {t : Terms} → t ≡ terms_by y c goal count dests sides w halts p → t.cost ≡ fair_cost_by y c goal count dests sides w halts p
     unfolding terms_by
@@ -114,8 +111,8 @@ module _ (y : Policy) (c : Car) (goal : Place) (count : ℕ) (dests sides : List
     terms_by_lem ea ed er eb ew eq ef = rw (ef, eq, ew, eb, er, ed, ea)
 
 -- rank, of stop j with so many halts before it
-unfoldable pub rank_by : Policy → Car → Place → Riders → List Float → List Float → Waiters → ℕ → List Float → ℕ → Rank
+unfoldable pub rank_by : Policy → Car → Option Point → Riders → List Float → List Float → Waiters → ℕ → List Float → ℕ → Option Float
 rank_by y c goal r dests sides w halts xs j =
     cond (useful_by c goal r dests w (has r.exits j) (point_in xs j).along false && lt zero c.speed)
     (finite_rank (fair_cost_by y c goal r.count dests sides w halts (point_in xs j)))
-    Never
+    None

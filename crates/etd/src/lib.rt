@@ -5,13 +5,15 @@ ghost use Rattle.std.specs.Prelude.{◌≡◌, not, ◌&&◌, cond, ◌++◌, �
 ghost use Rattle.std.specs.Float.Ieee.{lt};
 ghost use Rattle.laws.specs.Bools.{bit};
 ghost use Rattle.laws.specs.Tables.{tab};
+ghost use Rattle.riders.specs.Riders.{HasPoints};
 ghost use Rattle.etd.specs.Etd.{intervenes, door_cost, extra_delay, is_ahead, moving_bonus, direction_bonus, weighted};
 ghost use Rattle.etd.specs.Pairs.{intervening_in, halts_at, delay_in, terms_by, rank_by};
 ghost use Rattle.etd.specs.Halts.{place_of, demand_places, counts_at, stop_counts, HoldsCounts, halts_between};
 
-use components::{Car, Phase, Place, Point, Policy, Rank};
-use manifest::Waiters;
-use riders::Riders;
+use components::{Phase, Point};
+use dispatch::Row;
+use manifest::{Stops, Waiters};
+use riders::Destinations;
 
 // What a cost is made of: the seconds to the stop, those that riders aboard lose, those of halts between, and the bonus; their weighted sum; what was
 // waited at the stop, squared and plain; and the cost.
@@ -41,10 +43,8 @@ fn demand_places(demand: u64, xs: &[f64], n: usize) -> [f64; 64]
     ensures { result ≡ demand_places demand xs.now n }
 {
     let mut places = [1.0 / 0.0; 64];
-    let mut k: usize = 0;
-    while k < n {
+    for k in 0..n {
         places[k] = place_of(mask::has(demand, k), xs[k]);
-        k += 1;
     }
     places
 }
@@ -72,26 +72,25 @@ fn counts_at(x: f64, places: &[f64], n: usize) -> u64
     let hi = x - 1e-9;
     let mut short: u64 = 0;
     let mut reached: u64 = 0;
-    let mut k: usize = 0;
-    while k < n {
+    for k in 0..n {
         let q = places[k];
         short += is_below(q, hi);
         reached += is_up_to(lo, q);
-        k += 1;
     }
     short * 128 + reached
 }
 
-// The counts of the n stops at xs, for every row of a pass.
-pub fn fill_table(demand: u64, xs: &[f64], n: usize, out: &mut [u64])
-    requires { (n ≤ 64) × (n ≤ length xs.now) × (n ≤ length out.old) }
-    ensures { out.new ≡ tab (stop_counts demand xs.now n) n ++ drop n out.old }
+// The counts of the stops, for every row of a pass.
+pub fn fill_table(demand: u64, stops: &Stops, out: &mut [u64])
+    requires { (stops.now.count ≤ 64) × (stops.now.count ≤ length stops.now.points.now) × (stops.now.count ≤ length out.old) }
+    ensures { let n = stops.now.count in
+        out.new ≡ tab (stop_counts demand stops.now.points.now n) n ++ drop n out.old }
 {
+    let xs = stops.points;
+    let n = stops.count;
     let places = demand_places(demand, xs, n);
-    let mut j: usize = 0;
-    while j < n {
+    for j in 0..n {
         out[j] = counts_at(xs[j], &places, n);
-        j += 1;
     }
 }
 
@@ -113,24 +112,19 @@ fn halts_between(x: f64, p: f64, car: u64, stop: u64) -> u64
     }
 }
 
-// The demand stops between a car at x and each of the n stops at xs, from the stops' counts.
-pub fn fill_halts<'a>(
-    x: f64,
-    demand: u64,
-    xs: &'a [f64],
-    n: usize,
-    table: &'a [u64],
-    out: &mut [u64],
-)
-    requires { (n ≤ 64) × (n ≤ length xs.now) × (n ≤ length out.old) × HoldsCounts demand xs.now n table.now }
-    ensures { out.new ≡ tab (halts_at x demand xs.now n) n ++ drop n out.old }
+// The demand stops between a car at x and each stop, from the stops' counts.
+pub fn fill_halts(x: f64, demand: u64, stops: &Stops, table: &[u64], out: &mut [u64])
+    requires { (stops.now.count ≤ 64) × (stops.now.count ≤ length stops.now.points.now) × (stops.now.count ≤ length out.old)
+        × HoldsCounts demand stops.now.points.now stops.now.count table.now }
+    ensures { let n = stops.now.count in
+        out.new ≡ tab (halts_at x demand stops.now.points.now n) n ++ drop n out.old }
 {
+    let xs = stops.points;
+    let n = stops.count;
     let places = demand_places(demand, xs, n);
     let car = counts_at(x, &places, n);
-    let mut j: usize = 0;
-    while j < n {
+    for j in 0..n {
         out[j] = halts_between(x, xs[j], car, table[j]);
-        j += 1;
     }
 }
 
@@ -149,18 +143,16 @@ fn is_between(demand: bool, x: f64, p: f64, q: f64) -> u64
     if demand & ((lo < q) & (q < hi)) { 1 } else { 0 }
 }
 
-// How many demand stops, of the n at xs, lie between: for one pair, one by one.
-pub fn intervening_stops(x: f64, p: f64, demand: u64, xs: &[f64], n: usize) -> u64
-    requires { (n ≤ 64) × (n ≤ length xs.now) }
-    ensures { result ≡ intervening_in x p demand xs.now n }
+// How many demand stops lie between: for one pair, one by one.
+pub fn intervening_stops(x: f64, p: f64, demand: u64, stops: &Stops) -> u64
+    requires { (stops.now.count ≤ 64) × (stops.now.count ≤ length stops.now.points.now) }
+    ensures { result ≡ intervening_in x p demand stops.now.points.now stops.now.count }
 {
-    let mut stops: u64 = 0;
-    let mut k: usize = 0;
-    while k < n {
-        stops += is_between(mask::has(demand, k), x, p, xs[k]);
-        k += 1;
+    let mut between: u64 = 0;
+    for k in 0..stops.count {
+        between += is_between(mask::has(demand, k), x, p, stops.points[k]);
     }
-    stops
+    between
 }
 
 // The door cycles of these stops, in seconds.
@@ -181,66 +173,50 @@ fn extra_delay(x: Point, p: Point, d: Point, speed: f64) -> f64
     fp::max_zero(detour - direct) / speed
 }
 
-// existing_rider_delay, over the first n points of dests and sides.
-fn existing_rider_delay(
-    x: Point,
-    p: Point,
-    speed: f64,
-    dests: &[f64],
-    sides: &[f64],
-    n: usize,
-) -> f64
-    requires { (n ≤ length dests.now) × (n ≤ length sides.now) }
-    ensures { result ≡ delay_in x p speed dests.now sides.now n }
+// existing_rider_delay, over the first n of dests.
+fn existing_rider_delay(x: Point, p: Point, speed: f64, dests: &Destinations, n: usize) -> f64
+    requires { HasPoints n dests.now.along.now dests.now.across.now }
+    ensures { result ≡ delay_in x p speed dests.now.along.now dests.now.across.now n }
 {
     let mut delay = 0.0;
-    let mut k: usize = 0;
-    while k < n {
-        let d = Point {
-            along: dests[k],
-            across: sides[k],
-        };
-        delay = delay + extra_delay(x, p, d, speed);
-        k += 1;
+    for k in 0..n {
+        delay += extra_delay(x, p, dests.point(k), speed);
     }
     delay
 }
 
 // Whether a stop at p is ahead of a car that moves from x to g, up to g.
+#[tactic(auto, unfolding(crate::specs::Etd::is_ahead))]
 fn is_ahead(x: f64, p: f64, g: f64) -> bool
     ensures { result ≡ is_ahead x p g }
 {
     if g > x {
-        if p > x { p <= g } else { false }
+        p > x && p <= g
     } else {
-        if p < x { p >= g } else { false }
+        p < x && p >= g
     }
 }
 
 // Half of the travel time off where the car moves past the stop.
-fn moving_bonus(x: f64, p: f64, travel: f64, goal: Place) -> f64
+fn moving_bonus(x: f64, p: f64, travel: f64, goal: Option<Point>) -> f64
     ensures { result ≡ moving_bonus x p travel goal }
 {
     match goal {
-        Place::Nowhere => 0.0,
-        Place::At(g) => {
-            if is_ahead(x, p, g.along) {
-                -travel * 0.5
-            } else {
-                0.0
-            }
-        }
+        Some(g) if is_ahead(x, p, g.along) => -travel * 0.5,
+        _ => 0.0,
     }
 }
 
 // direction_bonus: that, three tenths off for an idle car, nothing for any other.
-fn direction_bonus(phase: Phase, goal: Place, x: f64, p: f64, travel: f64) -> f64
+fn direction_bonus(phase: Phase, goal: Option<Point>, x: f64, p: f64, travel: f64) -> f64
     ensures { result ≡ direction_bonus phase goal x p travel }
 {
     if phase.is_moving() {
         moving_bonus(x, p, travel, goal)
+    } else if phase.is_idle() {
+        -travel * 0.3
     } else {
-        if phase.is_idle() { -travel * 0.3 } else { 0.0 }
+        0.0
     }
 }
 
@@ -261,29 +237,19 @@ fn weighted(
     fp::max_zero(fp::fma(wait, travel, b))
 }
 
-// compute_cost, of a stop at p with so many halts before it, for a car whose riders go to the first count points of dests and sides; then less both
-// fairness bonuses.
-pub fn cost_terms(
-    policy: Policy,
-    car: Car,
-    goal: Place,
-    count: usize,
-    dests: &[f64],
-    sides: &[f64],
-    waiters: Waiters,
-    halts: u64,
-    p: Point,
-) -> Terms
-    requires { (count ≤ length dests.now) × (count ≤ length sides.now) }
-    ensures { result ≡ terms_by policy car goal count dests.now sides.now waiters halts p }
+// compute_cost, of a stop at p with so many halts before it, for a row's car whose riders go to the first of dests; then less both fairness bonuses.
+pub fn cost_terms(row: &Row, dests: &Destinations, waiters: Waiters, halts: u64, p: Point) -> Terms
+    requires { HasPoints row.now.riders.count dests.now.along.now dests.now.across.now }
+    ensures { result ≡ terms_by row.now.policy row.now.car row.now.goal row.now.riders.count dests.now.along.now dests.now.across.now
+        waiters halts p }
 {
+    let policy = &row.policy;
+    let car = &row.car;
     let x = car.position;
-    let speed = car.speed;
-    let phase = car.phase;
-    let travel = x.distance(p) / speed;
+    let travel = x.distance(p) / car.speed;
     let doors = door_cost(halts, car.transition, car.dwell, policy.rate);
-    let delay = existing_rider_delay(x, p, speed, dests, sides, count);
-    let bonus = direction_bonus(phase, goal, x.along, p.along, travel);
+    let delay = existing_rider_delay(x, p, car.speed, dests, row.riders.count);
+    let bonus = direction_bonus(car.phase, row.goal, x.along, p.along, travel);
     let sum = weighted(policy.w0, policy.w1, policy.w2, travel, delay, doors, bonus);
     let squared = dispatch::with_bonus(sum, policy.w3, waiters.squares);
     Terms {
@@ -298,33 +264,25 @@ pub fn cost_terms(
     }
 }
 
-// rank, of stop j of those at xs, with so many halts before it.
+// rank, of stop j, with so many halts before it.
 pub fn rank(
-    policy: Policy,
-    car: Car,
-    goal: Place,
-    riders: Riders,
-    dests: &[f64],
-    sides: &[f64],
+    row: &Row,
+    dests: &Destinations,
     waiters: Waiters,
     halts: u64,
-    xs: &[f64],
+    stops: &Stops,
     j: usize,
-) -> Rank
-    requires { (riders.count ≤ length dests.now) × (riders.count ≤ length sides.now) × (j < 64) × (64 + j < length xs.now) }
-    ensures { result ≡ rank_by policy car goal riders dests.now sides.now waiters halts xs.now j }
+) -> Option<f64>
+    requires { HasPoints row.now.riders.count dests.now.along.now dests.now.across.now × (j < 64)
+        × (64 + j < length stops.now.points.now) }
+    ensures { result ≡ rank_by row.now.policy row.now.car row.now.goal row.now.riders dests.now.along.now dests.now.across.now waiters halts
+        stops.now.points.now j }
 {
-    let p = manifest::point(xs, j);
-    let count = riders.count;
-    let here = mask::has(riders.exits, j);
-    if dispatch::pair_is_useful(car, goal, riders, dests, waiters, here, p.along, false) {
-        if car.speed > 0.0 {
-            let t = cost_terms(policy, car, goal, count, dests, sides, waiters, halts, p);
-            dispatch::finite_rank(t.cost)
-        } else {
-            Rank::Never
-        }
+    let p = stops.point(j);
+    let here = mask::has(row.riders.exits, j);
+    if row.pair_is_useful(dests.along, waiters, here, p.along, false) && row.car.speed > 0.0 {
+        dispatch::finite_rank(cost_terms(row, dests, waiters, halts, p).cost)
     } else {
-        Rank::Never
+        None
     }
 }

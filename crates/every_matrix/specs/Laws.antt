@@ -1,5 +1,5 @@
 -- The numbers of a line have one digit each, and the plain matcher takes every matrix. Assumes nothing.
-use Rattle.std.specs.Prelude.{ℕ, zero, suc, ◌+◌, ◌*◌, ◌≤◌, ◌<◌, List, get_or}
+use Rattle.std.specs.Prelude.{ℕ, zero, suc, ◌+◌, ◌*◌, ◌≤◌, ◌<◌, List, get_or, Ok, Err}
 use Rattle.std.proofs.Math.Path.{◌≡◌, refl, sym, ap}
 use Rattle.std.proofs.Common.{◌∙◌}
 use native.Mathlib.Omega.{arith}
@@ -11,8 +11,8 @@ use Rattle.laws.specs.Sums.{sum}
 use Rattle.assignment_problem.specs.Choice.{cell_at, total, sentinel}
 use Rattle.assignment_problem.specs.Recursion.{chosen, least_total, column_of}
 use Rattle.assignment_problem.proofs.Chosen.{chosen_choice, chosen_total}
-use Rattle.plain_matcher.specs.declared.Columns.{Columns}
-use Rattle.plain_matcher.specs.declared.Plain.TheVariants.{Chosen, Refused}
+use Rattle.plain_matcher.specs.declared.Chosen.{Chosen}
+use Rattle.plain_matcher.specs.declared.Refusal.{Refusal}
 use Rattle.plain_matcher.specs.Promise.{four_of, chosen_of, plain_of}
 use Rattle.plain_matcher.proofs.Fits.{all_fits}
 use Rattle.every_matrix.specs.EveryMatrix.{matrix_of}
@@ -67,13 +67,13 @@ module _ (k : ℕ) where
       (none_any (λ j. ltb sentinel (get_or (matrix_of k) j 0)) 6 (λ j l. le-ltb sentinel (get_or (matrix_of k) j 0) (omega (arith, cell_low k j))))
 
   -- what the plain matcher chooses of it
-  pub line_chosen : {x : Columns} {t : ℕ} → Chosen x t ≡ plain_of 2 3 (matrix_of k)
-      → (x.first ≡ column_of cell 2 3 0) × (x.second ≡ column_of cell 2 3 1) × (t ≡ least_total cell 2 3)
+  pub line_chosen : {x : Chosen} → Ok x ≡ plain_of 2 3 (matrix_of k)
+      → (x.columns.first ≡ column_of cell 2 3 0) × (x.columns.second ≡ column_of cell 2 3 1) × (x.total ≡ least_total cell 2 3)
   unfolding chosen_of
-  line_chosen {x} {t} e = let f : Chosen x t ≡ chosen_of 2 3 (matrix_of k) = e ∙ sym matrix_plain in
-      let g : x ≡ four_of (chosen cell 2 3) = cc in
-      (ap (λ (y : Columns). y.first) g, ap (λ (y : Columns). y.second) g, cc)
+  line_chosen {x} e = let f : Ok x ≡ chosen_of 2 3 (matrix_of k) = e ∙ sym matrix_plain in
+      let g : x ≡ record { columns = four_of (chosen cell 2 3); total = least_total cell 2 3 } = cc in
+      (ap (λ (y : Chosen). y.columns.first) g, ap (λ (y : Chosen). y.columns.second) g, ap (λ (y : Chosen). y.total) g)
 
-  pub never_refused : {n : ℕ} → Refused n ≡ plain_of 2 3 (matrix_of k) → ⊥
+  pub never_refused : {r : Refusal} → Err r ≡ plain_of 2 3 (matrix_of k) → ⊥
   unfolding chosen_of
   never_refused e = let f = e ∙ sym matrix_plain in let z : ◌≡◌ {A = ℕ} 0 1 = cc in omega arith

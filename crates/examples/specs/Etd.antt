@@ -18,10 +18,10 @@
 -- Car 7 has stop 3 at 6 and stop 1 at 8, car 8 has stop 1 at 2 and stop 3 at 12: a limit of 1 keeps stop 3 for car 7 and stop 1 for car 8.
 --   with the limit 1   (sentinel, 28,100,000), (1,000,000, sentinel): car 7 to stop 3, car 8 to stop 1, total 29,100,000
 --   with none          (2,800,000, 28,100,000), (1,000,000, 14,000,000): car 7 to stop 1, car 8 to stop 3, total 16,800,000
+use Rattle.std.specs.Prelude.{Ok}
 use Rattle.std.specs.Prelude.{ℕ, ◌≡◌, refl, List, [], ◌∷◌, true, false}
 use Rattle.scale.specs.Scale.{sentinel}
 use Rattle.layout.specs.declared.Counts.{Counts}
-use Rattle.layout.specs.declared.Reading.TheVariants.{Accepted}
 use Rattle.layout.specs.Records.{sheet_of, limit_of}
 use Rattle.layout.specs.Verdict.{verdict}
 use Rattle.components.specs.Sheet.{Sheet}
@@ -56,7 +56,7 @@ unfoldable pub opened : ℕ
 unfolding pass bytes counts sheet
 opened = 0
 
-pub accepted : verdict bytes ≡ Accepted counts
+pub accepted : verdict bytes ≡ Ok counts
 unfolding opened
 accepted = refl
 

@@ -16,13 +16,13 @@
 -- No limit:
 --   before the bar   (4,000,000, 12,000,000), (2,000,000, 6,000,000): car 7 to stop 1, car 8 to stop 2, 10,000,000
 --   with the bar     (sentinel, 12,000,000), (2,000,000, 6,000,000): car 7 to stop 2, car 8 to stop 1, 14,000,000
+use Rattle.std.specs.Prelude.{Ok}
 use Rattle.std.specs.Prelude.{ℕ, zero, suc, ◌+◌, ◌-◌, ◌*◌, ◌/◌, ◌%◌, ◌^◌, ◌≤◌, ◌<◌, ◌≡◌, refl, List, [], ◌∷◌, ◌≢◌, length, set, get_or}
 use Rattle.std.proofs.Common.{sym, ap, ◌∙◌, ⊎_elim, arith, get_or-set_other}
 use Rattle.laws.specs.Bools.{same?}
 use Rattle.scale.specs.Scale.{sentinel}
 use Rattle.bits.specs.Field.{bit_at}
 use Rattle.layout.specs.declared.Counts.{Counts}
-use Rattle.layout.specs.declared.Reading.TheVariants.{Accepted}
 use Rattle.layout.specs.Records.{sheet_of, limit_of}
 use Rattle.layout.specs.Verdict.{verdict}
 use Rattle.assignment.specs.Candidates.{no_limit}
@@ -64,8 +64,8 @@ unfoldable pub opened : ℕ
 unfolding pass limited_before limited_after before after counts
 opened = 0
 
-pub accepted : (verdict limited_before ≡ Accepted counts) × (verdict limited_after ≡ Accepted counts)
-    × (verdict before ≡ Accepted counts) × (verdict after ≡ Accepted counts)
+pub accepted : (verdict limited_before ≡ Ok counts) × (verdict limited_after ≡ Ok counts)
+    × (verdict before ≡ Ok counts) × (verdict after ≡ Ok counts)
 unfolding opened
 accepted = (refl, refl, refl, refl)
 

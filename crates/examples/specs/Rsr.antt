@@ -12,10 +12,10 @@
 --   car 8 to stop 2: the rider gets out there; eta 1 × 5 / 2 = 2.5
 --   car 8 to stop 3: 20 is on the other side of the car than 10: no rank
 -- Least: car 7 to stop 3, car 8 to stop 2, 3 + 2.5 = 5.5.
+use Rattle.std.specs.Prelude.{Ok}
 use Rattle.std.specs.Prelude.{ℕ, ◌≡◌, refl, List, [], ◌∷◌, true, false}
 use Rattle.scale.specs.Scale.{sentinel}
 use Rattle.layout.specs.declared.Counts.{Counts}
-use Rattle.layout.specs.declared.Reading.TheVariants.{Accepted}
 use Rattle.layout.specs.Records.{sheet_of, limit_of}
 use Rattle.layout.specs.Verdict.{verdict}
 use Rattle.components.specs.Sheet.{Sheet}
@@ -46,7 +46,7 @@ unfoldable pub opened : ℕ
 unfolding pass bytes counts sheet
 opened = 0
 
-pub accepted : verdict bytes ≡ Accepted counts
+pub accepted : verdict bytes ≡ Ok counts
 unfolding opened
 accepted = refl
 

@@ -11,10 +11,10 @@
 --   car 8 to stop 1: 20
 --   car 8 to stop 3: at the car, 20 < 20 + 1e-9: 0
 -- Least: car 8 to stop 3 for 0, car 7 stays for the sentinel, in column 0.
+use Rattle.std.specs.Prelude.{Ok}
 use Rattle.std.specs.Prelude.{ℕ, ◌≡◌, refl, List, [], ◌∷◌, true, false}
 use Rattle.scale.specs.Scale.{sentinel}
 use Rattle.layout.specs.declared.Counts.{Counts}
-use Rattle.layout.specs.declared.Reading.TheVariants.{Accepted}
 use Rattle.layout.specs.Records.{sheet_of, limit_of}
 use Rattle.layout.specs.Verdict.{verdict}
 use Rattle.components.specs.Sheet.{Sheet}
@@ -45,7 +45,7 @@ unfoldable pub opened : ℕ
 unfolding pass bytes counts sheet
 opened = 0
 
-pub accepted : verdict bytes ≡ Accepted counts
+pub accepted : verdict bytes ≡ Ok counts
 unfolding opened
 accepted = refl
 

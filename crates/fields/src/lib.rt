@@ -1,7 +1,7 @@
 // One field of every record of a kind, into a lent buffer: what the pass reads often is decoded once.
 #![tactic(auto)]
 
-ghost use Rattle.std.specs.Prelude.{◌≡◌, ◌++◌, ◌+◌, ◌*◌, ◌<◌, ◌≤◌, ◌^◌, length, drop};
+ghost use Rattle.std.specs.Prelude.{◌≡◌, ◌++◌, ◌+◌, ◌*◌, ◌<◌, ◌≤◌, ◌^◌, ℕ, length, drop};
 ghost use Rattle.std.specs.Float.Ieee.{of_bits};
 ghost use Rattle.std.specs.Float.{binary64};
 ghost use Rattle.bits.specs.Field.{field_at};
@@ -9,17 +9,24 @@ ghost use Rattle.laws.specs.Tables.{tab};
 ghost use Rattle.mask.specs.Mask.{built};
 ghost use Rattle.fields.specs.Named.{contains, named, guarded};
 
+// What read makes of the start of each of n records, len bits each from base.
+pub fn fill<T: Copy, F: Fn(u32) -> T>(base: u32, len: u32, n: usize, read: F, out: &mut [T])
+    requires { (base < 2 ^ 31) × (len ≤ 1000) × (n ≤ 512) × (n ≤ length out.old) × F.IsAlwaysCallable read }
+    ensures { (length out.new ≡ length out.old)
+        × ((f : ℕ → T) → ((i : ℕ) (x : T) → i < n → F.post read (base + len * i) x → x ≡ f i) → out.new ≡ tab f n ++ drop n out.old) }
+{
+    for i in 0..n {
+        out[i] = read(base + len * (i as u32));
+    }
+}
+
 // The 32 bits at off of each of n records, len bits each from base.
 pub fn fill32(s: &[u8], base: u32, len: u32, off: u32, n: usize, out: &mut [u32])
     requires { (base < 2 ^ 31) × (len ≤ 1000) × (n ≤ 512) × (n ≤ length out.old) }
     ensures { (length out.new ≡ length out.old)
         × (out.new ≡ tab (λ i. field_at s.now (base + len * i + off) 32) n ++ drop n out.old) }
 {
-    let mut i: usize = 0;
-    while i < n {
-        out[i] = bits::field32(s, base + len * (i as u32), off);
-        i += 1;
-    }
+    fill(base, len, n, |at| bits::field32(s, at, off), out);
 }
 
 // The double in the w bits at off of each record; in none it is 0.
@@ -28,11 +35,13 @@ pub fn fill_doubles(s: &[u8], base: u32, len: u32, off: u32, w: usize, n: usize,
     ensures { (length out.new ≡ length out.old)
         × (out.new ≡ tab (λ i. of_bits binary64 (field_at s.now (base + len * i + off) w)) n ++ drop n out.old) }
 {
-    let mut i: usize = 0;
-    while i < n {
-        out[i] = fp::double(bits::field(s, base + len * (i as u32), off, w));
-        i += 1;
-    }
+    fill(
+        base,
+        len,
+        n,
+        |at| fp::double(bits::field(s, at, off, w)),
+        out,
+    );
 }
 
 // The 32 bits at off of what starts at bit at, 0 where the w bits at guard are all zero.
@@ -61,11 +70,7 @@ pub fn fill_guarded(
     ensures { (length out.new ≡ length out.old)
         × (out.new ≡ tab (λ i. guarded s.now (base + len * i) off guard w) n ++ drop n out.old) }
 {
-    let mut i: usize = 0;
-    while i < n {
-        out[i] = guarded_at(s, base + len * (i as u32), off, guard, w);
-        i += 1;
-    }
+    fill(base, len, n, |at| guarded_at(s, at, off, guard, w), out);
 }
 
 // Whether an id is among the first n of a column. Every one is looked at, so that several are compared at a time.
@@ -74,35 +79,28 @@ pub fn contains(ids: &[u32], n: usize, id: u32) -> bool
     ensures { result ≡ contains ids.now n id }
 {
     let mut found = false;
-    let mut i: usize = 0;
-    while i < n {
-        found = found | (ids[i] == id);
-        i += 1;
+    for x in &ids[..n] {
+        found |= *x == id;
     }
     found
 }
 
 // Whether j is one of n stops and its name is among the first k ids.
-fn is_named<'a>(ids: &'a [u32], k: usize, names: &'a [u32], n: usize, j: usize) -> bool
+fn is_named(ids: &[u32], k: usize, names: &[u32], n: usize, j: usize) -> bool
     requires { (k ≤ length ids.now) × (length names.now ≡ 64) × (j < 64) }
     ensures { result ≡ named ids.now k names.now n j }
 {
-    if n <= j {
-        return false;
-    }
-    contains(ids, k, names[j])
+    j < n && contains(ids, k, names[j])
 }
 
-// The stops, n of them with their names, that are among the first k ids.
-pub fn named_stops<'a>(ids: &'a [u32], k: usize, names: &'a [u32], n: usize) -> u64
+// The stops, n of them with their names, that are among the first k ids. Each place gives a bit of the mask, so the loop goes by places.
+pub fn named_stops(ids: &[u32], k: usize, names: &[u32], n: usize) -> u64
     requires { (k ≤ length ids.now) × (length names.now ≡ 64) }
     ensures { result ≡ built (named ids.now k names.now n) 64 }
 {
     let mut m: u64 = 0;
-    let mut j: usize = 0;
-    while j < 64 {
+    for j in 0..64 {
         m = mask::pushed(m, is_named(ids, k, names, n, j));
-        j += 1;
     }
     m
 }

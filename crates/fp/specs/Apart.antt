@@ -1,6 +1,6 @@
 -- How far apart two coordinates are: the same both ways, never a NaN nor below zero between finite ones, and finite between a sheet's. Assumes
 -- nothing.
-use Rattle.std.specs.Prelude.{◌≡◌, ℕ, zero, suc, ◌+◌, ◌-◌, ◌*◌, ◌^◌, ◌<◌, ◌≤◌, Bool, true, false, cond, not, ◌&&◌, nat_lt, refl, Float}
+use Rattle.std.specs.Prelude.{◌≡◌, ℕ, zero, suc, ◌+◌, ◌-◌, ◌*◌, ◌^◌, ◌≤◌, Bool, true, false, cond, not, ◌&&◌, nat_lt, refl, Float}
 use Rattle.std.proofs.Common.{add_comm, mul_comm, mul_assoc, mul-pos, mul-le-mul_right, le_trans, le_of_eq, arith, sym, ap, ap₂, ◌∙◌, lit<, ltb-true, ltb-false}
 use Rattle.std.specs.Bool.{beq}
 use Rattle.std.specs.Float.{nan, inf, fin, Format, binary64}

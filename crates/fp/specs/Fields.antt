@@ -27,6 +27,13 @@ not_nan nan e = absurd (true≢false (sym nan_differs ∙ e))
 not_nan (inf s) e = tt
 not_nan (fin s m d) e = tt
 
+-- the one NaN
+pub nan_only : (x : Float) → is_nan x ≡ true → x ≡ nan
+unfolding is_nan
+nan_only nan e = refl
+nan_only (inf s) e = absurd (true≢false (sym e))
+nan_only (fin s m d) e = absurd (true≢false (sym e))
+
 pub fields_value : (s : Bool) (x t : ℕ) → x < 2047 → HasValue (of_fields binary64 s x t) s (in_units x t) (2 ^ 1074)
 unfolding of_fields
 fields_value s zero t h = subst (λ (k : ℕ). HasValue (odd 53 s t 0 1074) s k (2 ^ 1074)) (mul-one t) (odd_sign 53 s t 0 1074)

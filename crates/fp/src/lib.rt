@@ -10,35 +10,31 @@ ghost use Rattle.fp.specs.Ranges.{within, is_position, is_speed, is_mass, is_thr
 pub fn abs(x: f64) -> f64
     ensures { result ≡ abs x }
 {
-    if x < 0.0 {
-        return -x;
-    }
-    if x == 0.0 { 0.0 } else { x }
+    x.abs()
 }
 
-// x.max(0.0): 0.0 for a NaN.
+// The greater of x and 0.0: 0.0 for a NaN, and for either zero, where `f64::max` may answer either.
 pub fn max_zero(x: f64) -> f64
     ensures { result ≡ max_zero x }
 {
     if x > 0.0 { x } else { 0.0 }
 }
 
-// f64::is_finite: strictly between the two infinities.
+// Neither a NaN nor an infinity.
 pub fn finite(x: f64) -> bool
     ensures { result ≡ finite x }
 {
-    let infinity = f64::from_bits(0x7ff0_0000_0000_0000);
-    if x < infinity { -infinity < x } else { false }
+    x.is_finite()
 }
 
-// The product rounded, then the sum.
+// The product rounded, then the sum: `f64::mul_add` rounds once.
 pub fn fma(a: f64, b: f64, c: f64) -> f64
     ensures { result ≡ fma a b c }
 {
     a * b + c
 }
 
-// The lesser of two, the first where neither is less.
+// The lesser of two, the first where neither is less, as `f64::min` need not answer.
 pub fn lesser(a: f64, b: f64) -> f64
     ensures { result ≡ lesser a b }
 {
@@ -46,6 +42,7 @@ pub fn lesser(a: f64, b: f64) -> f64
 }
 
 // How far apart two coordinates are, the same both ways.
+#[tactic(auto, unfolding(crate::specs::Num::apart))]
 pub fn apart(a: f64, b: f64) -> f64
     ensures { result ≡ apart a b }
 {
@@ -64,8 +61,7 @@ pub fn double(b: u64) -> f64
     ensures { result ≡ from_bits binary64 b }
 {
     if b & 0x7fff_ffff_ffff_ffff > 0x7ff0_0000_0000_0000 {
-        let infinity = f64::from_bits(0x7ff0_0000_0000_0000);
-        infinity - infinity
+        f64::NAN
     } else {
         f64::from_bits(b)
     }
@@ -75,9 +71,10 @@ pub fn double(b: u64) -> f64
 fn within(lo: f64, x: f64, hi: f64) -> bool
     ensures { result ≡ within lo x hi }
 {
-    if lo <= x { x <= hi } else { false }
+    lo <= x && x <= hi
 }
 
+#[tactic(auto, unfolding(crate::specs::Ranges::is_position))]
 pub fn is_position(x: f64) -> bool
     ensures { result ≡ is_position x }
 {
@@ -85,24 +82,28 @@ pub fn is_position(x: f64) -> bool
 }
 
 // 0, or 1/1,024 to 1,000
+#[tactic(auto, unfolding(crate::specs::Ranges::is_speed))]
 pub fn is_speed(x: f64) -> bool
     ensures { result ≡ is_speed x }
 {
-    (x == 0.0) | within(0.0009765625, x, 1_000.0)
+    x == 0.0 || within(0.0009765625, x, 1_000.0)
 }
 
+#[tactic(auto, unfolding(crate::specs::Ranges::is_mass))]
 pub fn is_mass(x: f64) -> bool
     ensures { result ≡ is_mass x }
 {
     within(0.0, x, 1_000_000_000.0)
 }
 
+#[tactic(auto, unfolding(crate::specs::Ranges::is_threshold))]
 pub fn is_threshold(x: f64) -> bool
     ensures { result ≡ is_threshold x }
 {
     within(0.0, x, 1_000.0)
 }
 
+#[tactic(auto, unfolding(crate::specs::Ranges::is_tick_rate))]
 pub fn is_tick_rate(x: f64) -> bool
     ensures { result ≡ is_tick_rate x }
 {

@@ -1,4 +1,9 @@
 -- The stages of grading put together. Assumes nothing.
+use Rattle.std.specs.Prelude.{Result}
+use Rattle.grade.specs.declared.Graded.{Graded}
+use Rattle.layout.specs.declared.Refusal.{Refusal}
+use Rattle.layout.specs.declared.Counts.{Counts}
+use Rattle.layout.specs.Refused.{refused}
 use Rattle.std.specs.Prelude.{ℕ, ◌+◌, ◌*◌, ◌≤◌, ◌<◌, ◌≡◌, Bool, true, false, length, drop}
 use Rattle.std.proofs.Math.Path.{refl, ap}
 use Rattle.std.proofs.Common.{sym, ◌∙◌, arith, ltb-false}
@@ -7,8 +12,6 @@ use Rattle.std.proofs.Math.ListN.{get_or}
 use Rattle.laws.specs.Bools.{neither_left, neither_right}
 use Rattle.laws.specs.Tables.{get_or-tabs}
 use Rattle.components.specs.Sheet.{Sheet}
-use Rattle.layout.specs.declared.Reading.{Reading}
-use Rattle.layout.specs.declared.Reading.TheVariants as reading
 use Rattle.layout.specs.Verdict.{verdict}
 use Rattle.assignment_problem.specs.Choice.{cell_at}
 use Rattle.assignment.specs.Pending.{idle_cars, columns}
@@ -18,22 +21,20 @@ use Rattle.outcome.specs.Outcome.{cells_of}
 use Rattle.shown.specs.Shown.{shown, shown_same}
 use Rattle.shown.specs.Fits.{price_at, column_of, Priced, Inside}
 use Rattle.shown.specs.Refusals.{refusal19, mispriced, refusal20, inside_of, as_many_prices, prices_in_range}
-use Rattle.grade.specs.declared.Graded.{Graded}
-use Rattle.grade.specs.declared.Graded.TheVariants.{Refused}
 use Rattle.grade.specs.Graded.{Sent, Done, done, short_matrix, outcome_of, shown_least, graded, judged, done_of, grade_of}
 
 -- ---- refusal 1 in front
 
 -- the grade, by its outcome
-pub is_grade : (bytes : List ℕ) (x : Sent) (entry : List ℕ) {y : Done} {v : Reading} → outcome_of bytes (length entry) ≡ v → y ≡ done_of v bytes x entry
+pub is_grade : (bytes : List ℕ) (x : Sent) (entry : List ℕ) {y : Done} {v : Result Counts Refusal} → outcome_of bytes (length entry) ≡ v → y ≡ done_of v bytes x entry
     → y ≡ grade_of bytes x entry
-is_grade bytes x entry {y} {v} e is = is ∙ ap (λ (o : Reading). done_of o bytes x entry) (sym e)
+is_grade bytes x entry {y} {v} e is = is ∙ ap (λ (o : Result Counts Refusal). done_of o bytes x entry) (sym e)
 
-pub short : (bytes : List ℕ) (cells : ℕ) → short_matrix cells ≡ true → outcome_of bytes cells ≡ reading.Refused 1 0
+pub short : (bytes : List ℕ) (cells : ℕ) → short_matrix cells ≡ true → outcome_of bytes cells ≡ refused 1 0
 unfolding outcome_of
 short bytes cells e = rw e
 
-pub long : (bytes : List ℕ) (cells : ℕ) {v : Reading} → short_matrix cells ≡ false → v ≡ verdict bytes → outcome_of bytes cells ≡ v
+pub long : (bytes : List ℕ) (cells : ℕ) {v : Result Counts Refusal} → short_matrix cells ≡ false → v ≡ verdict bytes → outcome_of bytes cells ≡ v
 unfolding outcome_of
 long bytes cells {v} e f = rw e (sym f)
 
@@ -45,13 +46,13 @@ room cells e = ltb-false cells 2048 e
 
 module _ (s : Sheet) (limit : ℕ) (x : Sent) (entry : List ℕ) {n w : ℕ} (en : n ≡ idle_cars s) (ew : w ≡ columns s) where
   -- 19
-  pub columns_refused : refusal19 n w x.columns ≡ true → done (Refused 19 0) entry ≡ judged s limit x entry
+  pub columns_refused : refusal19 n w x.columns ≡ true → done (refused 19 0) entry ≡ judged s limit x entry
   unfolding judged
   columns_refused h = rw (rw (en, ew) at h) refl
 
   module _ (columns-taken : refusal19 n w x.columns ≡ false) where
     -- 20
-    pub prices_refused : refusal20 n w x.car_prices x.column_prices ≡ true → done (Refused 20 0) entry ≡ judged s limit x entry
+    pub prices_refused : refusal20 n w x.car_prices x.column_prices ≡ true → done (refused 20 0) entry ≡ judged s limit x entry
     unfolding judged
     prices_refused h = rw (rw (en, ew) at columns-taken, rw (en, ew) at h) refl
 
@@ -96,7 +97,7 @@ module _ (s : Sheet) (limit : ℕ) (x : Sent) (entry : List ℕ) {n w : ℕ} (en
           (price_at x.column_prices) (price_at x.column_prices) cell_is inside.inside (λ i l. refl) (λ j l. refl) ∙ rw (en, ew)
 
       -- least or not shown
-      pub is_judged : {r : Graded} {b : Bool} → r ≡ graded b
+      pub is_judged : {r : Result Graded Refusal} {b : Bool} → r ≡ graded b
           → b ≡ shown n w (cell_at exit w) (column_of x.columns) (price_at x.car_prices) (price_at x.column_prices)
           → done r exit ≡ judged s limit x entry
       unfolding judged

@@ -1,4 +1,8 @@
 -- "What it calls least must be least, whoever supplied the prices, and for each least choice some whole prices within the range pass." Assumes nothing.
+use Rattle.std.specs.Prelude.{Err, Ok, Result}
+use Rattle.layout.specs.declared.Refusal.{Refusal}
+use Rattle.layout.specs.Refused.{refused}
+use Rattle.grade.specs.declared.Graded.TheVariants.{Least, NotShown}
 use Rattle.std.specs.Prelude.{ℕ, ◌≤◌, ◌<◌, ◌≡◌, refl, true, false, List, length, ℤ, pos}
 use Rattle.std.proofs.Common.{sym, ◌∙◌, ⊎_elim, le-ltb}
 use Rattle.std.proofs.Math.Path.{ap}
@@ -6,8 +10,6 @@ use Rattle.laws.specs.Bools.{never, which}
 use Rattle.laws.specs.Tables.{tab, length-tab, get_or-tab₀}
 use Rattle.components.specs.Sheet.{Sheet}
 use Rattle.layout.specs.declared.Counts.{Counts}
-use Rattle.layout.specs.declared.Reading.{Reading}
-use Rattle.layout.specs.declared.Reading.TheVariants as reading
 use Rattle.layout.specs.Records.{sheet_of, limit_of}
 use Rattle.layout.specs.Verdict.{verdict}
 use Rattle.prices.specs.Price.{in_range}
@@ -21,7 +23,6 @@ use Rattle.shown.specs.Fits.{price_at, column_of}
 use Rattle.shown.specs.Refusals.{refusal19, mispriced, refusal20, as_many, choice_of, choice_taken, priced_well}
 use Rattle.shown.specs.Sound.{shown_least_lem}
 use Rattle.shown.specs.Complete.{Passing, least_passes}
-use Rattle.grade.specs.declared.Graded.TheVariants.{Least, NotShown, Refused}
 use Rattle.grade.specs.Graded.{Sent, sent, short_matrix, outcome_of, shown_least, graded, judged, done_of, grade_of}
 use Rattle.grade.specs.Grading.{long}
 
@@ -37,23 +38,23 @@ pub record IsLeast (s : Sheet) (limit : ℕ) (chosen : List ℕ) : Type 0 where
 -- of a byte string that is called least: it is an accepted sheet, and the columns are least for it
 pub record Sound (bytes : List ℕ) (chosen : List ℕ) : Type 0 where
   pub counts : Counts
-  pub is_accepted : verdict bytes ≡ reading.Accepted counts
+  pub is_accepted : verdict bytes ≡ Ok counts
   pub is_least : IsLeast (sheet_of bytes counts) (limit_of bytes) chosen
 
-pub sound : (bytes : List ℕ) (x : Sent) (entry : List ℕ) → (grade_of bytes x entry).answer ≡ Least → Sound bytes x.columns
+pub sound : (bytes : List ℕ) (x : Sent) (entry : List ℕ) → (grade_of bytes x entry).answer ≡ (Ok Least) → Sound bytes x.columns
 unfolding outcome_of judged graded shown_least
 sound bytes x entry h = by (outcome_of bytes (length entry)) refl h
   where
-    least_of : (s : Sheet) (limit : ℕ) (x : Sent) (entry : List ℕ) → (judged s limit x entry).answer ≡ Least → IsLeast s limit x.columns
+    least_of : (s : Sheet) (limit : ℕ) (x : Sent) (entry : List ℕ) → (judged s limit x entry).answer ≡ (Ok Least) → IsLeast s limit x.columns
     least_of s limit x entry h =
         let n = idle_cars s in
         let w = columns s in
         let shows = shown n w (matrix s limit) (column_of x.columns) (price_at x.car_prices) (price_at x.column_prices) in
         ⊎_elim
-        (λ (a : refusal19 n w x.columns ≡ true). let g : Refused 19 0 ≡ Least = rw a at h in never cc)
+        (λ (a : refusal19 n w x.columns ≡ true). let g : refused 19 0 ≡ (Ok Least) = rw a at h in never cc)
         (λ (a : refusal19 n w x.columns ≡ false).
         ⊎_elim
-        (λ (b : refusal20 n w x.car_prices x.column_prices ≡ true). let g : Refused 20 0 ≡ Least = rw (a, b) at h in never cc)
+        (λ (b : refusal20 n w x.car_prices x.column_prices ≡ true). let g : refused 20 0 ≡ (Ok Least) = rw (a, b) at h in never cc)
         (λ (b : refusal20 n w x.car_prices x.column_prices ≡ false).
         ⊎_elim
         (λ (t : shows ≡ true).
@@ -63,14 +64,14 @@ sound bytes x entry h = by (outcome_of bytes (length entry)) refl h
           choice = choice;
           least = shown_least_lem n w (matrix s limit) (column_of x.columns) (price_at x.car_prices) (price_at x.column_prices) choice t;
         })
-        (λ (t : shows ≡ false). let g : NotShown ≡ Least = rw (a, b, t) at h in never cc)
+        (λ (t : shows ≡ false). let g : (Ok NotShown) ≡ (Ok Least) = rw (a, b, t) at h in never cc)
         (which shows))
         (which (refusal20 n w x.car_prices x.column_prices)))
         (which (refusal19 n w x.columns))
 
-    by : (v : Reading) → outcome_of bytes (length entry) ≡ v → (done_of v bytes x entry).answer ≡ Least → Sound bytes x.columns
-    by (reading.Refused number offset) e g = never cc
-    by (reading.Accepted c) e g =
+    by : (v : Result Counts Refusal) → outcome_of bytes (length entry) ≡ v → (done_of v bytes x entry).answer ≡ (Ok Least) → Sound bytes x.columns
+    by (Err r) e g = never cc
+    by (Ok c) e g =
         record {
           counts = c;
           is_accepted = past_one (short_matrix (length entry)) e;
@@ -84,9 +85,9 @@ pub record Showable (bytes : List ℕ) (n w : ℕ) (chosen : List ℕ) (entry : 
   pub car_prices : List ℤ
   pub column_prices : List ℤ
   pub within_range : refusal20 n w car_prices column_prices ≡ false
-  pub graded_least : (grade_of bytes (sent chosen car_prices column_prices) entry).answer ≡ Least
+  pub graded_least : (grade_of bytes (sent chosen car_prices column_prices) entry).answer ≡ (Ok Least)
 
-module _ (bytes : List ℕ) (c : Counts) (accepted : verdict bytes ≡ reading.Accepted c) (chosen : List ℕ)
+module _ (bytes : List ℕ) (c : Counts) (accepted : verdict bytes ≡ Ok c) (chosen : List ℕ)
     (h : IsLeast (sheet_of bytes c) (limit_of bytes) chosen) where
   n : ℕ
   n = idle_cars (sheet_of bytes c)
@@ -136,7 +137,7 @@ module _ (bytes : List ℕ) (c : Counts) (accepted : verdict bytes ≡ reading.A
       h.choice.within u_at v_at
       ∙ passing.shows
 
-  least_answer : (entry : List ℕ) → (judged (sheet_of bytes c) (limit_of bytes) (sent chosen u v) entry).answer ≡ Least
+  least_answer : (entry : List ℕ) → (judged (sheet_of bytes c) (limit_of bytes) (sent chosen u v) entry).answer ≡ (Ok Least)
   unfolding judged graded shown_least n w cell
   least_answer entry = rw (choice_taken (idle_cars (sheet_of bytes c)) (columns (sheet_of bytes c)) chosen h.one_each h.choice, in_range_lem, shows)
 
@@ -144,10 +145,10 @@ module _ (bytes : List ℕ) (c : Counts) (accepted : verdict bytes ≡ reading.A
   pub complete : (entry : List ℕ) → 2048 ≤ length entry → Showable bytes (idle_cars (sheet_of bytes c)) (columns (sheet_of bytes c)) chosen entry
   unfolding short_matrix n w
   complete entry l =
-      let o : outcome_of bytes (length entry) ≡ reading.Accepted c = long bytes (length entry) (le-ltb (length entry) 2048 l) (sym accepted) in
+      let o : outcome_of bytes (length entry) ≡ Ok c = long bytes (length entry) (le-ltb (length entry) 2048 l) (sym accepted) in
       record {
         car_prices = u;
         column_prices = v;
         within_range = in_range_lem;
-        graded_least = ap (λ (r : Reading). (done_of r bytes (sent chosen u v) entry).answer) o ∙ least_answer entry;
+        graded_least = ap (λ (r : Result Counts Refusal). (done_of r bytes (sent chosen u v) entry).answer) o ∙ least_answer entry;
       }

@@ -1,33 +1,34 @@
 // Grading a site's choice (document 02, F-8): u are the prices of cars, v those of columns.
 #![tactic(auto)]
 
-ghost use Rattle.std.specs.Prelude.{◌≡◌, ◌≤◌, length};
-ghost use Rattle.layout.specs.declared.Reading.TheVariants.{Accepted};
+ghost use Rattle.std.specs.Prelude.{◌≡◌, ◌≤◌, length, Ok};
 ghost use Rattle.layout.specs.Verdict.{verdict};
 ghost use Rattle.grade.specs.Graded.{sent, done, short_matrix, graded, done_of, grade_of};
 
-use layout::{Counts, Reading};
-
-// "1", the host program's: the lent matrix is too short.
-const SHORT_MATRIX: u32 = 1;
+use layout::{Counts, Refusal, SHORT_BUFFER};
 
 // "19 when there isn't one column for each idle car, or a column repeats or lies outside the matrix"
-const WRONG_COLUMNS: u32 = 19;
+const WRONG_COLUMNS: Refusal = Refusal {
+    number: 19,
+    offset: 0,
+};
 
 // "20 when there isn't one price for each car and column, or a price is beyond 18,014,398,509,481,984 either way"
-const WRONG_PRICES: u32 = 20;
+const WRONG_PRICES: Refusal = Refusal {
+    number: 20,
+    offset: 0,
+};
 
-// What the grader answers.
-#[derive(Clone, Copy)]
+// What the grader answers of a choice.
+#[derive(Clone, Copy, Debug, PartialEq, Eq)]
 pub enum Graded {
     Least,
     NotShown,
-    Refused { number: u32, offset: u64 },
 }
 
 // "The grader answers "least" when all this holds and "not shown" otherwise."
 fn answer(least: bool) -> Graded
-    ensures { result ≡ graded least }
+    ensures { Ok result ≡ graded least }
 {
     if least {
         Graded::Least
@@ -44,9 +45,9 @@ fn judge<'a>(
     u: &'a [i64],
     v: &'a [i64],
     matrix: &mut [u64],
-) -> Graded
-    requires { (verdict s.now ≡ Accepted c) × (2048 ≤ length matrix.old) }
-    ensures done { done result matrix.new ≡ done_of (Accepted c) s.now
+) -> Result<Graded, Refusal>
+    requires { (verdict s.now ≡ Ok c) × (2048 ≤ length matrix.old) }
+    ensures done { done result matrix.new ≡ done_of (Ok c) s.now
         (sent columns.now u.now v.now) matrix.old }
     ensures length { length matrix.new ≡ length matrix.old }
 {
@@ -58,21 +59,15 @@ fn judge<'a>(
     let n = idle.count;
     let w = bench::columns(n, stops.count);
     if shown::wrong_columns(n, w, columns) {
-        return Graded::Refused {
-            number: WRONG_COLUMNS,
-            offset: 0,
-        };
+        return Err(WRONG_COLUMNS);
     }
     if shown::wrong_prices(n, w, u, v) {
-        return Graded::Refused {
-            number: WRONG_PRICES,
-            offset: 0,
-        };
+        return Err(WRONG_PRICES);
     }
     let most = sheet::limit(s) as u32;
     cells::fill_matrix(s, c, most, &ids, &xs, masks, stops, idle, w, matrix);
     let least = shown::shows(n, w, matrix, columns, u, v);
-    answer(least)
+    Ok(answer(least))
 }
 
 // Whether the matrix is too short: refusal 1.
@@ -89,18 +84,13 @@ pub fn grade<'a>(
     u: &'a [i64],
     v: &'a [i64],
     matrix: &mut [u64],
-) -> Graded
+) -> Result<Graded, Refusal>
     ensures { done result matrix.new ≡ grade_of s.now (sent columns.now u.now v.now)
         matrix.old }
 {
     if short_matrix(matrix.len()) {
-        return Graded::Refused {
-            number: SHORT_MATRIX,
-            offset: 0,
-        };
+        return Err(SHORT_BUFFER);
     }
-    match sheet::read(s) {
-        Reading::Refused { number, offset } => Graded::Refused { number, offset },
-        Reading::Accepted(c) => judge(s, c, columns, u, v, matrix),
-    }
+    let c = sheet::read(s)?;
+    judge(s, c, columns, u, v, matrix)
 }

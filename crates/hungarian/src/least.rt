@@ -1,100 +1,71 @@
-// The least total: rows are put in one by one, each by an augmenting path in the equality graph, with prices. Rows, columns and lists are those
-// of the module tree.
-ghost use Rattle.std.specs.Prelude.{◌≡◌, ℕ, ◌+◌, ◌<◌};
+// The least total: rows are put in one by one, each by an augmenting path in the equality graph, with prices. Prices, pairs and the search are
+// those of the module tree.
+ghost use Rattle.std.specs.Prelude.{◌≡◌, ℕ, ◌+◌, ◌<◌, length};
 ghost use Rattle.assignment_problem.specs.Choice.{cell_at, total};
 ghost use Rattle.assignment_problem.specs.Recursion.{least_total};
 ghost use Rattle.alternating_tree.specs.Lists.{at, Nearest};
-ghost use Rattle.alternating_tree.specs.State.{Sizes, Scratch, Matrix, State, Growing, Cleared};
+ghost use Rattle.alternating_tree.specs.State.{Matrix as Fitting, State, Growing, Cleared};
 
 use super::tree;
+use super::tree::{Pairing, Prices, Search};
+use assignment_problem::Matrix;
 
 // Row i stands alone in the tree; answers the nearest column.
 fn prepare(
-    cells: &[u64],
-    n: usize,
-    cols: usize,
+    m: Matrix<'_>,
     i: usize,
-    u: &mut [u64],
-    w: &[u64],
-    row_of: &mut [usize],
-    col_of: &mut [usize],
-    dist: &mut [u64],
-    from: &mut [usize],
-    seen: &mut [usize],
+    prices: &mut Prices,
+    pairs: &mut Pairing,
+    search: &mut Search,
 ) -> usize
-    requires sizes { Sizes u.old w.now row_of.old col_of.old × Scratch dist.old from.old seen.old }
-    requires matrix { Matrix cells.now n cols × (i < n) × State cells.now n cols i u.old w.now row_of.old col_of.old }
-    ensures growing { (f : ℕ) × Growing cells.now n cols i 1 f 0 u.new w.now row_of.new
-        col_of.new dist.new from.new seen.new }
-    ensures nearest { Nearest seen.new dist.new cols result }
-    ensures alone { Cleared cols seen.new × (at col_of.new i ≡ cols) }
+    requires matrix { Fitting m.cells.now m.rows m.columns × (i < m.rows)
+        × State m.cells.now m.rows m.columns i prices.old.u prices.old.w pairs.old.row_of pairs.old.col_of }
+    ensures size { length search.new.seen ≡ 65 }
+    ensures growing { (f : ℕ) × Growing m.entry.cells.now m.entry.rows m.entry.columns i 1 f 0 prices.new.u prices.new.w pairs.new.row_of
+        pairs.new.col_of search.new.dist search.new.from search.new.seen }
+    ensures nearest { Nearest search.new.seen search.new.dist m.entry.columns result }
+    ensures alone { Cleared m.entry.columns search.new.seen × (at pairs.new.col_of i ≡ m.entry.columns) }
 {
-    u[i] = 0;
-    row_of[cols] = i;
-    col_of[i] = cols;
-    tree::clear(seen, cols);
-    tree::begin(cells, n, cols, i, w, row_of, dist, from)
+    prices.u[i] = 0;
+    pairs.row_of[m.columns] = i;
+    pairs.col_of[i] = m.columns;
+    tree::clear(&mut search.seen, m.columns);
+    tree::begin(m, i, prices, pairs, search)
 }
 
 // Row i gets a column, and the rows before it keep one each.
-fn insert(
-    cells: &[u64],
-    n: usize,
-    cols: usize,
-    i: usize,
-    u: &mut [u64],
-    w: &mut [u64],
-    row_of: &mut [usize],
-    col_of: &mut [usize],
-    dist: &mut [u64],
-    from: &mut [usize],
-    seen: &mut [usize],
-)
-    requires sizes { Sizes u.old w.old row_of.old col_of.old × Scratch dist.old from.old seen.old }
-    requires matrix { Matrix cells.now n cols × (i < n) × State cells.now n cols i u.old w.old row_of.old col_of.old }
-    ensures { State cells.now n cols (i + 1) u.new w.new row_of.new col_of.new }
+fn insert(m: Matrix<'_>, i: usize, prices: &mut Prices, pairs: &mut Pairing, search: &mut Search)
+    requires matrix { Fitting m.cells.now m.rows m.columns × (i < m.rows)
+        × State m.cells.now m.rows m.columns i prices.old.u prices.old.w pairs.old.row_of pairs.old.col_of }
+    ensures { State m.entry.cells.now m.entry.rows m.entry.columns (i + 1) prices.new.u prices.new.w pairs.new.row_of pairs.new.col_of }
 {
-    let mut j = prepare(cells, n, cols, i, u, w, row_of, col_of, dist, from, seen);
+    let mut j = prepare(m, i, prices, pairs, search);
     let mut t = 1;
+    // Columns join the tree until one is free.
     loop {
-        let d = dist[j];
+        let d = search.dist[j];
         t += 1;
-        let r = row_of[j];
-        if n <= r {
-            seen[j] = t;
-            tree::raise(seen, col_of, dist, u, w, i, cols, t, d);
-            tree::augment(row_of, col_of, from, seen, n, cols, j);
+        let r = pairs.row_of[j];
+        if m.rows <= r {
+            search.seen[j] = t;
+            tree::raise(search, pairs, prices, i, m.columns, t, d);
+            tree::augment(m, search, j, pairs);
             return;
         }
-        j = tree::join(
-            cells, n, cols, r, u[r], j, t, d, w, row_of, seen, dist, from,
-        );
+        j = tree::join(m, r, j, t, d, prices, pairs, search);
     }
 }
 
 // Every row gets a column, and their total is the least. Of least choices it may be any; the prices with which it is tight are named in State,
 // and none is larger than the largest cell.
-pub(crate) fn solve(
-    cells: &[u64],
-    n: usize,
-    cols: usize,
-    u: &mut [u64],
-    w: &mut [u64],
-    row_of: &mut [usize],
-    col_of: &mut [usize],
-    dist: &mut [u64],
-    from: &mut [usize],
-    seen: &mut [usize],
-)
-    requires sizes { Sizes u.old w.old row_of.old col_of.old × Scratch dist.old from.old seen.old }
-    requires matrix { Matrix cells.now n cols × ((j : ℕ) → j < cols → (at row_of.old j ≡ n) × (at w.old j ≡ 0)) }
-    ensures prices { State cells.now n cols n u.new w.new row_of.new col_of.new }
-    ensures least { total n (cell_at cells.now cols) (at col_of.new) ≡ least_total
-        (cell_at cells.now cols) n cols }
+pub(crate) fn solve(m: Matrix<'_>, prices: &mut Prices, pairs: &mut Pairing, search: &mut Search)
+    requires matrix { Fitting m.cells.now m.rows m.columns
+        × ((j : ℕ) → j < m.columns → (at pairs.old.row_of j ≡ m.rows) × (at prices.old.w j ≡ 0)) }
+    ensures prices { State m.entry.cells.now m.entry.rows m.entry.columns m.entry.rows prices.new.u prices.new.w pairs.new.row_of pairs.new.col_of }
+    ensures least { total m.entry.rows (cell_at m.entry.cells.now m.entry.columns) (at pairs.new.col_of) ≡ least_total
+        (cell_at m.entry.cells.now m.entry.columns) m.entry.rows m.entry.columns }
 {
-    let mut i = 0;
-    while i < n {
-        insert(cells, n, cols, i, u, w, row_of, col_of, dist, from, seen);
-        i += 1;
+    for i in 0..m.rows {
+        insert(m, i, prices, pairs, search);
     }
 }

@@ -3,195 +3,141 @@
 // In that graph a row may go to a column where its price is tight, and a free column may be filled by leaving another without a discount free.
 // Row i steps onto the stand; each lower column that it may go to is tried, lowest first, and the search follows what the columns hold until it
 // comes to row i's own column. Then the rows move along the path, and row i has the lower column. What one search has seen in vain, the next
-// ones pass over. Lists are those of the module tree; queue has the columns seen, in order.
-ghost use Rattle.std.specs.Prelude.{◌≡◌, ℕ, suc, ◌+◌, ◌*◌, ◌<◌, ◌≤◌, length};
+// ones pass over. Prices, pairs and the search are those of the module tree; its queue has the columns seen, in order.
+ghost use Rattle.std.specs.Prelude.{◌≡◌, ℕ, suc, ◌+◌, ◌<◌, ◌≤◌};
 ghost use Rattle.laws.specs.Tables.{tab};
 ghost use Rattle.assignment_problem.specs.Choice.{cell_at};
 ghost use Rattle.assignment_problem.specs.Recursion.{lowest};
 ghost use Rattle.alternating_tree.specs.Lists.{at, big};
-ghost use Rattle.alternating_tree.specs.State.{Sizes, Scratch, Matrix, State, unseen};
-ghost use Rattle.equality_graph.specs.Settled.{MayIs, SearchReady, Search, VisitedAll, ExpandedAll, SearchEnded, Settled};
+ghost use Rattle.alternating_tree.specs.State.{Matrix as Fitting, State, unseen};
+ghost use Rattle.equality_graph.specs.Settled.{MayIs, SearchReady, Search as Searched, VisitedAll, ExpandedAll, SearchEnded, Settled};
 
 use super::tree;
+use super::tree::{Pairing, Prices, Search};
+use assignment_problem::Matrix;
 
 // Whether what a column holds, the row r or nothing, may go to column y in the equality graph.
-fn may(cells: &[u64], n: usize, cols: usize, u: &[u64], w: &[u64], r: usize, y: usize) -> bool
-    requires { Matrix cells.now n cols × (length u.now ≡ 32) × (length w.now ≡ 65) × (y < cols) × (at w.now y ≤ big) }
-    ensures { MayIs cells.now n cols u.now w.now r y result }
+fn may(m: Matrix<'_>, prices: &Prices, r: usize, y: usize) -> bool
+    requires { Fitting m.cells.now m.rows m.columns × (y < m.columns) × (at prices.now.w y ≤ big) }
+    ensures { MayIs m.entry.cells.now m.entry.rows m.entry.columns prices.now.u prices.now.w r y result }
 {
-    if n <= r {
-        return w[y] == 0;
+    if m.rows <= r {
+        return prices.w[y] == 0;
     }
-    u[r] == tree::cell(cells, cols, r, y) + w[y]
+    prices.u[r] == m.at(r, y) + prices.w[y]
 }
 
-// Column y is seen from column x, which holds r, if that may go there and y has no row before i. Answers how many columns the queue has. Few pairs
-// are tight, so that is asked first.
+// Column y is seen from column x, which holds r, if that may go there and y has no row before i. Few pairs are tight, so that is asked first.
 fn visit(
-    cells: &[u64],
-    n: usize,
-    cols: usize,
+    m: Matrix<'_>,
     i: usize,
-    u: &[u64],
-    w: &[u64],
-    row_of: &[usize],
+    prices: &Prices,
+    pairs: &Pairing,
     x: usize,
     r: usize,
     y: usize,
-    seen: &mut [usize],
-    from: &mut [usize],
-    queue: &mut [usize],
-    len: usize,
-) -> usize
-    requires search_ready { SearchReady cells.now n cols i u.now w.now row_of.now seen.old from.old queue.old }
-    requires y_lt_cols { (y < cols) × (len + unseen cols seen.old ≤ cols) }
-    ensures { VisitedAll cells.now n cols i len x r y u.now w.now row_of.now
-        seen.old from.old queue.old seen.new from.new queue.new result }
+    search: &mut Search,
+)
+    requires search_ready { SearchReady m.cells.now m.rows m.columns i prices.now.u prices.now.w pairs.now.row_of search.old.seen
+        search.old.from search.old.queue }
+    requires y_lt_cols { (y < m.columns) × (search.old.len + unseen m.columns search.old.seen ≤ m.columns) }
+    ensures ready { SearchReady m.entry.cells.now m.entry.rows m.entry.columns i prices.now.u prices.now.w pairs.now.row_of search.new.seen
+        search.new.from search.new.queue }
+    ensures visited { VisitedAll m.entry.cells.now m.entry.rows m.entry.columns i search.old.len x r y prices.now.u prices.now.w pairs.now.row_of
+        search.old.seen search.old.from search.old.queue search.new.seen search.new.from search.new.queue search.new.len }
 {
-    if !may(cells, n, cols, u, w, r, y) {
-        return len;
+    if !may(m, prices, r, y) {
+        return;
     }
-    if seen[y] != 0 {
-        return len;
+    if search.seen[y] != 0 {
+        return;
     }
-    if row_of[y] < i {
-        return len;
+    if pairs.row_of[y] < i {
+        return;
     }
-    queue[len] = y;
-    let end = len + 1;
-    seen[y] = end + 1;
-    from[y] = x;
-    end
+    search.queue[search.len] = y;
+    search.len += 1;
+    search.seen[y] = search.len + 1;
+    search.from[y] = x;
 }
 
 // Every column that what the h-th column of the queue holds may go to is seen.
-fn expand(
-    cells: &[u64],
-    n: usize,
-    cols: usize,
-    i: usize,
-    u: &[u64],
-    w: &[u64],
-    row_of: &[usize],
-    h: usize,
-    seen: &mut [usize],
-    from: &mut [usize],
-    queue: &mut [usize],
-    len: usize,
-) -> usize
-    requires search_ready { SearchReady cells.now n cols i u.now w.now row_of.now seen.old from.old queue.old }
-    requires h_lt_len { (h < len) × (at queue.old h < cols) × (len + unseen cols seen.old ≤ cols) }
-    ensures { ExpandedAll cells.now n cols i h len u.now w.now row_of.now
-        seen.old from.old queue.old seen.new from.new queue.new result }
+fn expand(m: Matrix<'_>, i: usize, prices: &Prices, pairs: &Pairing, h: usize, search: &mut Search)
+    requires search_ready { SearchReady m.cells.now m.rows m.columns i prices.now.u prices.now.w pairs.now.row_of search.old.seen
+        search.old.from search.old.queue }
+    requires h_lt_len { (h < search.old.len) × (at search.old.queue h < m.columns)
+        × (search.old.len + unseen m.columns search.old.seen ≤ m.columns) }
+    ensures ready { SearchReady m.entry.cells.now m.entry.rows m.entry.columns i prices.now.u prices.now.w pairs.now.row_of search.new.seen
+        search.new.from search.new.queue }
+    ensures expanded { ExpandedAll m.entry.cells.now m.entry.rows m.entry.columns i h search.old.len prices.now.u prices.now.w pairs.now.row_of
+        search.old.seen search.old.from search.old.queue search.new.seen search.new.from search.new.queue search.new.len }
 {
-    let x = queue[h];
-    let r = row_of[x];
-    let mut end = len;
-    let mut y = 0;
-    while y < cols {
-        end = visit(
-            cells, n, cols, i, u, w, row_of, x, r, y, seen, from, queue, end,
-        );
-        y += 1;
+    let x = search.queue[h];
+    let r = pairs.row_of[x];
+    for y in 0..m.columns {
+        visit(m, i, prices, pairs, x, r, y, search);
     }
-    end
 }
 
 // The search goes on from column j, seen from the stand if row i may go there, until column k is seen or every column seen has been looked from.
 fn reach(
-    cells: &[u64],
-    n: usize,
-    cols: usize,
+    m: Matrix<'_>,
     i: usize,
-    u: &[u64],
-    w: &[u64],
-    row_of: &[usize],
+    prices: &Prices,
+    pairs: &Pairing,
     j: usize,
     k: usize,
-    seen: &mut [usize],
-    from: &mut [usize],
-    queue: &mut [usize],
-    len: usize,
-) -> usize
-    requires search_ready { SearchReady cells.now n cols i u.now w.now row_of.now seen.old from.old queue.old × (j < cols)
-        × (k < cols) }
-    requires search { Search cells.now n cols i len len j u.now w.now row_of.now seen.old from.old queue.old }
-    ensures { SearchEnded cells.now n cols i j k u.now w.now row_of.now
-        seen.old seen.new from.new queue.new result }
+    search: &mut Search,
+)
+    requires search_ready { SearchReady m.cells.now m.rows m.columns i prices.now.u prices.now.w pairs.now.row_of search.old.seen
+        search.old.from search.old.queue × (j < m.columns) × (k < m.columns) }
+    requires search { Searched m.cells.now m.rows m.columns i search.old.len search.old.len j prices.now.u prices.now.w pairs.now.row_of
+        search.old.seen search.old.from search.old.queue }
+    ensures ready { SearchReady m.entry.cells.now m.entry.rows m.entry.columns i prices.now.u prices.now.w pairs.now.row_of search.new.seen
+        search.new.from search.new.queue }
+    ensures ended { SearchEnded m.entry.cells.now m.entry.rows m.entry.columns i j k prices.now.u prices.now.w pairs.now.row_of
+        search.old.seen search.new.seen search.new.from search.new.queue search.new.len }
 {
-    let mut end = visit(
-        cells, n, cols, i, u, w, row_of, cols, i, j, seen, from, queue, len,
-    );
-    let mut h = len;
-    while h < end {
-        end = expand(cells, n, cols, i, u, w, row_of, h, seen, from, queue, end);
+    let mut h = search.len;
+    visit(m, i, prices, pairs, m.columns, i, j, search);
+    // The queue grows while it is read.
+    while h < search.len {
+        expand(m, i, prices, pairs, h, search);
         h += 1;
-        if seen[k] != 0 {
-            return end;
+        if search.seen[k] != 0 {
+            return;
         }
     }
-    end
 }
 
 // Row i goes to the lowest column that leaves the total least and the rows before it where they are.
-fn lower(
-    cells: &[u64],
-    n: usize,
-    cols: usize,
-    i: usize,
-    u: &[u64],
-    w: &[u64],
-    row_of: &mut [usize],
-    col_of: &mut [usize],
-    queue: &mut [usize],
-    from: &mut [usize],
-    seen: &mut [usize],
-)
-    requires sizes { Sizes u.now w.now row_of.old col_of.old × Scratch queue.old from.old seen.old }
-    requires matrix { Matrix cells.now n cols × (i < n) × ((j : ℕ) → j < cols → at w.now j ≤ big)
-        × Settled cells.now n cols i u.now w.now row_of.old col_of.old }
-    ensures { Settled cells.now n cols (i + 1) u.now w.now row_of.new
-        col_of.new }
+fn lower(m: Matrix<'_>, i: usize, prices: &Prices, pairs: &mut Pairing, search: &mut Search)
+    requires matrix { Fitting m.cells.now m.rows m.columns × (i < m.rows) × ((j : ℕ) → j < m.columns → at prices.now.w j ≤ big)
+        × Settled m.cells.now m.rows m.columns i prices.now.u prices.now.w pairs.old.row_of pairs.old.col_of }
+    ensures { Settled m.entry.cells.now m.entry.rows m.entry.columns (i + 1) prices.now.u prices.now.w pairs.new.row_of pairs.new.col_of }
 {
-    let k = col_of[i];
-    row_of[cols] = i;
-    tree::clear(seen, cols);
-    let mut len = 0;
-    let mut j = 0;
-    while j < k {
-        len = reach(
-            cells, n, cols, i, u, w, row_of, j, k, seen, from, queue, len,
-        );
-        if seen[k] != 0 {
-            row_of[k] = n;
-            col_of[i] = cols;
-            tree::augment(row_of, col_of, from, seen, n, cols, k);
+    let k = pairs.col_of[i];
+    pairs.row_of[m.columns] = i;
+    tree::clear(&mut search.seen, m.columns);
+    search.len = 0;
+    for j in 0..k {
+        reach(m, i, prices, pairs, j, k, search);
+        if search.seen[k] != 0 {
+            pairs.row_of[k] = m.rows;
+            pairs.col_of[i] = m.columns;
+            tree::augment(m, search, k, pairs);
             return;
         }
-        j += 1;
     }
 }
 
 // Each row in turn goes to the lowest column that leaves the total least.
-pub(crate) fn settle(
-    cells: &[u64],
-    n: usize,
-    cols: usize,
-    u: &[u64],
-    w: &[u64],
-    row_of: &mut [usize],
-    col_of: &mut [usize],
-    queue: &mut [usize],
-    from: &mut [usize],
-    seen: &mut [usize],
-)
-    requires sizes { Sizes u.now w.now row_of.old col_of.old × Scratch queue.old from.old seen.old }
-    requires matrix { Matrix cells.now n cols × State cells.now n cols n u.now w.now row_of.old col_of.old }
-    ensures { tab (at col_of.new) n ≡ lowest (cell_at cells.now cols) n cols }
+pub(crate) fn settle(m: Matrix<'_>, prices: &Prices, pairs: &mut Pairing, search: &mut Search)
+    requires matrix { Fitting m.cells.now m.rows m.columns
+        × State m.cells.now m.rows m.columns m.rows prices.now.u prices.now.w pairs.old.row_of pairs.old.col_of }
+    ensures { tab (at pairs.new.col_of) m.entry.rows ≡ lowest (cell_at m.entry.cells.now m.entry.columns) m.entry.rows m.entry.columns }
 {
-    let mut i = 0;
-    while i < n {
-        lower(cells, n, cols, i, u, w, row_of, col_of, queue, from, seen);
-        i += 1;
+    for i in 0..m.rows {
+        lower(m, i, prices, pairs, search);
     }
 }

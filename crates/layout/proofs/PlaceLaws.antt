@@ -1,6 +1,7 @@
 -- What the places of a sheet are in its bytes, as long as nothing was refused: a record starts where the stated body of the one before it ends, the
 -- last kind is that record's, and every record is counted once. So the counts say of the bytes what document 01 says: "Each record: kind 6 bits, body
 -- length in bits 16 bits, body", "Kinds never fall", "record count 16 bits". Assumes nothing.
+use Rattle.std.specs.Prelude.{Ok}
 use Prim.Native.Nat.{ℕ, zero, suc, ◌+◌, ◌≤◌, ◌<◌}
 use Rattle.std.specs.Prelude.{◌≡◌, true, false, cond, List, ltb}
 use Rattle.std.proofs.Math.Path.{refl}
@@ -11,7 +12,6 @@ use Rattle.components.specs.declared.Kind.{Kind}
 use Rattle.components.specs.declared.Kind.TheVariants.{Policy, Stop, Line, Car, Aboard, Waiting, Demand, Closed, Unknown}
 use Rattle.components.specs.Codes.{kind_of, kind_code, by_kind}
 use Rattle.layout.specs.declared.Counts.{Counts}
-use Rattle.layout.specs.declared.Reading.TheVariants.{Accepted}
 use Rattle.layout.specs.Offsets.{body_length, across_in, record_length, next, last_kind, end_of}
 use Rattle.layout.specs.PlaceLaws.{all}
 use Rattle.layout.specs.Refusals.{record_count, refusal4, kind_at, length_at, refusal5, refusal6}
@@ -143,6 +143,6 @@ module _ (s : List ℕ) where
   all_after (suc k) l h = omega (arith, all_next s k l (h (suc k) (omega arith)), all_after k (omega arith) (λ j i. h j (omega arith)))
 
   -- an accepted sheet has as many records as its head says
-  pub all_counted : (c : Counts) → verdict s ≡ Accepted c → all c ≡ record_count s
+  pub all_counted : (c : Counts) → verdict s ≡ Ok c → all c ≡ record_count s
   all_counted c e =
       let a = (accepted_nowhere s c).0 e in ap all a.1 ∙ all_after (record_count s) (omega arith) (λ j l. a.0.none_at j)

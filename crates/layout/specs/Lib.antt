@@ -3,6 +3,7 @@ pub mod Offsets
 pub mod Table
 pub mod Records
 pub mod Refusals
+pub mod Refused
 pub mod Verdict
 pub mod VerdictLaws
 pub mod Open

@@ -1,6 +1,7 @@
 -- The records of a sheet from its bytes. Document 01: "Fields are packed bits, most significant first"; "A double is its 64 IEEE bits"; "\"Opt\" is a
 -- present bit, then the field". A record is read through a function of an offset in it and a width; its fields are those of Table. An optional id
 -- is the field itself: absent it is zero (refusal 8), and present it is not (refusal 9). Assumes nothing.
+use Rattle.std.specs.Prelude.{None, Option, Some}
 use Rattle.std.specs.Prelude.{ℕ, ◌+◌, Bool, cond, List, eqb, Float}
 use Rattle.std.specs.Float.Ieee.{of_bits}
 use Rattle.std.specs.Float.{binary64}
@@ -13,8 +14,6 @@ use Rattle.components.specs.declared.Car.{Car}
 use Rattle.components.specs.declared.Aboard.{Aboard}
 use Rattle.components.specs.declared.Waiting.{Waiting}
 use Rattle.components.specs.declared.Demand.{Demand}
-use Rattle.components.specs.declared.Threshold.{Threshold}
-use Rattle.components.specs.declared.Threshold.TheVariants as threshold
 use Rattle.components.specs.Codes.{strategy_of, traffic_of, phase_of, direction_of, mode_of}
 use Rattle.components.specs.Sheet.{Sheet}
 use Rattle.layout.specs.declared.Counts.{Counts}
@@ -44,8 +43,8 @@ abbrev pub double : Fields → Field → Float
 double f x = of_bits binary64 (read f x)
 
 -- a present bit, and the double
-abbrev pub optional : Fields → Field → Field → Threshold
-optional f present x = cond (flag f present) (threshold.At (double f x)) threshold.Absent
+abbrev pub optional : Fields → Field → Field → Option Float
+optional f present x = cond (flag f present) (Some (double f x)) None
 
 -- kind 1, policy. The limit stands apart: the sheet is without it
 unfoldable pub policy_of : Fields → Policy

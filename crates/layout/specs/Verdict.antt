@@ -1,13 +1,14 @@
 -- The verdict on a byte string. Document 01: "1 is tested first, then the head (2 before 3), then each record in turn, within it by rising number, 16
 -- last. The first found is given." Number 1 is the host's, who lends the buffers, and is not of the bytes. The tables of rules give the numbers that
 -- can be given at the head, at a record and at the tail, in rising order, each with its condition. Assumes nothing.
+use Rattle.std.specs.Prelude.{Ok, Result}
+use Rattle.layout.specs.declared.Refusal.{Refusal}
+use Rattle.layout.specs.Refused.{refused}
 use Rattle.std.specs.Prelude.{ℕ, zero, suc, Bool, cond, List, [], ◌∷◌, eqb}
 use Rattle.components.specs.declared.Kind.{Kind}
 use Rattle.components.specs.declared.Kind.TheVariants.{Policy, Stop, Line, Car, Aboard, Waiting, Demand, Closed, Unknown}
 use Rattle.components.specs.Codes.{kind_of}
 use Rattle.layout.specs.declared.Counts.{Counts}
-use Rattle.layout.specs.declared.Reading.{Reading}
-use Rattle.layout.specs.declared.Reading.TheVariants.{Refused, Accepted}
 use Rattle.layout.specs.Offsets.{across_bits, none, next, end_of}
 use Rattle.layout.specs.Records.{Fields, from}
 use Rattle.layout.specs.Refusals.{edition, record_count, kind_at, length_at, refusal2_head, refusal3, refusal6_empty, refusal16}
@@ -72,8 +73,8 @@ first_of [] = 0
 first_of (r ∷ l) = pick r.1 r.0 (first_of l)
 
 -- "The first found is given", with the bit where its place starts; the rest is read where no rule of this place holds
-abbrev pub given : ℕ → ℕ → Reading → Reading
-given number at rest = cond (eqb number 0) rest (Refused number at)
+abbrev pub given : ℕ → ℕ → Result Counts Refusal → Result Counts Refusal
+given number at rest = cond (eqb number 0) rest (refused number at)
 
 module _ (s : List ℕ) (c : Counts) where
   abbrev pub body_refusal : Kind → Fields → ℕ
@@ -82,11 +83,11 @@ module _ (s : List ℕ) (c : Counts) where
   unfoldable pub record_refusal : ℕ
   record_refusal = first_of (record_rules s c)
 
-  unfoldable pub tail_verdict : Reading
-  tail_verdict = given (first_of (tail_rules s c)) (end_of c) (Accepted c)
+  unfoldable pub tail_verdict : Result Counts Refusal
+  tail_verdict = given (first_of (tail_rules s c)) (end_of c) (Ok c)
 
 -- the records that are left, n of them, after those counted; then the tail
-unfoldable pub records_verdict : List ℕ → ℕ → Counts → Reading
+unfoldable pub records_verdict : List ℕ → ℕ → Counts → Result Counts Refusal
 records_verdict s zero c = tail_verdict s c
 records_verdict s (suc n) c = given (record_refusal s c) (end_of c) (records_verdict s n (next c (kind_of (kind_at s c))))
 
@@ -94,5 +95,5 @@ records_verdict s (suc n) c = given (record_refusal s c) (end_of c) (records_ver
 abbrev pub at_first : List ℕ → Counts
 at_first s = none (across_bits (edition s))
 
-unfoldable pub verdict : List ℕ → Reading
+unfoldable pub verdict : List ℕ → Result Counts Refusal
 verdict s = given (first_of (head_rules s)) 0 (records_verdict s (record_count s) (at_first s))

@@ -1,10 +1,10 @@
 -- Laws of the verdict: what a record without a refusal says, and one record more. Assumes nothing.
+use Rattle.layout.specs.Refused.{refused}
 use Rattle.std.specs.Prelude.{ℕ, suc, ◌-◌, ◌*◌, ◌≤◌, ◌<◌, ◌≡◌, refl, Bool, true, false, List, ◌≢◌}
 use Rattle.std.proofs.Common.{◌∙◌, mul-le-mul_left, arith, eq-eqb, ne_eqb}
 use Rattle.std.proofs.Math.Path.{ap}
 use Rattle.components.specs.Codes.{kind_of}
 use Rattle.layout.specs.declared.Counts.{Counts}
-use Rattle.layout.specs.declared.Reading.TheVariants.{Refused}
 use Rattle.layout.specs.Offsets.{next, end_of}
 use Rattle.layout.specs.Records.{from}
 use Rattle.layout.specs.Refusals.{kind_at, length_at, refusal2, refusal4, refusal5, refusal6, refusal7}
@@ -52,7 +52,7 @@ module _ (s : List ℕ) (n : ℕ) (c : Counts) (h : 0 < n) where
   unfolding records_verdict
   verdict_on e = ap (λ (m : ℕ). records_verdict s m c) (one_less n h) ∙ rw (eq-eqb _ _ e)
 
-  pub verdict_stop : record_refusal s c ≢ 0 → records_verdict s n c ≡ Refused (record_refusal s c) (end_of c)
+  pub verdict_stop : record_refusal s c ≢ 0 → records_verdict s n c ≡ refused (record_refusal s c) (end_of c)
   unfolding records_verdict
   verdict_stop e = ap (λ (m : ℕ). records_verdict s m c) (one_less n h) ∙ rw (ne_eqb (record_refusal s c) 0 e)
 

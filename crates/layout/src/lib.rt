@@ -4,7 +4,7 @@
 
 ghost use Rattle.std.specs.Prelude.{◌≡◌, ◌<◌, ◌+◌};
 ghost use Rattle.components.specs.declared.Kind.TheVariants.{Stop, Car};
-ghost use Rattle.layout.specs.Offsets.{Small, body_length, across_in, across_bits, record_length, next, stops_from, lines_from, cars_from, aboards_from, waits_from, demands_from, closures_from, end_of};
+ghost use Rattle.layout.specs.Offsets.{Small, body_length, across_in, across_bits, record_length, none, next, stops_from, lines_from, cars_from, aboards_from, waits_from, demands_from, closures_from, end_of};
 ghost use Rattle.layout.specs.Offsets.{stop_start, car_start, last_kind};
 ghost use Rattle.layout.specs.Refusals.{refusal6, refusal7};
 
@@ -36,12 +36,19 @@ pub struct Counts {
     pub closures: u32,
 }
 
-// What reading a sheet finds: a refusal with its number and the bit offset where the record starts, or the counts of an accepted sheet.
-#[derive(Clone, Copy)]
-pub enum Reading {
-    Refused { number: u32, offset: u64 },
-    Accepted(Counts),
+// Why a sheet, or what is asked of one, is refused: the paper's number, and the bit offset where the record starts. It is a number, since the C
+// interface gives it and the theorems compare refusals by it (layout: Earliest, refused_first; Verdict, the tables of rules).
+#[derive(Clone, Copy, Debug, PartialEq, Eq)]
+pub struct Refusal {
+    pub number: u32,
+    pub offset: u64,
 }
+
+// 1, the host program's: a lent buffer is too short.
+pub const SHORT_BUFFER: Refusal = Refusal {
+    number: 1,
+    offset: 0,
+};
 
 // The bits of a second coordinate in a sheet of this edition.
 pub fn across_bits(edition: u64) -> u32
@@ -68,6 +75,23 @@ pub fn body_length(kind: Kind, across: u32) -> u64
 }
 
 impl Counts {
+    // Before the first record, where second coordinates have some bits.
+    pub fn none(across: u32) -> Counts
+        ensures { result ≡ none across }
+    {
+        Counts {
+            across,
+            policies: 0,
+            stops: 0,
+            lines: 0,
+            cars: 0,
+            aboards: 0,
+            waits: 0,
+            demands: 0,
+            closures: 0,
+        }
+    }
+
     // A stop's length.
     pub fn stop_bits(self) -> u32
         requires { Small self }

@@ -1,5 +1,6 @@
 -- A stored list, replayed case by case: a step holds where the next case starts, and the totals so far. Assumes nothing.
 use Prim.Native.Nat.{ℕ, zero, suc, ◌≤◌, ◌<◌}
+use Rattle.lists.specs.declared.Step.{Step}
 use Rattle.std.specs.Prelude.{◌≡◌, cond, ltb}
 use Rattle.std.proofs.Math.Path.{refl}
 use Rattle.std.proofs.Common.{arith}
@@ -16,6 +17,22 @@ module _ {S T : Type 0} (next : S → ℕ) (totals : S → T) (turn : ℕ → T 
     pub cases : ℕ
     pub place : next (steps_of cases) ≡ at
     pub counts : totals (steps_of cases) ≡ t
+
+module _ {T : Type 0} (turn : ℕ → T → Step T) (end : ℕ) (start : T) where
+  -- byte at is reached with these totals, from those at the list's start
+  abbrev pub Met : ℕ → T → Type 0
+  Met at t = Reached (λ (p : Step T). p.next) (λ (p : Step T). p.totals) turn (record { next = 0; totals = start }) end at t
+
+  -- the totals after the whole list
+  abbrev pub Replayed : T → Type 0
+  Replayed t = Met end t
+
+-- what a turn leaves: it is on at a later byte of the list, with totals from which the next case can turn
+pub record Turned {T : Type 0} (turn : ℕ → T → Step T) (can_turn : ℕ → T → Type 0) (end at : ℕ) (t : T) (r : Step T) : Type 0 where
+  pub is : r ≡ turn at t
+  pub on : at < r.next
+  pub within : r.next ≤ end
+  pub can : can_turn r.next r.totals
 
 -- ---- laws
 

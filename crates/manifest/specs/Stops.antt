@@ -1,19 +1,18 @@
 -- Stops by two lists, n ids and 128 coordinates: of stop j the first is element j, the second element 64 + j. What the code looks up. Assumes
 -- nothing.
+use Rattle.std.specs.Prelude.{None, Option, Some}
 use Rattle.std.specs.Prelude.{ℕ, zero, suc, ◌+◌, ◌-◌, ◌*◌, ◌/◌, ◌≤◌, ◌<◌, ◌≡◌, refl, Bool, false, cond, ◌&&◌, List, ◌≢◌, ltb, drop, Float}
 use Rattle.std.proofs.Common.{mul-zero, mul-one, arith, ◌∙◌, ⊎_elim, get_or-drop}
 use Rattle.std.proofs.Math.Path.{sym, ap, ap₂}
 use Rattle.std.proofs.Math.Bool.{true}
 use Rattle.std.proofs.Math.Dec.{eqb}
-use Rattle.std.proofs.Math.ListN.{get_or}
+use Rattle.std.proofs.Math.ListN.{get_or, length}
 use Rattle.std.specs.Float.{nan}
 use borrow.Author.Tests.{lt-ltb, le-ltb, eq-eqb, ne_eqb, eqb-true, ltb-true}
 use Rattle.laws.specs.Bools.{same_test, less?, both, both_left, both_right}
 use Rattle.laws.specs.Folds.{none_any, lookup, lookup_cong, lookup_at, lookup_none}
 use Rattle.mask.specs.Mask.{has}
 use Rattle.components.specs.declared.Point.{Point}
-use Rattle.components.specs.declared.Place.{Place}
-use Rattle.components.specs.declared.Place.TheVariants.{At, Nowhere}
 use Rattle.components.specs.declared.Phase.{Phase}
 use Rattle.components.specs.declared.Phase.TheVariants.{Idle, MovingToStop, Repositioning, DoorOpening, Loading, DoorClosing, Stopped, Unknown}
 use Rattle.components.specs.Points.{point_of}
@@ -29,6 +28,10 @@ stop_index ids n id = lookup (λ j. eqb (get_or ids j 0) id) (λ j. j) n n
 -- the ids of the first n stops rise
 pub record Ascending (ids : List ℕ) (n : ℕ) : Type 0 where
   pub rising : (a b : ℕ) → a < b → b < n → get_or ids a 0 < get_or ids b 0
+
+-- n stops by two lists: their ids, which rise, and their coordinates
+abbrev pub AtHand : List ℕ → List Float → ℕ → Type 0
+AtHand ids xs n = (n ≤ length ids) × Ascending ids n × (64 + n ≤ length xs)
 
 -- the index that a look-up gives is one that passes, or none does
 passes : (p : ℕ → Bool) (n k : ℕ) → k ≤ n → lookup p (λ j. j) n k < n → p (lookup p (λ j. j) n k) ≡ true
@@ -145,11 +148,11 @@ pub side_of : (xs : List Float) (j : ℕ) → get_or (sides_of xs) j nan ≡ get
 side_of xs j = get_or-drop 64 xs j nan
 
 -- where the stop of an index stands
-unfoldable pub place_at : List Float → ℕ → ℕ → Place
-place_at xs n j = cond (ltb j n) (At (point_in xs j)) Nowhere
+unfoldable pub place_at : List Float → ℕ → ℕ → Option Point
+place_at xs n j = cond (ltb j n) (Some (point_in xs j)) None
 
 -- stop_position
-unfoldable pub position_in : List ℕ → List Float → ℕ → ℕ → Place
+unfoldable pub position_in : List ℕ → List Float → ℕ → ℕ → Option Point
 position_in ids xs n id = place_at xs n (stop_index ids n id)
 
 -- ---- lists that hold a sheet's stops
@@ -170,13 +173,13 @@ pub record DistinctStops (s : Sheet) : Type 0 where
 
 -- the place of the index that a look-up gives is the place that it gives
 found : (p : ℕ → Bool) (xs : List Float) (n k : ℕ) → k ≤ n
-    → place_at xs n (lookup p (λ j. j) n k) ≡ lookup p (λ j. At (point_in xs j)) Nowhere k
+    → place_at xs n (lookup p (λ j. j) n k) ≡ lookup p (λ j. Some (point_in xs j)) None k
 unfolding lookup place_at
 found p xs n zero l = rw (le-ltb n n (omega arith))
 found p xs n (suc k) l = by (p k) (found p xs n k (omega arith))
   where
-    by : (b : Bool) → place_at xs n (lookup p (λ j. j) n k) ≡ lookup p (λ j. At (point_in xs j)) Nowhere k
-        → place_at xs n (cond b k (lookup p (λ j. j) n k)) ≡ cond b (At (point_in xs k)) (lookup p (λ j. At (point_in xs j)) Nowhere k)
+    by : (b : Bool) → place_at xs n (lookup p (λ j. j) n k) ≡ lookup p (λ j. Some (point_in xs j)) None k
+        → place_at xs n (cond b k (lookup p (λ j. j) n k)) ≡ cond b (Some (point_in xs k)) (lookup p (λ j. Some (point_in xs j)) None k)
     by true h = rw (lt-ltb k n (omega arith))
     by false h = h
 
@@ -190,9 +193,9 @@ module _ (s : Sheet) (ids : List ℕ) (xs : List Float) (n : ℕ) (h : HoldsStop
   unfolding position_in stop_index stop_position point_in
   position_is id =
       found (λ j. eqb (get_or ids j 0) id) xs n n (omega arith)
-      ∙ lookup_cong (λ j. eqb (get_or ids j 0) id) (λ j. eqb (stop_id s j) id) (λ j. At (point_in xs j)) (λ j. At (stop_at s j)) Nowhere n
-      (λ k l. ap (λ (z : ℕ). eqb z id) (h.id_of k l)) (λ k l. ap At (ap₂ point_of (h.at k l) (h.side k l)))
-      ∙ ap (λ (z : ℕ). lookup (λ j. eqb (stop_id s j) id) (λ j. At (stop_at s j)) Nowhere z) h.counted
+      ∙ lookup_cong (λ j. eqb (get_or ids j 0) id) (λ j. eqb (stop_id s j) id) (λ j. Some (point_in xs j)) (λ j. Some (stop_at s j)) None n
+      (λ k l. ap (λ (z : ℕ). eqb z id) (h.id_of k l)) (λ k l. ap Some (ap₂ point_of (h.at k l) (h.side k l)))
+      ∙ ap (λ (z : ℕ). lookup (λ j. eqb (stop_id s j) id) (λ j. Some (stop_at s j)) None z) h.counted
 
   -- the ids rise where the sheet's do
   pub ascending : Rising s → Ascending ids n
@@ -211,11 +214,11 @@ module _ (s : Sheet) (ids : List ℕ) (xs : List Float) (n : ℕ) (h : HoldsStop
       same : (id : ℕ) → position_in ids xs n id ≡ stop_position s id
       same id =
           found (λ j. eqb (get_or ids j 0) id) xs n n (omega arith)
-          ∙ lookup_cong (λ j. eqb (get_or ids j 0) id) (λ j. eqb (stop_id s j) id) (λ j. At (point_in xs j)) (λ j. At (stop_at s j)) Nowhere n
-          (λ k l. ap (λ (z : ℕ). eqb z id) (h.id_of k l)) (λ k l. ap At (ap₂ point_of (h.at k l) (h.side k l)))
-          ∙ ap (λ (z : ℕ). lookup (λ j. eqb (stop_id s j) id) (λ j. At (stop_at s j)) Nowhere z) h.counted
+          ∙ lookup_cong (λ j. eqb (get_or ids j 0) id) (λ j. eqb (stop_id s j) id) (λ j. Some (point_in xs j)) (λ j. Some (stop_at s j)) None n
+          (λ k l. ap (λ (z : ℕ). eqb z id) (h.id_of k l)) (λ k l. ap Some (ap₂ point_of (h.at k l) (h.side k l)))
+          ∙ ap (λ (z : ℕ). lookup (λ j. eqb (stop_id s j) id) (λ j. Some (stop_at s j)) None z) h.counted
 
-      goal_of_cong : (f g : ℕ → Place) → ((id : ℕ) → f id ≡ g id) → (p : Phase) → goal_of f p ≡ goal_of g p
+      goal_of_cong : (f g : ℕ → Option Point) → ((id : ℕ) → f id ≡ g id) → (p : Phase) → goal_of f p ≡ goal_of g p
       goal_of_cong f g h Idle = refl
       goal_of_cong f g h (MovingToStop id) = h id
       goal_of_cong f g h (Repositioning id) = h id

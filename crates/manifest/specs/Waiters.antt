@@ -1,25 +1,25 @@
 -- What waits at a stop, as one value that does not depend on a car: whether anyone does, whether a hall call has no rider, the two sums of wait
 -- ticks, and the least weight among those who go up, who go down, and who do neither. Assumes nothing.
+use Rattle.std.specs.Prelude.{None, Option, Some}
+use Rattle.components.specs.declared.Point.{Point}
 use Rattle.std.specs.Prelude.{ℕ, Bool, true, false, not, ◌||◌, cond, List, eqb, get_or, Float}
 use Rattle.std.specs.Float.{nan}
 use Rattle.std.specs.Float.Ieee.{lt}
 use Rattle.laws.specs.Folds.{fold}
 use Rattle.fp.specs.Num.{zero, infinity, plus, times, lesser, natural}
-use Rattle.components.specs.declared.Place.{Place}
-use Rattle.components.specs.declared.Place.TheVariants.{At, Nowhere}
 use Rattle.manifest.specs.Stops.{position_in}
 use Rattle.manifest.specs.declared.Waiters.{Waiters}
 
 -- a rider at p bound for a place goes up, goes down; one whose destination is unknown does neither. F-12: "Directions .. use the first coordinate."
-abbrev pub goes_up : Float → Place → Bool
-goes_up p Nowhere = false
-goes_up p (At d) = lt p d.along
+abbrev pub goes_up : Float → Option Point → Bool
+goes_up p None = false
+goes_up p (Some d) = lt p d.along
 
-abbrev pub goes_down : Float → Place → Bool
-goes_down p Nowhere = false
-goes_down p (At d) = lt d.along p
+abbrev pub goes_down : Float → Option Point → Bool
+goes_down p None = false
+goes_down p (Some d) = lt d.along p
 
-abbrev pub stays_level : Float → Place → Bool
+abbrev pub stays_level : Float → Option Point → Bool
 stays_level p d = not (goes_up p d || goes_down p d)
 
 -- the lesser of a and w, where w counts
@@ -31,7 +31,7 @@ abbrev pub nobody : Bool → Waiters
 nobody call = record { someone = false; call = call; waitsum = zero; squares = zero; up = infinity; down = infinity; level = infinity }
 
 -- one rider more at p
-unfoldable pub with_rider : Waiters → Float → Place → Float → ℕ → Waiters
+unfoldable pub with_rider : Waiters → Float → Option Point → Float → ℕ → Waiters
 with_rider v p d weight wait =
     record {
       someone = true;

@@ -1,24 +1,23 @@
 -- What world.rs and the group answer of a sheet: a stop by its id, the riders of a car, the stops of the group. Assumes nothing.
+use Rattle.std.specs.Prelude.{None, Option, Some}
 use Rattle.std.specs.Prelude.{ℕ, Bool, eqb}
 use Rattle.laws.specs.Folds.{any, lookup}
 use Rattle.mask.specs.Mask.{has}
 use Rattle.components.specs.declared.Point.{Point}
-use Rattle.components.specs.declared.Place.{Place}
-use Rattle.components.specs.declared.Place.TheVariants.{At, Nowhere}
 use Rattle.components.specs.declared.Phase.{Phase}
 use Rattle.components.specs.declared.Phase.TheVariants.{Idle, MovingToStop, Repositioning, DoorOpening, Loading, DoorClosing, Stopped, Unknown}
 use Rattle.components.specs.Sheet.{Sheet}
 
 -- the stop that a moving phase holds, looked up; "the stop of any phase but 1 and 2" is unused
-abbrev pub goal_of : (ℕ → Place) → Phase → Place
-goal_of f Idle = Nowhere
+abbrev pub goal_of : (ℕ → Option Point) → Phase → Option Point
+goal_of f Idle = None
 goal_of f (MovingToStop id) = f id
 goal_of f (Repositioning id) = f id
-goal_of f DoorOpening = Nowhere
-goal_of f Loading = Nowhere
-goal_of f DoorClosing = Nowhere
-goal_of f Stopped = Nowhere
-goal_of f Unknown = Nowhere
+goal_of f DoorOpening = None
+goal_of f Loading = None
+goal_of f DoorClosing = None
+goal_of f Stopped = None
+goal_of f Unknown = None
 
 module _ (s : Sheet) where
   abbrev pub stop_id : ℕ → ℕ
@@ -28,11 +27,11 @@ module _ (s : Sheet) where
   stop_at j = (s.stop j).position
 
   -- stop_position: "Phase and target stops, destinations and a required line may name ids without a record; such a stop has no position."
-  unfoldable pub stop_position : ℕ → Place
-  stop_position id = lookup (λ j. eqb (stop_id j) id) (λ j. At (stop_at j)) Nowhere s.stops
+  unfoldable pub stop_position : ℕ → Option Point
+  stop_position id = lookup (λ j. eqb (stop_id j) id) (λ j. Some (stop_at j)) None s.stops
 
   -- where car i moves to: the position of its phase's moving_target
-  unfoldable pub goal : ℕ → Place
+  unfoldable pub goal : ℕ → Option Point
   goal i = goal_of stop_position (s.car i).phase
 
   -- "the group's stops are those of any line"

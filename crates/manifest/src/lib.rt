@@ -5,10 +5,10 @@
 ghost use Rattle.std.specs.Prelude.{◌≡◌, cond, ltb, ◌+◌, ◌≤◌, ◌<◌, length, get_or};
 ghost use Rattle.std.specs.Float.{nan};
 ghost use Rattle.manifest.specs.World.{goal_of};
-ghost use Rattle.manifest.specs.Stops.{Ascending, stop_index, point_in, place_at, position_in};
+ghost use Rattle.manifest.specs.Stops.{Ascending, AtHand, stop_index, point_in, place_at, position_in};
 ghost use Rattle.manifest.specs.Waiters.{goes_up, goes_down, lesser_if, nobody, with_rider};
 
-use components::{Phase, Place, Point};
+use components::{Phase, Point};
 
 // half where a is at most b, else 0, by the bit that b - a borrows: a branch would be mispredicted every other time.
 fn half_if(half: usize, a: u32, b: u32) -> usize
@@ -18,7 +18,7 @@ fn half_if(half: usize, a: u32, b: u32) -> usize
     half * (kept as usize)
 }
 
-// The index of the stop with this id, n where there is none: by halves, since ids rise.
+// The index of the stop with this id, n where there is none: by halves, since ids rise. Of ids alone, which is what pending and covered have at hand.
 pub fn stop_index(ids: &[u32], n: usize, id: u32) -> usize
     requires { (n ≤ length ids.now) × Ascending ids.now n }
     ensures { result ≡ stop_index ids.now n id }
@@ -49,41 +49,60 @@ pub fn point(xs: &[f64], j: usize) -> Point
     }
 }
 
-// Where the stop of an index stands.
-fn place(xs: &[f64], n: usize, index: usize) -> Place
-    requires { 64 + n ≤ length xs.now }
-    ensures { result ≡ place_at xs.now n index }
-{
-    if index < n {
-        Place::At(point(xs, index))
-    } else {
-        Place::Nowhere
+// The stops at hand: their ids, which rise, their coordinates, and how many they are.
+#[derive(Clone, Copy)]
+pub struct Stops<'a> {
+    pub ids: &'a [u32],
+    pub points: &'a [f64],
+    pub count: usize,
+}
+
+impl<'a> Stops<'a> {
+    // The index of the stop with this id, the count where there is none.
+    pub fn index(&self, id: u32) -> usize
+        requires { AtHand self.now.ids.now self.now.points.now self.now.count }
+        ensures { result ≡ stop_index self.now.ids.now self.now.count id }
+    {
+        stop_index(self.ids, self.count, id)
     }
-}
 
-// stop_position: where the stop with this id stands.
-fn stop_position(ids: &[u32], xs: &[f64], n: usize, id: u32) -> Place
-    requires { (n ≤ length ids.now) × Ascending ids.now n × (64 + n ≤ length xs.now) }
-    ensures { result ≡ position_in ids.now xs.now n id }
-{
-    let index = stop_index(ids, n, id);
-    place(xs, n, index)
-}
+    // Where stop j stands.
+    pub fn point(&self, j: usize) -> Point
+        requires { 64 + j < length self.now.points.now }
+        ensures { result ≡ point_in self.now.points.now j }
+    {
+        point(self.points, j)
+    }
 
-// Where a car in this phase moves to: the position of its moving_target.
-pub fn goal(ids: &[u32], xs: &[f64], n: usize, phase: Phase) -> Place
-    requires { (n ≤ length ids.now) × Ascending ids.now n × (64 + n ≤ length xs.now) }
-    ensures { result ≡ goal_of (position_in ids.now xs.now n) phase }
-{
-    match phase {
-        Phase::Idle => Place::Nowhere,
-        Phase::MovingToStop(stop) => stop_position(ids, xs, n, stop),
-        Phase::Repositioning(stop) => stop_position(ids, xs, n, stop),
-        Phase::DoorOpening => Place::Nowhere,
-        Phase::Loading => Place::Nowhere,
-        Phase::DoorClosing => Place::Nowhere,
-        Phase::Stopped => Place::Nowhere,
-        Phase::Unknown => Place::Nowhere,
+    // Where the stop of an index stands.
+    fn place(&self, index: usize) -> Option<Point>
+        requires { AtHand self.now.ids.now self.now.points.now self.now.count }
+        ensures { result ≡ place_at self.now.points.now self.now.count index }
+    {
+        if index < self.count {
+            Some(self.point(index))
+        } else {
+            None
+        }
+    }
+
+    // stop_position: where the stop with this id stands.
+    fn position(&self, id: u32) -> Option<Point>
+        requires { AtHand self.now.ids.now self.now.points.now self.now.count }
+        ensures { result ≡ position_in self.now.ids.now self.now.points.now self.now.count id }
+    {
+        self.place(self.index(id))
+    }
+
+    // Where a car in this phase moves to: the position of its moving_target.
+    pub fn goal(&self, phase: Phase) -> Option<Point>
+        requires { AtHand self.now.ids.now self.now.points.now self.now.count }
+        ensures { result ≡ goal_of (position_in self.now.ids.now self.now.points.now self.now.count) phase }
+    {
+        match phase {
+            Phase::MovingToStop(stop) | Phase::Repositioning(stop) => self.position(stop),
+            _ => None,
+        }
     }
 }
 
@@ -100,22 +119,16 @@ pub struct Waiters {
     pub level: f64,
 }
 
-fn goes_up(p: f64, place: Place) -> bool
+fn goes_up(p: f64, place: Option<Point>) -> bool
     ensures { result ≡ goes_up p place }
 {
-    match place {
-        Place::Nowhere => false,
-        Place::At(d) => p < d.along,
-    }
+    place.is_some_and(|d| p < d.along)
 }
 
-fn goes_down(p: f64, place: Place) -> bool
+fn goes_down(p: f64, place: Option<Point>) -> bool
     ensures { result ≡ goes_down p place }
 {
-    match place {
-        Place::Nowhere => false,
-        Place::At(d) => d.along < p,
-    }
+    place.is_some_and(|d| d.along < p)
 }
 
 fn lesser_if(counts: bool, least: f64, weight: f64) -> f64
@@ -135,7 +148,7 @@ impl Waiters {
         let infinity = 1.0 / 0.0;
         Waiters {
             someone: false,
-            call: call,
+            call,
             waitsum: 0.0,
             squares: 0.0,
             up: infinity,
@@ -145,7 +158,7 @@ impl Waiters {
     }
 
     // One rider more at a stop at p.
-    fn with_rider(self, p: f64, place: Place, weight: f64, wait: u64) -> Self
+    fn with_rider(self, p: f64, place: Option<Point>, weight: f64, wait: u64) -> Self
         ensures { result ≡ with_rider self p place weight wait }
     {
         let ticks = fp::natural(wait);
@@ -163,20 +176,11 @@ impl Waiters {
     }
 
     // The rider of a record, who waits at stop j.
-    pub fn meet(
-        self,
-        ids: &[u32],
-        xs: &[f64],
-        n: usize,
-        j: usize,
-        dest: u32,
-        weight: f64,
-        wait: u64,
-    ) -> Self
-        requires { (n ≤ length ids.now) × Ascending ids.now n × (64 + n ≤ length xs.now) × (j < n) }
-        ensures { result ≡ with_rider self (get_or xs.now j nan) (position_in ids.now xs.now n dest) weight wait }
+    pub fn meet(self, stops: &Stops, j: usize, dest: u32, weight: f64, wait: u64) -> Self
+        requires { AtHand stops.now.ids.now stops.now.points.now stops.now.count × (j < stops.now.count) }
+        ensures { let xs = stops.now.points.now in
+            result ≡ with_rider self (get_or xs j nan) (position_in stops.now.ids.now xs stops.now.count dest) weight wait }
     {
-        let place = stop_position(ids, xs, n, dest);
-        self.with_rider(xs[j], place, weight, wait)
+        self.with_rider(stops.points[j], stops.position(dest), weight, wait)
     }
 }

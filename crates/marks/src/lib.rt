@@ -21,9 +21,7 @@ pub fn mark_cells(cells: &[u64], marks: &mut [u64])
     ensures { let k = length cells.now in (length marks.new ≡ length marks.old)
         × (marks.new ≡ tab (mark_at cells.now) k ++ drop k marks.old) }
 {
-    let mut k = 0;
-    while k < cells.len() {
+    for k in 0..cells.len() {
         marks[k] = mark(cells[k]);
-        k += 1;
     }
 }

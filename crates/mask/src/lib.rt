@@ -74,14 +74,14 @@ pub fn past_stops(mask: u64, n: usize) -> bool
     if n < 64 { mask << n != 0 } else { false }
 }
 
-// The places of a mask's ones in order, with zeros past them, and how many they are.
+// The places of a mask's ones in order, with zeros past them, and how many they are: an array, since memory is fixed and nothing is on the heap.
 #[derive(Clone, Copy)]
 pub struct Ones {
     pub at: [usize; 64],
     pub count: usize,
 }
 
-// The ones of a mask, listed; past the last one nothing is looked at.
+// The ones of a mask, listed; past the last one nothing is looked at, so a test of the mask ends the loop, and no range.
 pub fn list_ones(mask: u64) -> Ones
     ensures { result ≡ ones_of mask }
 {

@@ -1,5 +1,5 @@
 -- What each test of `assign` says of the promise, and that the method takes what passes them all, with its marks. Assumes nothing.
-use Rattle.std.specs.Prelude.{◌≡◌, true, false, ℕ, ◌+◌, ◌*◌, ◌/◌, ◌≤◌, ◌<◌, take, drop}
+use Rattle.std.specs.Prelude.{◌≡◌, true, false, ℕ, ◌+◌, ◌*◌, ◌/◌, ◌≤◌, ◌<◌, take, drop, Some, None}
 use Rattle.std.proofs.Math.Path.{sym, ap, fun_ext}
 use Rattle.std.proofs.Common.{◌∙◌, mul-le-mul_right, arith, take_at, ne_eqb, lt-ltb, ltb-false}
 use Rattle.std.proofs.Math.Bool.{or-true}
@@ -15,7 +15,6 @@ use Rattle.assignment_problem.specs.Marked.{mark, marked}
 use Rattle.assignment_problem.proofs.MarkedLaws.{mark_le, marked_lowest, marked_least}
 use Rattle.alternating_tree.specs.State.{Matrix}
 use Rattle.marks.specs.Marks.{mark_at}
-use Rattle.matcher.specs.declared.Matching.TheVariants.{Least, None}
 use Rattle.matcher.specs.Promise.{too_large, refused, matching, written}
 
 -- a matrix that passes the tests
@@ -117,6 +116,6 @@ refuse cars columns cells places h = (rw h, rw h)
 
 pub accept : (cars columns : ℕ) (cells places places' : List ℕ) (t : ℕ) → refused cars columns cells (length places) ≡ false
     → t ≡ least_total (cell_at cells columns) cars columns → places' ≡ chosen (cell_at cells columns) cars columns ++ drop cars places
-    → (Least t ≡ matching cars columns cells (length places)) × (places' ≡ written cars columns cells places)
+    → (Some t ≡ matching cars columns cells (length places)) × (places' ≡ written cars columns cells places)
 unfolding matching written
-accept cars columns cells places places' t h e d = (rw h (ap Least e), rw h d)
+accept cars columns cells places places' t h e d = (rw h (ap Some e), rw h d)

@@ -8,13 +8,6 @@ ghost use Rattle.assignment_problem.specs.Recursion.{chosen, least_total};
 ghost use Rattle.matcher.specs.Promise.{too_large, matching, written};
 ghost use Rattle.matcher.specs.Fits.{Fitting};
 
-// What the matcher answers: the least total, or none.
-#[derive(Drop)]
-pub enum Matching {
-    Least(u64),
-    None,
-}
-
 // Of a cell: 0 where it is at most the sentinel, and more above it. A quotient of 1 is taken off first, for the sentinel's own.
 fn excess(cell: u64) -> u64
     ensures at_most { cell ≤ sentinel → result ≡ 0 }
@@ -28,10 +21,8 @@ pub fn too_large(cells: &[u64]) -> bool
     ensures { result ≡ any (too_large cells.now) (length cells.now) }
 {
     let mut over = 0;
-    let mut k = 0;
-    while k < cells.len() {
-        over = over | excess(cells[k]);
-        k += 1;
+    for &cell in cells {
+        over |= excess(cell);
     }
     over != 0
 }
@@ -70,27 +61,27 @@ fn choose(cars: usize, columns: usize, cells: &[u64], places: &mut [u32]) -> u64
 }
 
 // The columns of the choice stand first in places, and the answer is its total; where the arguments do not fit it is None, and places are left.
-pub fn assign(cars: usize, columns: usize, cells: &[u64], places: &mut [u32]) -> Matching
+pub fn assign(cars: usize, columns: usize, cells: &[u64], places: &mut [u32]) -> Option<u64>
     ensures { (result ≡ matching cars columns cells.now (length places.old))
         × (places.new ≡ written cars columns cells.now places.old) }
 {
     if 32 < cars {
-        return Matching::None;
+        return None;
     }
     if 64 < columns {
-        return Matching::None;
+        return None;
     }
     if columns < cars {
-        return Matching::None;
+        return None;
     }
     if cells.len() != cars * columns {
-        return Matching::None;
+        return None;
     }
     if places.len() < cars {
-        return Matching::None;
+        return None;
     }
     if too_large(cells) {
-        return Matching::None;
+        return None;
     }
-    Matching::Least(choose(cars, columns, cells, places))
+    Some(choose(cars, columns, cells, places))
 }

@@ -1,27 +1,46 @@
 -- Laws behind normalising, rounding and packing. Assumes nothing.
-use Rattle.std.proofs.Common.{◌≡◌, ℕ, suc, ◌+◌, ◌-◌, ◌*◌, ◌/◌, ◌%◌, ◌^◌, ◌<◌, ◌≤◌, Bool, not, T, ◌⊎◌, sym, ap, ◌∙◌, subst, inl, inr, le_trans, le_of_eq, lt_of_le_of_lt, add-zero, le_of_lt, add_assoc, mul-le-mul_right, mod-eq_of_lt, mul_comm, add-mul, eq-zero-or-pos, add_comm, one-mul, div-add-mod', zero-add, zero-mul, mul-one, mul_right_comm, div-mul-le_self, arith, lit<, pow_pos, pow_mono, pow-add, le-ltb}
+use Rattle.std.proofs.Common.{◌≡◌, ℕ, suc, ◌+◌, ◌-◌, ◌*◌, ◌/◌, ◌%◌, ◌^◌, ◌<◌, ◌≤◌, Bool, not, T, sym, ap, ◌∙◌, subst, inl, inr, le_trans, le_of_eq, lt_of_le_of_lt, add-zero, le_of_lt, add_assoc, mul-le-mul_right, mod-eq_of_lt, mul_comm, add-mul, add_comm, one-mul, div-add-mod', zero-add, zero-mul, mul-one, mul_right_comm, div-mul-le_self, arith, lit<, pow_pos, pow_mono, pow-add, le-ltb, refl, true, false, ◌⊎◌, min}
 use Prim.Native.Nat.{compare}
 use native.Mathlib.Nat.{div-eq_of_lt, pow-succ'}
 use lib.Count.{count_leading_zeros, leading_le, leading_top}
 use lib.Pow.{pow-lt}
-use lib.Ieee.{binary64, nearest, units, round, nan_bits}
+use mir.Val.{bool_byte}
+use lib.Ieee.{binary64, nearest, units, round, nan_bits, of_bits}
 use lib.Ieee.Bits.{nan_bits_above}
 use lib.Ieee.Nearest.{closest}
-use Rattle.fp.specs.Fields.{sign_one}
+use Rattle.std.proofs.Math.Nat.{min-le_right, min-eq_left, min-eq_right}
+use Rattle.laws.specs.Bools.{less?}
+use Rattle.fp.specs.Fields.{sign_one, field_one}
 use Rattle.rounding.specs.Closest.{cmp_lt, cmp_eq, cmp_gt, closest_whole, closest_cut, closest_full}
 use Rattle.rounding.specs.Sticky.{Near, near_round}
 use Rattle.rounding.specs.Jam.{jam_near, near_scale, near_unscale}
-use Rattle.rounding.specs.Pack.{Kept, kept_at, lead_lo, lead_hi, round_zero}
+use Rattle.rounding.specs.Pack.{sign_bit, pack_in, pack_out, Kept, kept_at, lead_lo, lead_hi, round_zero}
 use Rattle.multiply_add.specs.Steps.{base, wide, Holds, once, Sticky, Normalised, Packs, Rounds}
 
 pub not_nan : (n : ℕ) → n % sign_one ≤ 0x7ff0_0000_0000_0000 → T (not (nan_bits binary64 n))
 not_nan n h = rw (nan_bits_above binary64 n, le-ltb 0x7ff0_0000_0000_0000 (n % sign_one) h) tt
 
-pub high_clear : (b : ℕ) → b < 0x7ff0_0000_0000_0000 → (sign_one + b) % sign_one ≤ 0x7ff0_0000_0000_0000
-high_clear b h = omega arith
+-- the sign's bit, from the byte of a bool
+pub packed_bits : (s : Bool) (n : ℕ) → n ≡ bool_byte s → (m : ℕ) → n * 9223372036854775808 % base + m ≡ sign_bit s + m
+packed_bits true n e m = rw e refl
+packed_bits false n e m = rw e refl
 
-pub low_clear : (b : ℕ) → b < 0x7ff0_0000_0000_0000 → b % sign_one ≤ 0x7ff0_0000_0000_0000
-low_clear b h = omega arith
+pub packed_small : (s : Bool) (n b m : ℕ) → n ≡ bool_byte s → m ≡ min b 0x7ff0_0000_0000_0000
+    → (n * 9223372036854775808 % base + m) % sign_one ≤ 0x7ff0_0000_0000_0000
+packed_small s n b m e g = rw (packed_bits s n e m) (low s m (le_trans (le_of_eq g) (min-le_right b 0x7ff0_0000_0000_0000)))
+  where
+    low : (s : Bool) (m : ℕ) → m ≤ 0x7ff0_0000_0000_0000 → (sign_bit s + m) % sign_one ≤ 0x7ff0_0000_0000_0000
+    low true m h = omega arith
+    low false m h = omega arith
+
+pub packed_is : (s : Bool) (q k : ℕ) → Packs q k → (m : ℕ) → m ≡ min (k * field_one + q) 0x7ff0_0000_0000_0000
+    → of_bits binary64 (sign_bit s + m) ≡ units binary64 s q k
+packed_is s q k p m e = by_size (less? (k * field_one + q) 0x7ff0_0000_0000_0000)
+  where
+    by_size : (k * field_one + q < 0x7ff0_0000_0000_0000) ⊎ (0x7ff0_0000_0000_0000 ≤ k * field_one + q)
+        → of_bits binary64 (sign_bit s + m) ≡ units binary64 s q k
+    by_size (inl h) = ap (λ (z : ℕ). of_bits binary64 (sign_bit s + z)) (e ∙ min-eq_left (le_of_lt h)) ∙ pack_in s q k p.most p.least h
+    by_size (inr h) = ap (λ (z : ℕ). of_bits binary64 (sign_bit s + z)) (e ∙ min-eq_right h) ∙ pack_out s q k p.most p.least h
 
 -- ---- the nearest
 
@@ -87,19 +106,6 @@ pub nearest_none_left : (w t : ℕ) → w < base → 64 ≤ t → (t ≡ 64 → 
 nearest_none_left w t h k n =
     let g : 2 ^ 65 ≤ 2 ^ t = pow_mono {i = 65} {j = t} (omega arith) in
     sym (small_closest w (2 ^ t) (omega arith) ∙ ap (nearest 0) (cmp_lt (w * 2) (2 ^ t) (omega arith)))
-
-pub nearest_half_down : (w t : ℕ) → t ≡ 64 → w ≤ sign_one → 0 ≡ closest w (2 ^ t)
-nearest_half_down w t e h = sym (ap (λ (z : ℕ). closest w (2 ^ z)) e ∙ small_closest w base (omega arith) ∙ go (eq_or_less w h))
-  where
-    eq_or_less : (w : ℕ) → w ≤ sign_one → (sign_one - w ≡ 0) ⊎ (0 < sign_one - w)
-    eq_or_less w h = eq-zero-or-pos (sign_one - w)
-
-    go : (sign_one - w ≡ 0) ⊎ (0 < sign_one - w) → nearest 0 (compare (w * 2) base) ≡ 0
-    go (inl k) = ap (nearest 0) (cmp_eq (w * 2) base (omega arith))
-    go (inr k) = ap (nearest 0) (cmp_lt (w * 2) base (omega arith))
-
-pub nearest_half_up : (w t : ℕ) → w < base → t ≡ 64 → sign_one < w → 1 ≡ closest w (2 ^ t)
-nearest_half_up w t l e h = sym (ap (λ (z : ℕ). closest w (2 ^ z)) e ∙ small_closest w base l ∙ ap (nearest 0) (cmp_gt (w * 2) base (omega arith)))
 
 -- ---- one word for two
 

@@ -309,16 +309,6 @@ first_not_finite (fin s m e) y z a = never (sym a)
 
 -- ---- small steps
 
-pub product_sign_set : (s t : Bool) → s ≡ true → not t ≡ unlike s t
-product_sign_set true true e = refl
-product_sign_set true false e = refl
-product_sign_set false t e = never e
-
-pub product_sign_clear : (s t : Bool) → s ≡ false → t ≡ unlike s t
-product_sign_clear false true e = refl
-product_sign_clear false false e = refl
-product_sign_clear true t e = never (sym e)
-
 pub exponent_small : (b k : ℕ) → k ≡ exponent_of b → k < 2047
 exponent_small b k e = rw e (exponent_lt b)
 

@@ -5,35 +5,43 @@ ghost use Rattle.std.specs.Float.Ieee.{units};
 ghost use Rattle.std.specs.Float.Ieee.Nearest.{closest};
 ghost use Rattle.multiply_add.specs.Steps.{wide, once, Sticky, Normalised, Packs, Rounds};
 
-use super::words;
+use super::words::Wide;
 
 // w * 2^up
-#[derive(Drop)]
+#[derive(Clone, Copy)]
 pub(crate) struct Normal {
     pub(crate) w: u64,
     pub(crate) up: u64,
 }
 
 // The higher word, made odd where the lower is not 0.
-pub(crate) fn sticky(hi: u64, lo: u64) -> u64
-    ensures { Sticky hi lo result }
+pub(crate) fn sticky(n: Wide) -> u64
+    ensures { Sticky n.hi n.lo result }
 {
-    if lo == 0 { hi } else { hi + (1 - hi % 2) }
+    if n.lo == 0 {
+        n.hi
+    } else {
+        n.hi + (1 - n.hi % 2)
+    }
 }
 
 // One word that rounds as two do: their 64 leading bits, the last made odd where more follow.
-pub(crate) fn normalise(hi: u64, lo: u64) -> Normal
-    ensures { Normalised (wide hi lo) result.w result.up }
+pub(crate) fn normalise(n: Wide) -> Normal
+    ensures { Normalised (wide n.hi n.lo) result.w result.up }
 {
-    if hi == 0 {
-        Normal { w: lo, up: 0 }
+    if n.hi == 0 {
+        Normal { w: n.lo, up: 0 }
     } else {
-        let z: u64 = u64::leading_zeros(hi) as u64;
-        let x: words::Wide = words::shift_left(lo, z);
-        let top: u64 = (hi << z) + x.hi;
-        let rest: u64 = x.lo;
-        let w: u64 = sticky(top, rest);
-        Normal { w: w, up: 64 - z }
+        let zeros = n.hi.leading_zeros() as u64;
+        let low = Wide::shifted(n.lo, zeros);
+        let leading = Wide {
+            hi: (n.hi << zeros) + low.hi,
+            lo: low.lo,
+        };
+        Normal {
+            w: sticky(leading),
+            up: 64 - zeros,
+        }
     }
 }
 
@@ -42,12 +50,11 @@ fn nearest(w: u64, t: u64) -> u64
     ensures { result ≡ closest w (2 ^ t) }
 {
     if t == 0 {
-        return w;
-    }
-    if t < 64 {
-        let q: u64 = w >> t;
-        let rest: u64 = w - (q << t);
-        let half: u64 = 1 << (t - 1);
+        w
+    } else if t < 64 {
+        let q = w >> t;
+        let rest = w - (q << t);
+        let half = 1 << (t - 1);
         if rest < half {
             q
         } else if rest == half {
@@ -56,7 +63,7 @@ fn nearest(w: u64, t: u64) -> u64
             q + 1
         }
     } else if t == 64 {
-        if w <= 0x8000_0000_0000_0000 { 0 } else { 1 }
+        u64::from(w > 0x8000_0000_0000_0000)
     } else {
         0
     }
@@ -67,18 +74,9 @@ fn pack(neg: bool, q: u64, k: u64) -> f64
     requires { Packs q k }
     ensures { result ≡ units binary64 neg q k }
 {
-    let b: u64 = k * 0x10_0000_0000_0000 + q;
-    if b < 0x7ff0_0000_0000_0000 {
-        if neg {
-            f64::from_bits(0x8000_0000_0000_0000 + b)
-        } else {
-            f64::from_bits(b)
-        }
-    } else if neg {
-        f64::from_bits(0xfff0_0000_0000_0000)
-    } else {
-        f64::from_bits(0x7ff0_0000_0000_0000)
-    }
+    let size = (k * 0x10_0000_0000_0000 + q).min(0x7ff0_0000_0000_0000);
+    let sign = u64::from(neg) << 63;
+    f64::from_bits(sign + size)
 }
 
 // w * 2^at units of 2^-2148 as a whole number of 2^k least doubles, rounded.
@@ -86,7 +84,7 @@ fn rounded(w: u64, at: u64, k: u64) -> u64
     requires { Rounds w at k }
     ensures { result ≡ closest (w * 2 ^ at) (2 ^ (1074 + k)) }
 {
-    let unit: u64 = 1074 + k;
+    let unit = 1074 + k;
     if at < unit {
         nearest(w, unit - at)
     } else {
@@ -98,7 +96,7 @@ fn rounded(w: u64, at: u64, k: u64) -> u64
 fn dropped(length: u64) -> u64
     ensures { result ≡ length - 1127 }
 {
-    if length < 1127 { 0 } else { length - 1127 }
+    length.saturating_sub(1127)
 }
 
 // w * 2^at units of 2^-2148 to the nearest double.
@@ -109,8 +107,8 @@ pub(crate) fn round(neg: bool, w: u64, at: u64) -> f64
     if w == 0 {
         return pack(neg, 0, 0);
     }
-    let z: u64 = u64::leading_zeros(w) as u64;
-    let k: u64 = dropped(at + (64 - z));
-    let q: u64 = rounded(w, at, k);
+    let z = w.leading_zeros() as u64;
+    let k = dropped(at + (64 - z));
+    let q = rounded(w, at, k);
     pack(neg, q, k)
 }

@@ -4,195 +4,160 @@ ghost use Rattle.std.specs.Prelude.{◌≡◌, ◌*◌, ◌^◌, ◌<◌, ◌≤
 ghost use Rattle.std.specs.Float.Ieee.{unlike};
 ghost use Rattle.multiply_add.specs.Steps.{wide, product_exponent, both, Fit, Aligned, Sums, Terms};
 
-use super::{pack, words};
+use super::pack::{self, Normal};
+use super::words::{self, Wide};
 
-// Two terms at one place: (ph, pl) * 2^at and (ch, cl) * 2^at.
-#[derive(Drop)]
+// Two terms at one place: product * 2^at and term * 2^at.
+#[derive(Clone, Copy)]
 pub(crate) struct Lined {
-    pub(crate) ph: u64,
-    pub(crate) pl: u64,
-    pub(crate) ch: u64,
-    pub(crate) cl: u64,
+    pub(crate) product: Wide,
+    pub(crate) term: Wide,
     pub(crate) at: u64,
 }
 
-// A sign and two words.
-#[derive(Drop)]
+// A sign and a size.
+#[derive(Clone, Copy)]
 struct Total {
     neg: bool,
-    hi: u64,
-    lo: u64,
+    sum: Wide,
 }
 
 // The place of a product; a product of 0 has the lowest.
+#[tactic(auto, unfolding(crate::specs::Steps::product_exponent))]
 fn product_exponent(m: u64, n: u64, k: u64, l: u64) -> u64
     requires { (k < 4096) × (l < 4096) }
     ensures { result ≡ product_exponent m n k l }
 {
-    if m == 0 {
-        0
-    } else if n == 0 {
-        0
-    } else {
-        k + l
-    }
+    if m == 0 || n == 0 { 0 } else { k + l }
 }
 
-// The product (hi, lo) at p, above the term c at q: it is shifted down to c where there is room, and else c is cut.
-fn align_above(hi: u64, lo: u64, p: u64, c: u64, q: u64) -> Lined
-    requires { Fit hi lo p c q × (q < p) }
-    ensures { Aligned (wide hi lo) p c q result.ph result.pl result.ch result.cl result.at }
+// The product at p, above the term c at q: it is shifted down to c where there is room, and else c is cut.
+fn align_above(product: Wide, p: u64, c: u64, q: u64) -> Lined
+    requires { Fit product.hi product.lo p c q × (q < p) }
+    ensures { Aligned (wide product.hi product.lo) p c q result.product.hi result.product.lo result.term.hi result.term.lo result.at }
 {
-    let d: u64 = p - q;
+    let d = p - q;
     if d < 22 {
-        let x: words::Wide = words::shift_product(hi, lo, d);
         Lined {
-            ph: x.hi,
-            pl: x.lo,
-            ch: 0,
-            cl: c,
+            product: product.shift_left(d),
+            term: Wide { hi: 0, lo: c },
             at: q,
         }
     } else {
-        let x: words::Wide = words::shift_product(hi, lo, 21);
-        let j: u64 = words::shift_right_jam(c, d - 21);
         Lined {
-            ph: x.hi,
-            pl: x.lo,
-            ch: 0,
-            cl: j,
+            product: product.shift_left(21),
+            term: Wide {
+                hi: 0,
+                lo: words::shift_right_jam(c, d - 21),
+            },
             at: p - 21,
         }
     }
 }
 
-// The term c at q, not below the product (hi, lo) at p: it is shifted down to the product where there is room, and else the product is cut.
-fn align_below(hi: u64, lo: u64, p: u64, c: u64, q: u64) -> Lined
-    requires { Fit hi lo p c q × (p ≤ q) }
-    ensures { Aligned (wide hi lo) p c q result.ph result.pl result.ch result.cl result.at }
+// The term c at q, not below the product at p: it is shifted down to the product where there is room, and else the product is cut.
+fn align_below(product: Wide, p: u64, c: u64, q: u64) -> Lined
+    requires { Fit product.hi product.lo p c q × (p ≤ q) }
+    ensures { Aligned (wide product.hi product.lo) p c q result.product.hi result.product.lo result.term.hi result.term.lo result.at }
 {
-    let d: u64 = q - p;
+    let d = q - p;
     if d < 74 {
-        let y: words::Wide = words::shift_significand(c, d);
         Lined {
-            ph: hi,
-            pl: lo,
-            ch: y.hi,
-            cl: y.lo,
+            product,
+            term: Wide::significand(c, d),
             at: p,
         }
     } else {
-        let h: u64 = pack::sticky(hi, lo);
-        let j: u64 = words::shift_right_jam(h, d - 74);
+        let leading = pack::sticky(product);
         Lined {
-            ph: 0,
-            pl: j,
-            ch: 0,
-            cl: c << 10,
+            product: Wide {
+                hi: 0,
+                lo: words::shift_right_jam(leading, d - 74),
+            },
+            term: Wide { hi: 0, lo: c << 10 },
             at: q - 10,
         }
     }
 }
 
 // Both at one place: exactly where both fit, and else the far smaller one cut and made odd.
-fn align(hi: u64, lo: u64, p: u64, c: u64, q: u64) -> Lined
-    requires { Fit hi lo p c q }
-    ensures { Aligned (wide hi lo) p c q result.ph result.pl result.ch result.cl result.at }
+fn align(product: Wide, p: u64, c: u64, q: u64) -> Lined
+    requires { Fit product.hi product.lo p c q }
+    ensures { Aligned (wide product.hi product.lo) p c q result.product.hi result.product.lo result.term.hi result.term.lo result.at }
 {
     if q < p {
-        align_above(hi, lo, p, c, q)
+        align_above(product, p, c, q)
     } else {
-        align_below(hi, lo, p, c, q)
+        align_below(product, p, c, q)
     }
 }
 
 // Two terms of the sign s.
-fn like_signs(s: bool, ph: u64, pl: u64, ch: u64, cl: u64) -> Total
-    requires { (ph < 2 ^ 63) × (ch < 2 ^ 63) }
-    ensures { Sums s (wide ph pl) s (wide ch cl) result.neg (wide result.hi result.lo) }
+fn like_signs(s: bool, a: Wide, b: Wide) -> Total
+    requires { (a.hi < 2 ^ 63) × (b.hi < 2 ^ 63) }
+    ensures { Sums s (wide a.hi a.lo) s (wide b.hi b.lo) result.neg (wide result.sum.hi result.sum.lo) }
 {
-    let w: words::Wide = words::plus(ph, pl, ch, cl);
     Total {
         neg: s,
-        hi: w.hi,
-        lo: w.lo,
+        sum: a.plus(b),
     }
 }
 
 // The first has the sign s, and the second the other. Where they cancel the sum is +0.
-fn unlike_signs(s: bool, ph: u64, pl: u64, ch: u64, cl: u64) -> Total
-    ensures { Sums s (wide ph pl) (not s) (wide ch cl) result.neg (wide result.hi result.lo) }
+fn unlike_signs(s: bool, a: Wide, b: Wide) -> Total
+    ensures { Sums s (wide a.hi a.lo) (not s) (wide b.hi b.lo) result.neg (wide result.sum.hi result.sum.lo) }
 {
-    if words::below(ph, pl, ch, cl) {
-        let w: words::Wide = words::minus(ch, cl, ph, pl);
-        Total {
+    if a < b {
+        return Total {
             neg: !s,
-            hi: w.hi,
-            lo: w.lo,
-        }
+            sum: b.minus(a),
+        };
+    }
+    let sum = a.minus(b);
+    if b < a {
+        Total { neg: s, sum }
     } else {
-        let w: words::Wide = words::minus(ph, pl, ch, cl);
-        if words::below(ch, cl, ph, pl) {
-            Total {
-                neg: s,
-                hi: w.hi,
-                lo: w.lo,
-            }
-        } else {
-            Total {
-                neg: false,
-                hi: w.hi,
-                lo: w.lo,
-            }
-        }
+        Total { neg: false, sum }
     }
 }
 
 // The exact sum of two terms at one place.
-fn signed_sum(s: bool, ph: u64, pl: u64, t: bool, ch: u64, cl: u64) -> Total
-    requires { (ph < 2 ^ 63) × (ch < 2 ^ 63) }
-    ensures { Sums s (wide ph pl) t (wide ch cl) result.neg (wide result.hi result.lo) }
+fn signed_sum(s: bool, a: Wide, t: bool, b: Wide) -> Total
+    requires { (a.hi < 2 ^ 63) × (b.hi < 2 ^ 63) }
+    ensures { Sums s (wide a.hi a.lo) t (wide b.hi b.lo) result.neg (wide result.sum.hi result.sum.lo) }
 {
-    if s {
-        if t {
-            like_signs(s, ph, pl, ch, cl)
-        } else {
-            unlike_signs(s, ph, pl, ch, cl)
-        }
+    if s == t {
+        like_signs(s, a, b)
     } else {
-        if t {
-            unlike_signs(s, ph, pl, ch, cl)
-        } else {
-            like_signs(s, ph, pl, ch, cl)
-        }
+        unlike_signs(s, a, b)
     }
 }
 
 pub(crate) fn product_sign(s: bool, t: bool) -> bool
     ensures { result ≡ unlike s t }
 {
-    if s { !t } else { t }
+    s != t
 }
 
 // The product of the patterns x and y, and the pattern z, at one place.
 pub(crate) fn terms(x: u64, y: u64, z: u64) -> Lined
-    ensures { Terms x y z result.ph result.pl result.ch result.cl result.at }
+    ensures { Terms x y z result.product.hi result.product.lo result.term.hi result.term.lo result.at }
 {
-    let m: u64 = rounding::significand(x);
-    let n: u64 = rounding::significand(y);
-    let p: u64 = product_exponent(m, n, rounding::exponent(x), rounding::exponent(y));
-    let w: words::Wide = words::product(m, n);
-    let c: u64 = rounding::significand(z);
-    let q: u64 = rounding::exponent(z) + 1074;
-    align(w.hi, w.lo, p, c, q)
+    let m = rounding::significand(x);
+    let n = rounding::significand(y);
+    let p = product_exponent(m, n, rounding::exponent(x), rounding::exponent(y));
+    let product = Wide::product(m, n);
+    let c = rounding::significand(z);
+    let q = rounding::exponent(z) + 1074;
+    align(product, p, c, q)
 }
 
-// The sum of two terms at one place, rounded once.
-pub(crate) fn rounded_sum(s: bool, t: bool, ph: u64, pl: u64, ch: u64, cl: u64, at: u64) -> f64
-    requires { (ph < 2 ^ 63) × (ch < 2 ^ 63) × (at < 4100) }
-    ensures { result ≡ both s (wide ph pl * 2 ^ at) t (wide ch cl * 2 ^ at) }
+// The sum of two terms at one place, the product's of the sign s and the other's of t, rounded once.
+pub(crate) fn rounded_sum(s: bool, t: bool, lined: Lined) -> f64
+    requires { (lined.product.hi < 2 ^ 63) × (lined.term.hi < 2 ^ 63) × (lined.at < 4100) }
+    ensures { result ≡ both s (wide lined.product.hi lined.product.lo * 2 ^ lined.at) t (wide lined.term.hi lined.term.lo * 2 ^ lined.at) }
 {
-    let w: Total = signed_sum(s, ph, pl, t, ch, cl);
-    let h: pack::Normal = pack::normalise(w.hi, w.lo);
-    pack::round(w.neg, h.w, at + h.up)
+    let total = signed_sum(s, lined.product, t, lined.term);
+    let Normal { w, up } = pack::normalise(total.sum);
+    pack::round(total.neg, w, lined.at + up)
 }

@@ -1,11 +1,11 @@
 -- What a pass writes fits the least buffers, and what it is on the sheets for which the Rust builds no matrix. Assumes nothing.
+use Rattle.std.specs.Prelude.{Ok}
 use Rattle.std.specs.Prelude.{ℕ, zero, suc, ◌*◌, ◌≤◌, ◌<◌, ◌≡◌, refl, Bool, true, false, ◌&&◌, cond, List, length}
 use Rattle.std.proofs.Common.{sym, ◌∙◌, ⊎_elim, arith, eq-eqb, le-ltb}
 use Rattle.laws.specs.Bools.{less?}
 use Rattle.laws.specs.Sums.{sum-le, sum_same}
 use Rattle.laws.specs.Tables.{tabs-length, tab-length}
 use Rattle.layout.specs.declared.Counts.{Counts}
-use Rattle.layout.specs.declared.Reading.TheVariants.{Accepted}
 use Rattle.layout.specs.Offsets.{record_length, end_of}
 use Rattle.layout.specs.Records.{sheet_of}
 use Rattle.layout.specs.Verdict.{verdict}
@@ -31,7 +31,7 @@ pub record Fits (s : Sheet) : Type 0 where
   pub cells : idle_cars s * columns s ≤ 2048
   pub sweeps : s.cars ≤ 32
 
-pub fits : (bytes : List ℕ) (c : Counts) → verdict bytes ≡ Accepted c → Fits (sheet_of bytes c)
+pub fits : (bytes : List ℕ) (c : Counts) → verdict bytes ≡ Ok c → Fits (sheet_of bytes c)
 fits bytes c e =
     let s = (accepted bytes c e).sheet in
     record {
@@ -41,7 +41,7 @@ fits bytes c e =
     }
 
 -- and an accepted sheet has at most 27,283 bytes: every table full, one demand and one closure a stop; of edition 1 at most 26,515
-pub most_bytes : (bytes : List ℕ) (c : Counts) → verdict bytes ≡ Accepted c → (length bytes ≤ 27283) × (c.across ≡ 0 → length bytes ≤ 26515)
+pub most_bytes : (bytes : List ℕ) (c : Counts) → verdict bytes ≡ Ok c → (length bytes ≤ 27283) × (c.across ≡ 0 → length bytes ≤ 26515)
 unfolding sheet_of
 most_bytes bytes c e =
     let a = accepted bytes c e in
@@ -59,7 +59,7 @@ most_bytes bytes c e =
     ap_le f e l = rw e l
 
 -- the answered total is at most n sentinels, so at most 2^53
-pub total_most : (bytes : List ℕ) (c : Counts) (limit : ℕ) → verdict bytes ≡ Accepted c
+pub total_most : (bytes : List ℕ) (c : Counts) (limit : ℕ) → verdict bytes ≡ Ok c
     → answered_total (sheet_of bytes c) limit ≤ 9007199254740992
 unfolding answered_total total
 total_most bytes c limit e =

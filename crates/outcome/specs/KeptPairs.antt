@@ -1,6 +1,7 @@
 -- The pairs ranked are the kept ones. Request F-7: "a kept pair counting as ranked whether useful or not". A limit keeps the smaller of itself and the
 -- viable stops of a car, since distance and then id put the stops of an accepted sheet in one order. And they are within document 01's bound. Assumes
 -- nothing.
+use Rattle.std.specs.Prelude.{Ok}
 use Prim.Native.Nat.{ℕ, ◌*◌, ◌≤◌, ◌<◌, min}
 use Rattle.std.specs.Prelude.{◌≡◌, true, false, not, ◌&&◌, cond, List, ◌⊎◌, ◌≢◌, eqb, Float}
 use Rattle.std.proofs.Common.{sym, ◌∙◌, arith, eq-eqb, ne_eqb, ltb-true, lt-ltb, le-ltb}
@@ -17,7 +18,6 @@ use Rattle.laws.specs.Sums.{sum, sum_cong, sum-le}
 use Rattle.fp.specs.Num as Num
 use Rattle.fp.specs.Order.{real, le_tells, lt_self, lt_trans, lt_le_trans, le_lt_trans, le_through}
 use Rattle.layout.specs.declared.Counts.{Counts}
-use Rattle.layout.specs.declared.Reading.TheVariants.{Accepted}
 use Rattle.layout.specs.Records.{sheet_of}
 use Rattle.layout.specs.Verdict.{verdict}
 use Rattle.accepted.specs.Accepted.{accepted}
@@ -148,7 +148,7 @@ kept_all s i = count_cong (kept s i no_limit) (viable s i) s.stops (λ j l. and-
 unlimited : (limit v : ℕ) → limit ≡ no_limit → v ≤ 64 → v ≡ min limit v
 unlimited limit v q l = omega arith
 
-module _ (bytes : List ℕ) (c : Counts) (e : verdict bytes ≡ Accepted c) (limit : ℕ) where
+module _ (bytes : List ℕ) (c : Counts) (e : verdict bytes ≡ Ok c) (limit : ℕ) where
   -- an idle car keeps the smaller of the limit and its viable stops
   pub kept_number : (r : ℕ) → r < idle_cars (sheet_of bytes c)
       → count (kept (sheet_of bytes c) (row_car (sheet_of bytes c) r) limit) (sheet_of bytes c).stops

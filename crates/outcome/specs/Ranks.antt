@@ -1,5 +1,7 @@
 -- Every rank of an accepted sheet is finite and nonnegative, under ETD, RSR and SCAN, and whatever the limit: a rank does not depend on it. Assumes
 -- nothing.
+use Rattle.std.specs.Prelude.{Ok}
+use Rattle.std.specs.Prelude.{None, Option, Some}
 use Rattle.std.specs.Prelude.{ℕ, ◌<◌, Bool, List, Float}
 use Rattle.std.proofs.Common.{arith, ◌∙◌}
 use Rattle.std.proofs.Math.Path.{◌≡◌, ap}
@@ -9,11 +11,8 @@ use Rattle.fp.specs.Num as Num
 use Rattle.fp.specs.Num.{finite}
 use Rattle.components.specs.declared.Strategy.{Strategy}
 use Rattle.components.specs.declared.Strategy.TheVariants.{Etd, Rsr, Scan, Unknown}
-use Rattle.components.specs.declared.Rank.{Rank}
-use Rattle.components.specs.declared.Rank.TheVariants.{Cost, Never}
 use Rattle.components.specs.Sheet.{Sheet}
 use Rattle.layout.specs.declared.Counts.{Counts}
-use Rattle.layout.specs.declared.Reading.TheVariants.{Accepted}
 use Rattle.layout.specs.Records.{sheet_of}
 use Rattle.layout.specs.Verdict.{verdict}
 use Rattle.accepted.specs.Accepted.{accepted}
@@ -30,7 +29,7 @@ use Rattle.assignment.specs.Cells.{by_strategy, sweep_after, rank}
 use Rattle.scan.specs.Scan.{rank_of, scan_rank}
 
 -- an accepted sheet is in the admitted ranges
-pub admitted_of : (bytes : List ℕ) (c : Counts) → verdict bytes ≡ Accepted c → Admitted (sheet_of bytes c)
+pub admitted_of : (bytes : List ℕ) (c : Counts) → verdict bytes ≡ Ok c → Admitted (sheet_of bytes c)
 admitted_of bytes c e =
     let s = (accepted bytes c e).sheet in
     let p = s.policy in
@@ -58,24 +57,24 @@ admitted_of bytes c e =
 -- the rank of car i for stop j
 pub record Ranked (s : Sheet) (i j : ℕ) : Type 0 where
   -- where there is one, 0 is at most it, and it is finite
-  pub nonneg : (x : Float) → rank s i j ≡ Cost x → (le Num.zero x ≡ true) × (finite x ≡ true)
+  pub nonneg : (x : Float) → rank s i j ≡ Some x → (le Num.zero x ≡ true) × (finite x ≡ true)
   -- and none is lost because a cost is not finite: under ETD and RSR a useful pair of a car that can move has a rank, its cost
   pub etd : s.policy.strategy ≡ Etd → pair_is_useful s i j false ≡ true → lt Num.zero (s.car i).speed ≡ true
-      → rank s i j ≡ Cost (fair_cost s i j)
+      → rank s i j ≡ Some (fair_cost s i j)
   pub rsr : s.policy.strategy ≡ Rsr → pair_is_useful s i j true ≡ true → lt Num.zero (s.car i).speed ≡ true
-      → rank s i j ≡ Cost (rsr_cost s i j)
+      → rank s i j ≡ Some (rsr_cost s i j)
 
 module _ (s : Sheet) (a : Admitted s) (i j : ℕ) (li : i < s.cars) (lj : j < s.stops) where
-  scan_nonneg : (x : Float) → scan_rank s (sweep_after s i) i j ≡ Cost x → (le Num.zero x ≡ true) × (finite x ≡ true)
+  scan_nonneg : (x : Float) → scan_rank s (sweep_after s i) i j ≡ Some x → (le Num.zero x ≡ true) × (finite x ≡ true)
   unfolding scan_rank rank_of
   scan_nonneg x h = by (pair_is_useful s i j false) h
     where
-      by : (b : Bool) → cond b (sweep_rank (sweep_after s i) (s.car i).position (stop_at s j)) Never ≡ Cost x → (le Num.zero x ≡ true)
+      by : (b : Bool) → cond b (sweep_rank (sweep_after s i) (s.car i).position (stop_at s j)) None ≡ Some x → (le Num.zero x ≡ true)
           × (finite x ≡ true)
       by true e = sweep_nonneg (sweep_after s i) (s.car i).position (stop_at s j) x (a.car_at i li) (a.stop_at_lem j lj) e
       by false e = let z : ◌≡◌ {A = ℕ} 0 1 = cc in absurd (omega arith)
 
-  by_nonneg : (t : Strategy) (x : Float) → by_strategy t (etd_rank s i j) (rsr_rank s i j) (scan_rank s (sweep_after s i) i j) Never ≡ Cost x
+  by_nonneg : (t : Strategy) (x : Float) → by_strategy t (etd_rank s i j) (rsr_rank s i j) (scan_rank s (sweep_after s i) i j) None ≡ Some x
       → (le Num.zero x ≡ true) × (finite x ≡ true)
   by_nonneg Etd x h = etd_nonneg s i j x h
   by_nonneg Rsr x h = rsr_nonneg s i j x h
@@ -83,7 +82,7 @@ module _ (s : Sheet) (a : Admitted s) (i j : ℕ) (li : i < s.cars) (lj : j < s.
   by_nonneg Unknown x h = let z : ◌≡◌ {A = ℕ} 0 1 = cc in absurd (omega arith)
 
 -- "In the admitted ranges every rank is finite and nonnegative."
-pub ranked_of : (bytes : List ℕ) (c : Counts) → verdict bytes ≡ Accepted c → (i j : ℕ) → i < (sheet_of bytes c).cars
+pub ranked_of : (bytes : List ℕ) (c : Counts) → verdict bytes ≡ Ok c → (i j : ℕ) → i < (sheet_of bytes c).cars
     → j < (sheet_of bytes c).stops
     → Ranked (sheet_of bytes c) i j
 unfolding rank
@@ -91,7 +90,7 @@ ranked_of bytes c e i j li lj = admitted_ranked (sheet_of bytes c) (admitted_of 
   where
     admitted_ranked : (s : Sheet) → Admitted s → (i j : ℕ) → i < s.cars → j < s.stops → Ranked s i j
     admitted_ranked s a i j li lj =
-        let by : Strategy → Rank = λ t. by_strategy t (etd_rank s i j) (rsr_rank s i j) (scan_rank s (sweep_after s i) i j) Never in
+        let by : Strategy → Option Float = λ t. by_strategy t (etd_rank s i j) (rsr_rank s i j) (scan_rank s (sweep_after s i) i j) None in
         record {
           nonneg = λ x h. by_nonneg s a i j li lj s.policy.strategy x h;
           etd = λ q u m. ap by q ∙ etd_ranked s a i j li lj m u;

@@ -1,6 +1,9 @@
 -- The lines that passprint prints of a byte string. Document 01: "It prints one line of n, m and total, then a line for each idle car's decision,
 -- then one for each idle car's sweep and mode, both in record order"; "An idle decision ends `idle`; a refusal prints `refused N at OFFSET`." Request
 -- F-5: "the printed first line" carries "the number of held cells, as a last field `held`". Assumes nothing.
+use Rattle.std.specs.Prelude.{Err, Ok, Result}
+use Rattle.layout.specs.declared.Refusal.{Refusal}
+use Rattle.layout.specs.declared.Counts.{Counts}
 use Rattle.std.specs.Prelude.{ℕ, cond, List, [], ◌∷◌, ◌++◌, eqb}
 use Rattle.text.specs.Text.{decimal}
 use Rattle.text.specs.Lines.{line_end, lines_of}
@@ -9,8 +12,6 @@ use Rattle.components.specs.declared.Direction.TheVariants.{Up, Down}
 use Rattle.components.specs.declared.Mode.{Mode}
 use Rattle.components.specs.declared.Mode.TheVariants.{Strict, Lenient}
 use Rattle.components.specs.Sheet.{Sheet}
-use Rattle.layout.specs.declared.Reading.{Reading}
-use Rattle.layout.specs.declared.Reading.TheVariants.{Refused, Accepted}
 use Rattle.layout.specs.Records.{sheet_of, limit_of}
 use Rattle.layout.specs.Verdict.{verdict}
 use Rattle.sweep.specs.declared.Sweep.{Sweep}
@@ -128,9 +129,9 @@ module _ (s : Sheet) where
       ++ (lines_of (row_decision limit) (idle_cars s) ++ lines_of row_sweep (idle_cars s))
 
 -- what is printed of a byte string, by its verdict
-abbrev pub text_of : Reading → List ℕ → List ℕ
-text_of (Refused number offset) bytes = refusal_line number offset
-text_of (Accepted c) bytes = pass_text (sheet_of bytes c) (limit_of bytes)
+abbrev pub text_of : Result Counts Refusal → List ℕ → List ℕ
+text_of (Err r) bytes = refusal_line r.number r.offset
+text_of (Ok c) bytes = pass_text (sheet_of bytes c) (limit_of bytes)
 
 unfoldable pub printed : List ℕ → List ℕ
 printed bytes = text_of (verdict bytes) bytes

@@ -1,10 +1,10 @@
 // The pending stops of a sheet: pending_stops_minus_covered of assignment.rs.
 #![tactic(auto)]
 
-ghost use Rattle.std.specs.Prelude.{◌≡◌, cond, ◌&&◌, ◌||◌, ◌≤◌, eqb, ltb, length};
+ghost use Rattle.std.specs.Prelude.{◌≡◌, cond, ◌||◌, ◌≤◌, eqb, length};
 ghost use Rattle.layout.specs.Offsets.{Small};
 ghost use Rattle.layout.specs.Records.{from, aboard_of, demand_of, sheet_of};
-ghost use Rattle.mask.specs.Mask.{has, built};
+ghost use Rattle.mask.specs.Mask.{built};
 ghost use Rattle.manifest.specs.Stops.{Ascending};
 ghost use Rattle.manifest.specs.Manifest.{someone_waits, riderless_call, ridden_to, demand_stop};
 ghost use Rattle.assignment.specs.Pending.{idle_bound, pending};
@@ -31,20 +31,10 @@ pub fn line_stops(s: &[u8], c: Counts, every: bool, id: u32) -> u64
 {
     let n = c.lines;
     let mut m: u64 = 0;
-    let mut l: u32 = 0;
-    while l < n {
+    for l in 0..n {
         m = mask::either(m, served_by(sheet::line_at(s, c, l), every, id));
-        l += 1;
     }
     m
-}
-
-// The mask with stop j where b holds, if j is one of n.
-fn with_index(m: u64, b: bool, j: usize, n: usize) -> u64
-    requires { n ≤ 64 }
-    ensures { result ≡ cond (b && ltb j n) (built (λ k. has m k || eqb k j) 64) m }
-{
-    if b & (j < n) { mask::with(m, j) } else { m }
 }
 
 // The stops where a hall call has no rider, and those that someone rides to.
@@ -55,7 +45,7 @@ struct DemandMasks {
 }
 
 // The masks with the stop of the demand record at a bit.
-fn with_demand<'a>(m: DemandMasks, s: &'a [u8], at: u32, names: &'a [u32], n: usize) -> DemandMasks
+fn with_demand(m: DemandMasks, s: &[u8], at: u32, names: &[u32], n: usize) -> DemandMasks
     requires { (n ≤ 64) × (n ≤ length names.now) × Ascending names.now n }
     ensures { (result.calls ≡ with_call names.now n m.calls (demand_of (from s.now at)))
         × (result.ridden ≡ with_riding names.now n m.ridden (demand_of (from s.now at))) }
@@ -65,15 +55,15 @@ fn with_demand<'a>(m: DemandMasks, s: &'a [u8], at: u32, names: &'a [u32], n: us
     if call | riding {
         let j = manifest::stop_index(names, n, bits::field32(s, at, demand::STOP));
         return DemandMasks {
-            calls: with_index(m.calls, call, j, n),
-            ridden: with_index(m.ridden, riding, j, n),
+            calls: covered::with_index(m.calls, call, j, n),
+            ridden: covered::with_index(m.ridden, riding, j, n),
         };
     }
     m
 }
 
 // The masks of the demand records.
-fn demand_masks<'a>(s: &'a [u8], c: Counts, names: &'a [u32]) -> DemandMasks
+fn demand_masks(s: &[u8], c: Counts, names: &[u32]) -> DemandMasks
     requires { Small c × (c.demands ≤ 64) × (length names.now ≡ 64) × HoldsNames (sheet_of s.now c) names.now }
     ensures { (result.calls ≡ stop_mask (sheet_of s.now c) (riderless_call (sheet_of s.now c)))
         × (result.ridden ≡ stop_mask (sheet_of s.now c) (ridden_to (sheet_of s.now c))) }
@@ -84,33 +74,29 @@ fn demand_masks<'a>(s: &'a [u8], c: Counts, names: &'a [u32]) -> DemandMasks
         calls: 0,
         ridden: 0,
     };
-    let mut d: u32 = 0;
-    while d < n {
+    for d in 0..n {
         m = with_demand(m, s, base + demand::BITS * d, names, c.stops as usize);
-        d += 1;
     }
     m
 }
 
 // The stops where someone waits.
-fn waited_stops<'a>(s: &'a [u8], c: Counts, names: &'a [u32]) -> u64
+fn waited_stops(s: &[u8], c: Counts, names: &[u32]) -> u64
     requires { Small c × (length names.now ≡ 64) × HoldsNames (sheet_of s.now c) names.now }
     ensures { result ≡ stop_mask (sheet_of s.now c) (someone_waits (sheet_of s.now c)) }
 {
     let n = c.waits;
     let base = c.waits_from();
     let mut m: u64 = 0;
-    let mut w: u32 = 0;
-    while w < n {
+    for w in 0..n {
         let id = bits::field32(s, base + waiting::BITS * w, waiting::STOP);
         m = covered::with_named(m, names, c.stops as usize, id);
-        w += 1;
     }
     m
 }
 
 // The demand stops of the group.
-fn demand_stops<'a>(s: &'a [u8], c: Counts, m: DemandMasks, names: &'a [u32]) -> u64
+fn demand_stops(s: &[u8], c: Counts, m: DemandMasks, names: &[u32]) -> u64
     requires small { Small c × (length names.now ≡ 64) × HoldsNames (sheet_of s.now c) names.now }
     requires calls_value { (m.calls ≡ stop_mask (sheet_of s.now c) (riderless_call (sheet_of s.now c)))
         × (m.ridden ≡ stop_mask (sheet_of s.now c) (ridden_to (sheet_of s.now c))) }
@@ -122,15 +108,7 @@ fn demand_stops<'a>(s: &'a [u8], c: Counts, m: DemandMasks, names: &'a [u32]) ->
 }
 
 // The mask with the destination of the rider at a bit, if its car is one of the idle ones.
-fn with_bound<'a>(
-    m: u64,
-    s: &'a [u8],
-    at: u32,
-    idle: &'a [u32],
-    k: usize,
-    names: &'a [u32],
-    n: usize,
-) -> u64
+fn with_bound(m: u64, s: &[u8], at: u32, idle: &[u32], k: usize, names: &[u32], n: usize) -> u64
     requires { (k ≤ length idle.now) × (n ≤ 64) × (n ≤ length names.now) × Ascending names.now n }
     ensures { result ≡ with_bound names.now n m idle.now k (aboard_of (from s.now at)) }
 {
@@ -143,7 +121,7 @@ fn with_bound<'a>(
 }
 
 // The stops that a rider of an idle car is bound for; the ids of the idle cars are at hand.
-fn riders_bound<'a>(s: &'a [u8], c: Counts, idle: &'a [u32], names: &'a [u32]) -> u64
+fn riders_bound(s: &[u8], c: Counts, idle: &[u32], names: &[u32]) -> u64
     requires { Small c × (length idle.now ≡ 32) × (length names.now ≡ 64) × HoldsNames (sheet_of s.now c) names.now
         × Boarded (sheet_of s.now c) × HoldsIdle (sheet_of s.now c) idle.now }
     ensures { result ≡ stop_mask (sheet_of s.now c) (idle_bound (sheet_of s.now c)) }
@@ -151,8 +129,7 @@ fn riders_bound<'a>(s: &'a [u8], c: Counts, idle: &'a [u32], names: &'a [u32]) -
     let n = c.aboards;
     let base = c.aboards_from();
     let mut m: u64 = 0;
-    let mut a: u32 = 0;
-    while a < n {
+    for a in 0..n {
         m = with_bound(
             m,
             s,
@@ -162,13 +139,12 @@ fn riders_bound<'a>(s: &'a [u8], c: Counts, idle: &'a [u32], names: &'a [u32]) -
             names,
             c.stops as usize,
         );
-        a += 1;
     }
     m
 }
 
 // The stops that a rider of an idle car is bound for.
-fn bound_stops<'a>(s: &'a [u8], c: Counts, names: &'a [u32]) -> u64
+fn bound_stops(s: &[u8], c: Counts, names: &[u32]) -> u64
     requires { Small c × (length names.now ≡ 64) × HoldsNames (sheet_of s.now c) names.now × Boarded (sheet_of s.now c) }
     ensures { result ≡ stop_mask (sheet_of s.now c) (idle_bound (sheet_of s.now c)) }
 {
@@ -187,7 +163,7 @@ fn bound_stops<'a>(s: &'a [u8], c: Counts, names: &'a [u32]) -> u64
 }
 
 // The pending stops. Who is bound for a stop counts only where one is covered.
-fn pending_stops<'a>(s: &'a [u8], c: Counts, demand: u64, names: &'a [u32]) -> u64
+fn pending_stops(s: &[u8], c: Counts, demand: u64, names: &[u32]) -> u64
     requires small { Small c × (c.closures ≤ 64) × (length names.now ≡ 64) × HoldsNames (sheet_of s.now c) names.now × Boarded (sheet_of s.now c) }
     requires demand_value { demand ≡ stop_mask (sheet_of s.now c) (demand_stop (sheet_of s.now c)) }
     ensures { result ≡ stop_mask (sheet_of s.now c) (pending (sheet_of s.now c)) }
@@ -210,7 +186,7 @@ pub struct StopMasks {
 }
 
 // The masks of the stops, whose ids are at hand.
-pub fn stop_masks<'a>(s: &'a [u8], c: Counts, names: &'a [u32]) -> StopMasks
+pub fn stop_masks(s: &[u8], c: Counts, names: &[u32]) -> StopMasks
     requires { Small c × (c.demands ≤ 64) × (c.closures ≤ 64) × (length names.now ≡ 64) × HoldsNames (sheet_of s.now c) names.now
         × Boarded (sheet_of s.now c) }
     ensures { result ≡ masks_of (sheet_of s.now c) }

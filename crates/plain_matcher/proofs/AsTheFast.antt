@@ -1,5 +1,5 @@
 -- The plain matcher "chooses as the fast one does": the same total, and the same columns in the same places. Assumes nothing.
-use Rattle.std.specs.Prelude.{◌≡◌, refl, Bool, true, false, not, cond, ℕ, zero, suc, ◌*◌, ◌≤◌, ◌<◌, eqb, ltb, length, get_or}
+use Rattle.std.specs.Prelude.{◌≡◌, refl, Bool, true, false, not, cond, ℕ, zero, suc, ◌*◌, ◌≤◌, ◌<◌, eqb, ltb, length, get_or, Some, Err}
 use Rattle.std.proofs.Common.{sym, ap, ◌∙◌, arith, ext_get_or, le-ltb, ltb-false, eqb-true}
 use mathlib.Core.List.{List, ◌++◌}
 use Rattle.std.proofs.Math.ListN.{drop}
@@ -10,8 +10,7 @@ use Rattle.assignment_problem.specs.Choice.{cell_at}
 use Rattle.assignment_problem.specs.Recursion.{chosen}
 use Rattle.assignment_problem.proofs.Chosen.{chosen_length}
 use Rattle.matcher.specs.Promise.{too_large, refused, matching, written, all_fit}
-use Rattle.matcher.specs.declared.Matching.TheVariants.{Least}
-use Rattle.plain_matcher.specs.declared.Plain.TheVariants.{Refused}
+use Rattle.plain_matcher.specs.declared.Refusal.TheVariants.{FewPlaces, NotSmall}
 use Rattle.plain_matcher.specs.Promise.{refused22, four_of, chosen_of, plain_of, lent_plain, plain_number, plain_total, column_at, places_left}
 use Rattle.plain_matcher.specs.Held.{not-false}
 
@@ -49,7 +48,7 @@ unfolding lent_plain plain_of chosen_of
 chooses cars columns cells places = go (ltb places 4) refl (refused22 cars columns cells) refl
   where
     go : (a : Bool) → ltb places 4 ≡ a → (b : Bool) → refused22 cars columns cells ≡ b
-        → plain_number (cond a (Refused 1) (cond b (Refused 22) (chosen_of cars columns cells))) ≡ 0
+        → plain_number (cond a (Err FewPlaces) (cond b (Err NotSmall) (chosen_of cars columns cells))) ≡ 0
         → (4 ≤ places) × (refused22 cars columns cells ≡ false)
     go true e b f h = absurd (omega arith)
     go false e true f h = absurd (omega arith)
@@ -64,7 +63,7 @@ module _ (cars columns : ℕ) (cells places : List ℕ) (h : plain_number (lent_
       let a : cars ≤ length places = omega (arith, g.0, f.0) in
       (all_fit cars columns cells (length places) (omega (arith, f.0)) (omega (arith, f.1)) f.2 f.3 a f.4, f.0, f.2)
 
-  pub same_total : Least (plain_total (lent_plain cars columns cells (length places)) 0) ≡ matching cars columns cells (length places)
+  pub same_total : Some (plain_total (lent_plain cars columns cells (length places)) 0) ≡ matching cars columns cells (length places)
   unfolding lent_plain plain_of chosen_of matching
   same_total = let g = chooses cars columns cells (length places) h in rw (le-ltb (length places) 4 g.0, g.1, fast.0)
 

@@ -1,5 +1,5 @@
 -- The recursion's candidates as the code holds them, and its columns one after another. Assumes nothing.
-use Rattle.std.specs.Prelude.{◌≡◌, refl, Bool, true, false, not, cond, List, [], ◌∷◌, eqb, length, get_or, set}
+use Rattle.std.specs.Prelude.{◌≡◌, refl, Bool, true, false, not, cond, List, [], ◌∷◌, eqb, length, get_or, set, Option, Some, None, Ok}
 use Rattle.std.proofs.Math.Path.{sym, ap}
 use Rattle.std.proofs.Common.{◌∙◌, subst, ⊎_elim, mul-le-mul_right, add-one, length-set, get_or-set_same, get_or-set_other, eq-eqb, ne_eqb}
 use Prim.Native.Nat.{ℕ, zero, suc, ◌+◌, ◌-◌, ◌*◌, ◌≤◌, ◌<◌}
@@ -10,14 +10,11 @@ use Rattle.assignment_problem.specs.Choice.{cell_at, sentinel, standing}
 use Rattle.assignment_problem.specs.Recursion.{none, some, before, better, front, is_in, scan, best, columns_of, candidate_total, chosen, least_total}
 use Rattle.assignment_problem.specs.Recursion.{Candidate as Found}
 use Rattle.assignment_problem.proofs.Chosen.{chosen_length}
-use Rattle.plain_matcher.specs.declared.Plain.TheVariants.{Chosen}
 use Rattle.plain_matcher.specs.declared.Choice.{Choice}
-use Rattle.plain_matcher.specs.declared.Candidate.{Candidate}
-use Rattle.plain_matcher.specs.declared.Candidate.TheVariants.{None, Some}
 use Rattle.plain_matcher.specs.Promise.{four_of, Small, chosen_of}
 
 -- a candidate of the recursion as the code holds it
-abbrev pub held : Found → Candidate
+abbrev pub held : Found → Option Choice
 held none = None
 held (some t x l) = Some (record { columns = four_of l; total = t; standing = x })
 
@@ -25,12 +22,12 @@ held (some t x l) = Some (record { columns = four_of l; total = t; standing = x 
 abbrev pub standing_of : ℕ → ℕ
 standing_of cell = bit (eqb cell sentinel)
 
-abbrev pub better_of : Candidate → Candidate → Candidate
+abbrev pub better_of : Option Choice → Option Choice → Option Choice
 better_of None b = b
 better_of (Some a) None = Some a
 better_of (Some a) (Some b) = cond (before b.total b.standing a.total a.standing) (Some b) (Some a)
 
-abbrev pub front_of : ℕ → ℕ → Candidate → Candidate
+abbrev pub front_of : ℕ → ℕ → Option Choice → Option Choice
 front_of x j None = None
 front_of x j (Some b) = Some (record {
   columns = record { first = j; second = b.columns.first; third = b.columns.second; fourth = b.columns.third };
@@ -39,12 +36,12 @@ front_of x j (Some b) = Some (record {
 })
 
 -- no larger than k cars can have
-abbrev pub Low : ℕ → Candidate → Type 0
+abbrev pub Low : ℕ → Option Choice → Type 0
 Low k None = Unit {0}
 Low k (Some b) = (b.total ≤ k * sentinel) × (b.standing ≤ k)
 
 -- there is room for one car more
-abbrev pub Room : Candidate → Type 0
+abbrev pub Room : Option Choice → Type 0
 Room None = Unit {0}
 Room (Some b) = (b.total ≤ 4 * sentinel) × (b.standing ≤ 4)
 
@@ -61,7 +58,7 @@ abbrev pub Marks : List Bool → List ℕ → Type 0
 Marks taken l = (j : ℕ) → j < 5 → get_or taken j false ≡ is_in j l
 
 -- what the code holds is the recursion's best
-pub record HoldsBest (cells : List ℕ) (columns i left : ℕ) (taken : List Bool) (r : Candidate) : Type 0 where
+pub record HoldsBest (cells : List ℕ) (columns i left : ℕ) (taken : List Bool) (r : Option Choice) : Type 0 where
   pub is : (l : List ℕ) → Marks taken l → r ≡ held (best (cell_at cells columns) (standing (cell_at cells columns)) columns left i l)
   pub low : Low left r
 
@@ -80,7 +77,7 @@ held_front : (z j : ℕ) (a : Found) → held (front z (standing_of z) j a) ≡ 
 held_front z j none = refl
 held_front z j (some t x l) = refl
 
-better_low : (k : ℕ) (a b : Candidate) → Low k a → Low k b → Low k (better_of a b)
+better_low : (k : ℕ) (a b : Option Choice) → Low k a → Low k b → Low k (better_of a b)
 better_low k None b p q = q
 better_low k (Some a) None p q = p
 better_low k (Some a) (Some b) p q = go (before b.total b.standing a.total a.standing)
@@ -89,11 +86,11 @@ better_low k (Some a) (Some b) p q = go (before b.total b.standing a.total a.sta
     go true = q
     go false = p
 
-front_low : (k x j : ℕ) (a : Candidate) → x ≤ sentinel → Low k a → Low (suc k) (front_of x j a)
+front_low : (k x j : ℕ) (a : Option Choice) → x ≤ sentinel → Low k a → Low (suc k) (front_of x j a)
 front_low k x j None hx h = tt
 front_low k x j (Some b) hx h = (omega (arith, h.0), omega (arith, h.1, bit-lt (eqb x sentinel)))
 
-pub low_room : (k : ℕ) (a : Candidate) → k ≤ 4 → Low k a → Room a
+pub low_room : (k : ℕ) (a : Option Choice) → k ≤ 4 → Low k a → Room a
 low_room k None hk h = tt
 low_room k (Some b) hk h = (omega (arith, h.0), omega (arith, h.1))
 
@@ -117,7 +114,7 @@ best_scan c m zero i l h = absurd (h refl)
 best_scan c m (suc k) i l h = let e : k ≡ suc k - 1 = omega arith in ap (λ (x : ℕ). scan (column c m x i l) m) e
 
 -- the best over the columns below j
-pub record Upto (cells : List ℕ) (columns i left : ℕ) (taken : List Bool) (b : Candidate) (j : ℕ) : Type 0 where
+pub record Upto (cells : List ℕ) (columns i left : ℕ) (taken : List Bool) (b : Option Choice) (j : ℕ) : Type 0 where
   pub within : j ≤ columns
   pub is : (l : List ℕ) → Marks taken l → b ≡ held (scan (column (cell_at cells columns) columns (left - 1) i l) j)
   pub low : Low left b
@@ -150,7 +147,7 @@ module _ {cells : List ℕ} {columns i left : ℕ} {taken : List Bool} where
   unfolding scan
   upto_none = record { within = omega arith; is = λ l h. refl; low = tt }
 
-  module _ (r : Rest cells columns i left taken) {b : Candidate} {j : ℕ} (h : Upto cells columns i left taken b j) where
+  module _ (r : Rest cells columns i left taken) {b : Option Choice} {j : ℕ} (h : Upto cells columns i left taken b j) where
     pub upto_skip : j < columns → get_or taken j false ≡ true → Upto cells columns i left taken b (j + 1)
     unfolding column
     upto_skip lj used = record {
@@ -162,7 +159,7 @@ module _ {cells : List ℕ} {columns i left : ℕ} {taken : List Bool} where
       low = h.low;
     }
 
-    pub upto_take : {rest : Candidate} {x w : ℕ} → (left ≡ 0 → ⊥) → j < columns → get_or taken j false ≡ false
+    pub upto_take : {rest : Option Choice} {x w : ℕ} → (left ≡ 0 → ⊥) → j < columns → get_or taken j false ≡ false
         → HoldsBest cells columns (i + 1) (left - 1) (set taken j true) rest → x ≡ cell_at cells columns i j → w ≡ j
         → Upto cells columns i left taken (better_of b (front_of x w rest)) (j + 1)
     unfolding column
@@ -177,7 +174,7 @@ module _ {cells : List ℕ} {columns i left : ℕ} {taken : List Bool} where
           p.is (j ∷ l) (marks_more taken l j r.size (omega (arith, r.five)) m)
           ∙ ap (λ (y : ℕ). held (best c (standing c) columns (left - 1) y (j ∷ l))) (add-one i) in
           let d : front_of x w rest ≡ held (f j) = rw (ex, ew, a) (sym (held_front (c i j) j q) ∙ sym (ap held e)) in
-          ap (λ (y : Candidate). better_of y (front_of x w rest)) (h.is l m) ∙ ap (better_of (held (scan f j))) d
+          ap (λ (y : Option Choice). better_of y (front_of x w rest)) (h.is l m) ∙ ap (better_of (held (scan f j))) d
           ∙ sym (held_better (scan f j) (f j)) ∙ sym (ap held (scan_one f j));
       low =
           let k : suc (left - 1) ≡ left = omega arith in
@@ -233,7 +230,7 @@ columns_inj a (some t x l) e =
 
 module _ {cars columns : ℕ} {cells : List ℕ} (s : Small cars columns cells) where
   pub choice_some : {a : Choice} → Some a ≡ held (best (cell_at cells columns) (standing (cell_at cells columns)) columns cars 0 [])
-      → Chosen a.columns a.total ≡ chosen_of cars columns cells
+      → Ok (record { columns = a.columns; total = a.total }) ≡ chosen_of cars columns cells
   unfolding chosen least_total chosen_of
   choice_some {a} e = let h = columns_inj a (best (cell_at cells columns) (standing (cell_at cells columns)) columns cars 0 []) e in rw (h.0, h.1)
 

@@ -5,11 +5,13 @@ ghost use Rattle.std.specs.Prelude.{◌≡◌, ◌++◌, ◌+◌, ◌*◌, ◌�
 ghost use Rattle.laws.specs.Tables.{tab};
 ghost use Rattle.assignment_problem.specs.Choice.{sentinel};
 ghost use Rattle.assignment_problem.specs.Recursion.{before};
-ghost use Rattle.plain_matcher.specs.Promise.{column_at, Small, chosen_of, plain_of, lent_plain, places_left};
+ghost use Rattle.plain_matcher.specs.Promise.{column_at, Small, chosen_of, plain_of, lent_plain, refusal_number, places_left};
 ghost use Rattle.plain_matcher.specs.Held.{better_of, front_of, standing_of, Room, Rest, HoldsBest};
 
-// The columns of up to 4 cars, 0 where there is no such car.
-#[derive(Clone, Copy)]
+use assignment_problem::Matrix;
+
+// The columns of up to 4 cars, 0 where there is no such car: four fields, of which `four_of` and the theorem `same_columns` speak.
+#[derive(Clone, Copy, Debug, PartialEq, Eq)]
 pub struct Columns {
     pub first: u32,
     pub second: u32,
@@ -17,25 +19,38 @@ pub struct Columns {
     pub fourth: u32,
 }
 
-// What the plain matcher answers: the columns with their total, or a refusal's number.
-#[derive(Drop)]
-pub enum Plain {
-    Chosen { columns: Columns, total: u64 },
-    Refused(u32),
+// The choice: the columns of its cars, and their total.
+#[derive(Clone, Copy, Debug, PartialEq, Eq)]
+pub struct Chosen {
+    pub columns: Columns,
+    pub total: u64,
+}
+
+// Why there is no choice: fewer than 4 places are lent, or the matrix is not a small one.
+#[derive(Clone, Copy, Debug, PartialEq, Eq)]
+pub enum Refusal {
+    FewPlaces,
+    NotSmall,
+}
+
+impl Refusal {
+    // The number that the hosts are told.
+    pub fn number(self) -> u32
+        ensures { result ≡ refusal_number self }
+    {
+        match self {
+            Refusal::FewPlaces => 1,
+            Refusal::NotSmall => 22,
+        }
+    }
 }
 
 // Columns of the cars from some car on, the total of their cells, and how many of these cars are left standing.
-#[derive(Drop)]
+#[derive(Clone, Copy)]
 struct Choice {
     columns: Columns,
     total: u64,
     standing: u64,
-}
-
-#[derive(Drop)]
-enum Candidate {
-    None,
-    Some(Choice),
 }
 
 // 1 for a cell at which a car is left standing, and 0 where it is sent.
@@ -59,60 +74,46 @@ fn is_before(t: u64, x: u64, s: u64, y: u64) -> bool
 }
 
 // The second where it comes before the first, else the first.
-fn better(first: Candidate, second: Candidate) -> Candidate
+fn better(first: Option<Choice>, second: Option<Choice>) -> Option<Choice>
     ensures { result ≡ better_of first second }
 {
-    match first {
-        Candidate::None => second,
-        Candidate::Some(a) => better_than(a, second),
-    }
-}
-
-fn better_than(a: Choice, second: Candidate) -> Candidate
-    ensures { result ≡ better_of (Candidate.Some a) second }
-{
-    match second {
-        Candidate::None => Candidate::Some(a),
-        Candidate::Some(b) => if is_before(b.total, b.standing, a.total, a.standing) {
-            Candidate::Some(b)
-        } else {
-            Candidate::Some(a)
-        },
+    let Some(a) = first else { return second };
+    let Some(b) = second else { return first };
+    if is_before(b.total, b.standing, a.total, a.standing) {
+        second
+    } else {
+        first
     }
 }
 
 // A car at column j, where its cell is x, in front of the remaining cars.
-fn front(x: u64, j: u32, rest: Candidate) -> Candidate
+fn front(x: u64, j: u32, rest: Option<Choice>) -> Option<Choice>
     requires { (x ≤ sentinel) × Room rest }
     ensures { result ≡ front_of x j rest }
 {
-    match rest {
-        Candidate::None => Candidate::None,
-        Candidate::Some(b) => {
-            let total = x + b.total;
-            let left = standing(x) + b.standing;
-            Candidate::Some(Choice {
-                columns: Columns {
-                    first: j,
-                    second: b.columns.first,
-                    third: b.columns.second,
-                    fourth: b.columns.third,
-                },
-                total,
-                standing: left,
-            })
-        }
-    }
+    let b = rest?;
+    let total = x + b.total;
+    let left = standing(x) + b.standing;
+    Some(Choice {
+        columns: Columns {
+            first: j,
+            second: b.columns.first,
+            third: b.columns.second,
+            fourth: b.columns.third,
+        },
+        total,
+        standing: left,
+    })
 }
 
 // The best for the cars from car i on, of which so many are left, over the columns that are not taken: the first of these cars is given each free
 // column, and the remaining ones are passed on.
-fn best(cells: &[u64], columns: usize, i: usize, left: usize, taken: [bool; 5]) -> Candidate
-    requires { Rest cells.now columns i left taken }
-    ensures { HoldsBest cells.now columns i left taken result }
+fn best(m: Matrix<'_>, i: usize, left: usize, taken: [bool; 5]) -> Option<Choice>
+    requires { Rest m.cells.now m.columns i left taken }
+    ensures { HoldsBest m.entry.cells.now m.entry.columns i left taken result }
 {
     if left == 0 {
-        return Candidate::Some(Choice {
+        return Some(Choice {
             columns: Columns {
                 first: 0,
                 second: 0,
@@ -123,58 +124,55 @@ fn best(cells: &[u64], columns: usize, i: usize, left: usize, taken: [bool; 5]) 
             standing: 0,
         });
     }
-    let mut found = Candidate::None;
-    let mut j: usize = 0;
-    while j < columns {
+    let mut found = None;
+    for j in 0..m.columns {
         if !taken[j] {
             let mut more = taken;
             more[j] = true;
-            let rest = best(cells, columns, i + 1, left - 1, more);
-            let first = front(cells[i * columns + j], j as u32, rest);
+            let rest = best(m, i + 1, left - 1, more);
+            let first = front(m.at(i, j), j as u32, rest);
             found = better(found, first);
         }
-        j += 1;
     }
     found
 }
 
 // The choice of a matrix that is small enough.
-fn choose(cars: usize, columns: usize, cells: &[u64]) -> Plain
-    requires { Small cars columns cells.now }
-    ensures { result ≡ chosen_of cars columns cells.now }
+fn choose(m: Matrix<'_>) -> Result<Chosen, Refusal>
+    requires { Small m.rows m.columns m.cells.now }
+    ensures { result ≡ chosen_of m.entry.rows m.entry.columns m.entry.cells.now }
 {
-    match best(cells, columns, 0, cars, [false; 5]) {
-        Candidate::None => Plain::Refused(22),
-        Candidate::Some(c) => {
-            let chosen = c.columns;
-            Plain::Chosen {
-                columns: chosen,
-                total: c.total,
-            }
-        }
-    }
+    let best = best(m, 0, m.rows, [false; 5]).ok_or(Refusal::NotSmall)?;
+    Ok(Chosen {
+        columns: best.columns,
+        total: best.total,
+    })
 }
 
-// The choice of any matrix, or 22.
-pub fn assign(cars: usize, columns: usize, cells: &[u64]) -> Plain
+// The choice of any matrix, or a refusal of one that is not small.
+pub fn assign(cars: usize, columns: usize, cells: &[u64]) -> Result<Chosen, Refusal>
     ensures { result ≡ plain_of cars columns cells.now }
 {
     if 4 < cars {
-        return Plain::Refused(22);
+        return Err(Refusal::NotSmall);
     }
     if 5 < columns {
-        return Plain::Refused(22);
+        return Err(Refusal::NotSmall);
     }
     if columns < cars {
-        return Plain::Refused(22);
+        return Err(Refusal::NotSmall);
     }
     if cells.len() != cars * columns {
-        return Plain::Refused(22);
+        return Err(Refusal::NotSmall);
     }
     if matcher::too_large(cells) {
-        return Plain::Refused(22);
+        return Err(Refusal::NotSmall);
     }
-    choose(cars, columns, cells)
+    choose(Matrix {
+        cells,
+        rows: cars,
+        columns,
+    })
 }
 
 // The column of car k.
@@ -194,32 +192,25 @@ fn put_columns(columns: Columns, cars: usize, places: &mut [u32])
     requires { cars ≤ length places.old }
     ensures { places.new ≡ tab (column_at columns) cars ++ drop cars places.old }
 {
-    let mut k: usize = 0;
-    while k < cars {
+    for k in 0..cars {
         places[k] = column_at(columns, k);
-        k += 1;
     }
 }
 
-// The same for a host, who lends places: the columns of the choice stand first in them; where fewer than 4 are lent it is 1. A refusal leaves them.
-pub fn fill_columns(cars: usize, columns: usize, cells: &[u64], places: &mut [u32]) -> Plain
+// The same for a host, who lends places: the columns of the choice stand first in them; fewer than 4 places are refused. A refusal leaves them.
+pub fn fill_columns(
+    cars: usize,
+    columns: usize,
+    cells: &[u64],
+    places: &mut [u32],
+) -> Result<Chosen, Refusal>
     ensures { let p = lent_plain cars columns cells.now (length places.old) in
         (result ≡ p) × (places.new ≡ places_left cars p places.old) }
 {
     if places.len() < 4 {
-        return Plain::Refused(1);
+        return Err(Refusal::FewPlaces);
     }
-    match assign(cars, columns, cells) {
-        Plain::Chosen {
-            columns: chosen,
-            total,
-        } => {
-            put_columns(chosen, cars, places);
-            Plain::Chosen {
-                columns: chosen,
-                total,
-            }
-        }
-        Plain::Refused(number) => Plain::Refused(number),
-    }
+    let chosen = assign(cars, columns, cells)?;
+    put_columns(chosen.columns, cars, places);
+    Ok(chosen)
 }

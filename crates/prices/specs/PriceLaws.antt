@@ -1,13 +1,13 @@
 -- Two prices of the range add up without a wrap; the tests on them as the code makes them. Assumes nothing.
-use Rattle.std.specs.Prelude.{ℕ, suc, ◌-◌, ◌≤◌, ◌<◌, ◌≡◌, refl, true, false, ◌&&◌, leb, ℤ, pos, negsuc, ◌+ℤ◌, nat_abs}
-use Rattle.std.proofs.Common.{sym, ap, ap₂, ◌∙◌, subst, ⊎_elim, arith, SFits, to_z, of_z, to_z-of_z, leb-true, leb-false, le-leb, lt-ltb, le-ltb}
+use Rattle.std.specs.Prelude.{ℕ, suc, ◌-◌, ◌≤◌, ◌<◌, ◌≡◌, refl, true, false, ◌&&◌, eqb, leb, ℤ, pos, negsuc, ◌+ℤ◌, nat_abs}
+use Rattle.std.proofs.Common.{sym, ap, ap₂, ◌∙◌, subst, ⊎_elim, arith, SFits, to_z, of_z, to_z-of_z, leb-true, leb-false, le-leb, lt-ltb, le-ltb, eqb-true, eq-eqb, ne_eqb}
 use Rattle.std.proofs.Math.Bool.{and-true}
 use Rattle.std.proofs.Math.IntN.{sub_ℕ}
 use Rattle.std.specs.Int.Signed.{le_z}
 use Rattle.std.specs.Int.{w64}
 use Rattle.std.proofs.Math.Facts.{to_z_pos}
 use Rattle.std.proofs.lemmas.Bool.{lt-leb}
-use Rattle.laws.specs.Bools.{which, less?}
+use Rattle.laws.specs.Bools.{which, less?, same_test, both, both_left, both_right}
 use Rattle.prices.specs.Price.{most_price, in_range}
 
 -- as numbers of their own sign
@@ -73,3 +73,14 @@ same_price z h = to_z-of_z (by z (range_of z h))
     by : (z : ℤ) → nat_abs z ≤ most_price → SFits w64 z
     by (pos a) l = record { sfits = omega arith }
     by (negsuc a) l = record { sfits = omega arith }
+
+-- a number of either sign has the bits of a small natural number exactly where it is that number
+pub same_bits : (z : ℤ) (n : ℕ) → SFits w64 z → n < 9_223_372_036_854_775_808 → eqb (of_z w64 z) n ≡ (le_z z (pos n) && le_z (pos n) z)
+same_bits (pos a) n f l = equal_both a n
+  where
+    equal_both : (a b : ℕ) → eqb a b ≡ (leb a b && leb b a)
+    equal_both a b =
+        same_test (eqb a b) (leb a b && leb b a)
+        (λ e. let q = eqb-true a b e in both (le-leb a b (omega arith)) (le-leb b a (omega arith)))
+        (λ e. eq-eqb a b (omega (arith, leb-true a b (both_left (leb a b) (leb b a) e), leb-true b a (both_right (leb a b) (leb b a) e))))
+same_bits (negsuc k) n f l = ne_eqb (of_z w64 (negsuc k)) n (λ e. omega (arith, f.sfits))

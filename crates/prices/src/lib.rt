@@ -4,13 +4,13 @@
 ghost use Rattle.std.specs.Prelude.{◌≡◌, true, ◌≤◌, ℤ};
 ghost use Rattle.prices.specs.Price.{in_range, within, equals, zero_or_less, is_zero};
 
-const MOST: i64 = 18_014_398_509_481_984;
+const MOST: u64 = 18_014_398_509_481_984;
 
 // Whether a price is within its range.
 pub fn in_range(x: i64) -> bool
     ensures { result ≡ in_range x }
 {
-    (-MOST <= x) & (x <= MOST)
+    x.unsigned_abs() <= MOST
 }
 
 // Whether two prices together are at most a cell.
@@ -26,9 +26,7 @@ pub fn equals(x: i64, y: i64, cell: u64) -> bool
     requires { (in_range x ≡ true) × (in_range y ≡ true) × (cell ≤ 281_474_976_710_656) }
     ensures { result ≡ equals x y cell }
 {
-    let sum = x + y;
-    let c = cell as i64;
-    (sum <= c) & (c <= sum)
+    x + y == cell as i64
 }
 
 // Whether a price is zero or less.
@@ -42,5 +40,5 @@ pub fn zero_or_less(x: i64) -> bool
 pub fn is_zero(x: i64) -> bool
     ensures { result ≡ is_zero x }
 {
-    (x <= 0) & (0 <= x)
+    x == 0
 }

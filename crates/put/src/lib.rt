@@ -59,6 +59,7 @@ pub fn put(s: &mut [u8], at: u32, off: u32, w: usize, v: u64)
 {
     let mut p: usize = at as usize + off as usize;
     let mut left: usize = w;
+    // A step puts as many bits as its byte still holds, so no range counts the steps.
     while 0 < left {
         let n = put_first(s, p, left, v);
         p += n;

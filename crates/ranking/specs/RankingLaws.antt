@@ -1,4 +1,5 @@
 -- The rank, the cell and the sweep from what is held are the sheet's. Assumes nothing.
+use Rattle.std.specs.Prelude.{None}
 use Rattle.std.specs.Prelude.{ℕ, ◌<◌, ◌≡◌, refl, Bool, true, not, ◌&&◌, cond, List, eqb, ltb, Float}
 use Rattle.std.proofs.Common.{sym, ◌∙◌, true≢false}
 use Rattle.std.proofs.Math.Path.{ap}
@@ -7,7 +8,6 @@ use Rattle.mask.specs.Mask.{has}
 use Rattle.components.specs.declared.Policy.{Policy}
 use Rattle.components.specs.declared.Strategy.{Strategy}
 use Rattle.components.specs.declared.Strategy.TheVariants.{Etd, Rsr, Scan, Unknown}
-use Rattle.components.specs.declared.Rank.TheVariants.{Never}
 use Rattle.components.specs.Sheet.{Sheet}
 use Rattle.manifest.specs.declared.Waiters.{Waiters}
 use Rattle.manifest.specs.World.{goal}
@@ -26,7 +26,7 @@ use Rattle.rsr.specs.RsrLaws.{rank_is as rsr-is}
 use Rattle.assignment.specs.Pending.{idle, pending_stops}
 use Rattle.assignment.specs.Candidates.{kept}
 use Rattle.assignment.specs.Cells.{by_strategy, sweep_after, rank, cell, held_cell}
-use Rattle.ranking.specs.declared.Row.{Row}
+use Rattle.dispatch.specs.declared.Row.{Row}
 use Rattle.ranking.specs.Ranking.{scan_by, halts_by, rank_by, cell_by, held_by, sweep_from, sweep_by}
 use Rattle.sweep.specs.Sweeps.{sweep_of}
 
@@ -79,9 +79,9 @@ module _ (s : Sheet) (ids : List ℕ) (xs : List Float) (hs : HoldsStops s ids x
       (λ (t : Strategy). by_strategy t
       (etdBy row.policy row.car row.goal row.riders dests sides v (halts_by row xs s.stops j) xs j)
       (rsrBy row.policy row.car row.goal row.riders dests v xs j)
-      (scan_by row dests v xs j) Never)
+      (scan_by row dests v xs j) None)
       (ap (λ (p : Policy). p.strategy) h.policy)
-      ∙ by_parts s.policy.strategy Never (etd_rank s i j) (rsr_rank s i j) (scan_rank s (sweep_after s i) i j)
+      ∙ by_parts s.policy.strategy None (etd_rank s i j) (rsr_rank s i j) (scan_rank s (sweep_after s i) i j)
       (rw (h.policy, h.car, h.goal_is)
       (etd-is s ids xs s.stops row.demand hs h.demand i j l row.riders dests sides h.riders weighed v hv))
       (rw (h.policy, h.car, h.goal_is) (rsr-is s ids xs s.stops hs i j row.riders dests sides h.riders v hv weighed l))

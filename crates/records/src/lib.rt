@@ -5,7 +5,7 @@ ghost use Rattle.std.specs.Prelude.{◌≡◌, ◌≤◌};
 ghost use Rattle.layout.specs.Table.{field};
 ghost use Rattle.layout.specs.Records.{from, double, optional, point, policy_of, line_of, car_of};
 
-use components::{Car, Direction, Line, Mode, Phase, Point, Policy, Strategy, Threshold, Traffic};
+use components::{Car, Direction, Line, Mode, Phase, Point, Policy, Strategy, Traffic};
 use layout::{car, line, policy};
 
 // The double in the 64 bits at an offset.
@@ -27,13 +27,13 @@ pub fn point_at(s: &[u8], at: u32, along: u32, across: u32, bits: u32) -> Point
 }
 
 // An optional double: its present bit, and where the double stands.
-fn threshold_at(s: &[u8], at: u32, present: u32, value: u32) -> Threshold
+fn threshold_at(s: &[u8], at: u32, present: u32, value: u32) -> Option<f64>
     ensures { result ≡ optional (from s.now at) (field present 1) (field value 64) }
 {
     if bits::flag(s, at, present) {
-        Threshold::At(double_at(s, at, value))
+        Some(double_at(s, at, value))
     } else {
-        Threshold::Absent
+        None
     }
 }
 
@@ -78,8 +78,8 @@ pub fn car_at(s: &[u8], at: u32, across: u32) -> Car
         listed: bits::flag(s, at, car::LISTED),
         up: bits::flag(s, at, car::UP),
         down: bits::flag(s, at, car::DOWN),
-        direction: Direction::of_bit(bits::flag(s, at, car::SWEEP)),
-        mode: Mode::of_bit(bits::flag(s, at, car::MODE)),
+        direction: Direction::from(bits::flag(s, at, car::SWEEP)),
+        mode: Mode::from(bits::flag(s, at, car::MODE)),
         position: point_at(s, at, car::POSITION, car::ACROSS, across),
         speed: double_at(s, at, car::SPEED + across),
         capacity: double_at(s, at, car::CAPACITY + across),

@@ -31,8 +31,7 @@ pub fn line_refusal(s: &[u8], c: Counts, at: u32, id: u32) -> u32
     ensures { result ≡ body_refusal s.now c Line (from s.now (end_of c)) }
 {
     let again = has_line(s, c, id);
-    let n = c.stops;
-    let past = mask::past_stops(bits::field(s, at, line::SERVES, 64), n as usize);
+    let past = mask::past_stops(bits::field(s, at, line::SERVES, 64), c.stops as usize);
     pick((id == 0) | again, 9, pick(past, 10, 0))
 }
 
@@ -41,8 +40,7 @@ pub fn aboard_refusal<'a>(s: &'a [u8], c: Counts, at: u32, car: u32, cars: &'a [
     requires { (at ≡ end_of c) × (car ≡ read (from s.now at) (first 32)) × CarIds s.now c cars.now }
     ensures { result ≡ body_refusal s.now c Aboard (from s.now (end_of c)) }
 {
-    let n = c.cars;
-    let known = contains(cars, n as usize, car);
+    let known = contains(cars, c.cars as usize, car);
     let destination = optional_at(s, at, aboard::HAS_DESTINATION);
     let late = pick((car == 0) | destination.zero, 9, pick(!known, 10, 0));
     pick(destination.unused, 8, late)
@@ -53,8 +51,7 @@ pub fn waiting_refusal<'a>(s: &'a [u8], c: Counts, at: u32, stop: u32, stops: &'
     requires { (at ≡ end_of c) × (stop ≡ read (from s.now at) (first 32)) × StopIds s.now c stops.now }
     ensures { result ≡ body_refusal s.now c Waiting (from s.now (end_of c)) }
 {
-    let n = c.stops;
-    let known = contains(stops, n as usize, stop);
+    let known = contains(stops, c.stops as usize, stop);
     let line = optional_at(s, at, waiting::HAS_LINE);
     let destination = optional_at(s, at, waiting::HAS_DESTINATION);
     let light = mass_at(s, at, waiting::WEIGHT);

@@ -19,32 +19,17 @@ use layout::{Counts, car};
 fn unknown_phase(phase: Phase) -> bool
     ensures { result ≡ eqb (phase_code phase) 7 }
 {
-    match phase {
-        Phase::Idle => false,
-        Phase::MovingToStop(_) => false,
-        Phase::Repositioning(_) => false,
-        Phase::DoorOpening => false,
-        Phase::Loading => false,
-        Phase::DoorClosing => false,
-        Phase::Stopped => false,
-        Phase::Unknown => true,
-    }
+    matches!(phase, Phase::Unknown)
 }
 
 // Whether the phase leaves its stop unused, and the stop is set.
 fn unused_stop(phase: Phase, set: bool) -> bool
     ensures { result ≡ unused_stop phase set }
 {
-    match phase {
-        Phase::Idle => set,
-        Phase::MovingToStop(_) => false,
-        Phase::Repositioning(_) => false,
-        Phase::DoorOpening => set,
-        Phase::Loading => set,
-        Phase::DoorClosing => set,
-        Phase::Stopped => set,
-        Phase::Unknown => false,
-    }
+    set & !matches!(
+        phase,
+        Phase::MovingToStop(_) | Phase::Repositioning(_) | Phase::Unknown
+    )
 }
 
 // 8: phase 7, or a one bit in an absent or unused field.
@@ -88,8 +73,7 @@ fn bad_ids<'a>(
     ensures { result ≡ refusal9_car s.now c (from s.now at) }
 {
     let moving = phase.is_moving();
-    let n = c.cars;
-    let again = fields::contains(cars, n as usize, id);
+    let again = fields::contains(cars, c.cars as usize, id);
     (id == 0) | ((line == 0) | ((moving & (stop == 0)) | (target.zero | again)))
 }
 
@@ -99,8 +83,7 @@ fn unknown_records(s: &[u8], c: Counts, at: u32, line: u32) -> bool
     ensures { result ≡ refusal10_car s.now c (from s.now at) }
 {
     let known = conditions::has_line(s, c, line);
-    let n = c.stops;
-    let stops = n as usize;
+    let stops = c.stops as usize;
     let restricted = mask::past_stops(bits::field(s, at, car::RESTRICTED + c.across, 64), stops);
     let calls = mask::past_stops(bits::field(s, at, car::CALLS + c.across, 64), stops);
     !known | (restricted | calls)

@@ -1,25 +1,30 @@
 -- A stored matrix, and what the matcher answers and leaves. Assumes nothing.
-use Rattle.std.specs.Prelude.{ℕ, ◌+◌, ◌-◌, ◌*◌, ◌≤◌, ◌<◌, ◌≡◌, Bool, true, false, not, ◌||◌, cond, List, eqb, ltb, length, get_or}
-use Rattle.std.proofs.Common.{sym, ap, ap₂, ◌∙◌, mul-le-mul_right, arith}
+use Rattle.std.specs.Prelude.{Option}
+use Rattle.std.specs.Prelude.{ℕ, ◌+◌, ◌-◌, ◌*◌, ◌≤◌, ◌<◌, ◌≡◌, Bool, true, false, not, ◌&&◌, ◌||◌, cond, List, eqb, ltb, length, get_or, replicate, Option, Some, None}
+use Rattle.std.proofs.Common.{ap, ap₂, ◌∙◌, mul-le-mul_right, arith}
 use Rattle.std.proofs.Math.Bool.{or-true}
 use borrow.Author.Tests.{lt-ltb, le-ltb, ltb-false, eq-eqb, ne_eqb}
-use Rattle.laws.specs.Bools.{bit, bit-lt, neither_left, neither_right}
+use Rattle.laws.specs.Bools.{neither_left, neither_right}
 use Rattle.laws.specs.Folds.{any}
 use Rattle.laws.specs.Tables.{tab}
 use Rattle.lists.specs.Lists.{number}
-use Rattle.lists.specs.Turns.{Reached}
-use Rattle.matcher.specs.declared.Matching.{Matching}
+use Rattle.lists.specs.Compared.{AllCompared}
+use Rattle.lists.specs.declared.Case.{Case}
+use Rattle.lists.specs.declared.Tally.{Tally}
 use Rattle.matcher.specs.Promise.{matching, written, found_of, least_or}
 use Rattle.replay_choices.specs.declared.Answer.{Answer}
-use Rattle.replay_choices.specs.declared.Case.{Case}
-use Rattle.replay_choices.specs.declared.Totals.{Totals}
-use Rattle.replay_choices.specs.declared.Step.{Step}
+use Rattle.replay_choices.specs.declared.Head.{Head}
+use Rattle.replay_choices.specs.declared.Matrices.{Matrices}
 
-abbrev pub answer_of : Matching → Answer
+abbrev pub answer_of : Option ℕ → Answer
 answer_of m = record { found = found_of m; total = least_or m 0 }
 
+-- the answer that is stored from byte at on
+abbrev pub stored_at : List ℕ → ℕ → Answer
+stored_at s at = record { found = number s at 1; total = number s (at + 1) 8 }
+
 -- the first six bytes of the case at byte at: cars, columns, places, bytes a cell, and in two bytes how many cells
-abbrev pub head_at : List ℕ → ℕ → Case
+abbrev pub head_at : List ℕ → ℕ → Head
 head_at s at =
     record {
       cars = number s at 1;
@@ -34,14 +39,14 @@ abbrev pub cell_in : List ℕ → ℕ → ℕ → ℕ → ℕ
 cell_in s at w k = number s (at + k * w) w
 
 -- where the answer is stored: a byte for its number, eight for its total, then a byte a place
-abbrev pub answer_at : ℕ → Case → ℕ
+abbrev pub answer_at : ℕ → Head → ℕ
 answer_at at h = at + 6 + h.cells * h.width
 
-abbrev pub end_of : ℕ → Case → ℕ
+abbrev pub end_of : ℕ → Head → ℕ
 end_of at h = answer_at at h + 9 + h.places
 
 -- the case is longer than the bytes that are left, or larger than there is room for
-unfoldable pub broken : Case → ℕ → Bool
+unfoldable pub broken : Head → ℕ → Bool
 broken h left = ltb 8 h.width || (ltb 64 h.places || (ltb 2048 h.cells || ltb left (15 + h.cells * h.width + h.places)))
 
 -- place k does not hold what is stored from byte at on
@@ -50,60 +55,51 @@ misplaced s at places k = not (eqb (get_or places k 0) (number s (at + k) 1))
 
 -- every place holds 99 before
 abbrev pub blanks : ℕ → List ℕ
-blanks n = tab (λ k. 99) n
+blanks n = replicate n 99
 
 -- an answer, or what it leaves in the places, is not as stored from byte at on
 abbrev pub apart : List ℕ → ℕ → Answer → List ℕ → Bool
 apart s at got left =
-    not (eqb got.found (number s at 1)) || (not (eqb got.total (number s (at + 1) 8)) || any (misplaced s (at + 9) left) (length left))
+    not (eqb got.found (stored_at s at).found && eqb got.total (stored_at s at).total) || any (misplaced s (at + 9) left) (length left)
 
 -- so it is for the matcher's promise
-unfoldable pub differ : List ℕ → ℕ → Case → Bool
+unfoldable pub differ : List ℕ → ℕ → Head → Bool
 differ s at h =
     let cells = tab (cell_in s (at + 6) h.width) h.cells in
     apart s (answer_at at h) (answer_of (matching h.cars h.columns cells (length (blanks h.places))))
     (written h.cars h.columns cells (blanks h.places))
 
--- after the case at byte at
-abbrev pub compared_at : List ℕ → ℕ → Case → Totals → Step
-compared_at s at h t = record { next = end_of at h; totals = record { compared = t.compared + 1; differ = t.differ + bit (differ s at h) } }
+-- the case at byte at
+abbrev pub compared_at : List ℕ → ℕ → Head → Case
+compared_at s at h = record { next = end_of at h; marked = false; differs = differ s at h }
 
--- after a case that is cut short
-abbrev pub cut_at : List ℕ → Totals → Step
-cut_at s t = record { next = length s; totals = record { compared = t.compared; differ = t.differ + 1 } }
+-- the head of the case at byte at, where a whole one stands there
+unfoldable pub whole_at : List ℕ → ℕ → Option Head
+whole_at s at = cond (ltb (length s - at) 15) None (cond (broken (head_at s at) (length s - at)) None (Some (head_at s at)))
 
-unfoldable pub turn_of : List ℕ → ℕ → Totals → Step
-turn_of s at t =
-    cond (ltb (length s - at) 15) (cut_at s t) (cond (broken (head_at s at) (length s - at)) (cut_at s t) (compared_at s at (head_at s at) t))
+abbrev pub compared_by : Option Head → List ℕ → ℕ → Option Case
+compared_by None s at = None
+compared_by (Some h) s at = Some (compared_at s at h)
 
--- no case yet
-abbrev pub start : Step
-start = record { next = 0; totals = record { compared = 0; differ = 0 } }
-
--- byte at is reached with these totals
-abbrev pub Met : List ℕ → ℕ → Totals → Type 0
-Met s at t = Reached (λ (p : Step). p.next) (λ p. p.totals) (turn_of s) start (length s) at t
+-- the case at byte at, where a whole one stands there
+abbrev pub case_of : List ℕ → ℕ → Option Case
+case_of s at = compared_by (whole_at s at) s at
 
 -- the totals after the whole list
-abbrev pub Replayed : List ℕ → Totals → Type 0
-Replayed s t = Met s (length s) t
-
--- no count is above the number of bytes that were read
-pub record Counted (at : ℕ) (t : Totals) : Type 0 where
-  pub compared : t.compared ≤ at
-  pub differ : t.differ ≤ at
+abbrev pub Replayed : List ℕ → Tally Matrices → Type 0
+Replayed s t = AllCompared (case_of s) (length s) t.cases t
 
 -- ---- laws
 
 -- a case that is not broken: what it is made of
-pub record Fitting (h : Case) (left : ℕ) : Type 0 where
+pub record Fitting (h : Head) (left : ℕ) : Type 0 where
   pub width : h.width ≤ 8
   pub places : h.places ≤ 64
   pub cells : h.cells ≤ 2048
   pub within : 15 + h.cells * h.width + h.places ≤ left
 
 -- each thing that may be wrong is enough
-module _ (h : Case) (left : ℕ) where
+module _ (h : Head) (left : ℕ) where
   pub wide_cells : 8 < h.width → true ≡ broken h left
   unfolding broken
   wide_cells l = rw (lt-ltb 8 h.width l)
@@ -147,19 +143,7 @@ pub misplaced_no : (s : List ℕ) (at : ℕ) (places : List ℕ) (k : ℕ) {x y 
     → misplaced s at places k ≡ false
 misplaced_no s at places k {x} {y} a b h = rw (← a, ← b, eq-eqb x y h)
 
--- what is apart, test by test
-module _ (s : List ℕ) (at : ℕ) (got : Answer) (left : List ℕ) where
-  pub apart_found : {y : ℕ} → y ≡ number s at 1 → (got.found ≡ y → ⊥) → true ≡ apart s at got left
-  apart_found {y} e h = rw (← e, ne_eqb got.found y h)
-
-  pub apart_total : {y : ℕ} → y ≡ number s (at + 1) 8 → (got.total ≡ y → ⊥) → true ≡ apart s at got left
-  apart_total {y} e h = rw (← e, ne_eqb got.total y h) (simp or-true)
-
-  pub apart_places : {x y : ℕ} {r : Bool} → x ≡ number s at 1 → got.found ≡ x → y ≡ number s (at + 1) 8 → got.total ≡ y
-      → r ≡ any (misplaced s (at + 9) left) (length left) → r ≡ apart s at got left
-  apart_places {x} {y} a e b f g = rw (← a, ← b, eq-eqb got.found x e, eq-eqb got.total y f) g
-
-pub differ_by : (s : List ℕ) (at : ℕ) (h : Case) {n p : ℕ} {cells places left : List ℕ} {m : Matching} {got : Answer} {r : Bool}
+pub differ_by : (s : List ℕ) (at : ℕ) (h : Head) {n p : ℕ} {cells places left : List ℕ} {m : Option ℕ} {got : Answer} {r : Bool}
     → n ≡ h.cells → cells ≡ tab (cell_in s (at + 6) h.width) n → p ≡ h.places → places ≡ blanks p
     → m ≡ matching h.cars h.columns cells (length places) → left ≡ written h.cars h.columns cells places → got ≡ answer_of m
     → r ≡ apart s (answer_at at h) got left → r ≡ differ s at h
@@ -170,43 +154,3 @@ differ_by s at h {n} {p} {cells} {places} {left} {m} {got} en ec ep eb em el eg 
     er ∙ ap₂ (λ (a : Answer) (l : List ℕ). apart s (answer_at at h) a l)
     (eg ∙ ap answer_of (em ∙ ap₂ (λ (x y : List ℕ). matching h.cars h.columns x (length y)) c b))
     (el ∙ ap₂ (λ (x y : List ℕ). written h.cars h.columns x y) c b)
-
--- what a turn leaves
-pub record Turned (s : List ℕ) (at : ℕ) (t : Totals) (r : Step) : Type 0 where
-  pub is : r ≡ turn_of s at t
-  pub on : at < r.next
-  pub within : r.next ≤ length s
-  pub counted : Counted r.next r.totals
-
-cut_short : (s : List ℕ) (at : ℕ) (t : Totals) {r : Step} → at < length s → Counted at t → r ≡ cut_at s t → r ≡ turn_of s at t
-    → Turned s at t r
-cut_short s at t {r} l h e is =
-    record {
-      is = is;
-      on = rw e l;
-      within = rw e (omega arith);
-      counted = rw e (record { compared = omega (arith, h.compared); differ = omega (arith, h.differ) });
-    }
-
-pub turn_headless : (s : List ℕ) (at : ℕ) (t : Totals) {r : Step} → at < length s → Counted at t → length s - at < 15 → r ≡ cut_at s t
-    → Turned s at t r
-unfolding turn_of
-turn_headless s at t l h short e = cut_short s at t l h e (rw (lt-ltb (length s - at) 15 short) e)
-
-pub turn_broken : (s : List ℕ) (at : ℕ) (t : Totals) {h : Case} {b : Bool} {r : Step} → at < length s → Counted at t → 15 ≤ length s - at
-    → h ≡ head_at s at → b ≡ broken h (length s - at) → b ≡ true → r ≡ cut_at s t → Turned s at t r
-unfolding turn_of
-turn_broken s at t l h long eh eb is e =
-    cut_short s at t l h e (rw (le-ltb (length s - at) 15 long, ap (λ (c : Case). broken c (length s - at)) (sym eh) ∙ sym eb ∙ is) e)
-
-pub turn_whole : (s : List ℕ) (at : ℕ) (t : Totals) {h : Case} {b : Bool} {r : Step} → at < length s → Counted at t → 15 ≤ length s - at
-    → h ≡ head_at s at → b ≡ broken h (length s - at) → b ≡ false → r ≡ compared_at s at h t → Turned s at t r
-unfolding turn_of
-turn_whole s at t {h} {b} {r} l k long eh eb is e =
-    record {
-      is = rw (le-ltb (length s - at) 15 long, ap (λ (c : Case). broken c (length s - at)) (sym eh) ∙ sym eb ∙ is)
-          (e ∙ ap (λ (c : Case). compared_at s at c t) eh);
-      on = rw e (omega arith);
-      within = rw e (omega (arith, (not_broken h (length s - at) (sym eb ∙ is)).within));
-      counted = rw e (record { compared = omega (arith, k.compared); differ = omega (arith, k.differ, bit-lt (differ s at h)) });
-    }

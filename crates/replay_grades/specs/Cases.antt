@@ -1,26 +1,32 @@
 -- A stored sheet with what a site sent of it, and what the grader answers and leaves. Assumes nothing.
-use Rattle.std.specs.Prelude.{ℕ, ◌+◌, ◌-◌, ◌*◌, ◌≤◌, ◌<◌, ◌≡◌, Bool, true, false, not, ◌||◌, cond, List, eqb, ℤ, pos, negsuc, length, get_or, take, drop}
-use Rattle.std.proofs.Common.{sym, ap, ap₂, ◌∙◌, ⊎_elim, arith, to_z-of_z, to_z, of_z}
+use Rattle.std.specs.Prelude.{Result}
+use Rattle.layout.specs.declared.Refusal.{Refusal}
+use Rattle.grade.specs.declared.Graded.{Graded}
+use Rattle.std.specs.Prelude.{ℕ, ◌+◌, ◌-◌, ◌*◌, ◌≤◌, ◌<◌, ◌≡◌, Bool, false, not, ◌&&◌, ◌||◌, cond, List, eqb, ℤ, pos, negsuc, length, get_or, take, drop, replicate, Option, Some, None}
+use Rattle.std.proofs.Common.{ap, ap₂, ◌∙◌, ⊎_elim, arith, to_z-of_z, to_z, of_z}
 use Rattle.std.proofs.Math.Dec.{ltb}
 use Rattle.std.specs.Int.{w64}
 use borrow.Author.Tests.{lt-ltb, le-ltb, ltb-false}
-use Rattle.laws.specs.Bools.{bit, bit-lt, less?, neither_left, neither_right}
+use Rattle.laws.specs.Bools.{less?, neither_left, neither_right}
 use Rattle.laws.specs.Folds.{any}
 use Rattle.laws.specs.Tables.{tab}
-use Rattle.lists.specs.Lists.{number}
-use Rattle.lists.specs.Turns.{Reached}
-use Rattle.grade.specs.declared.Graded.{Graded}
+use Rattle.lists.specs.Lists.{number, verdict_at}
+use Rattle.lists.specs.Compared.{AllCompared}
+use Rattle.lists.specs.declared.Case.{Case}
+use Rattle.lists.specs.declared.Tally.{Tally}
 use Rattle.grade.specs.Graded.{Sent, sent, Done, done, grade_of, graded_number, graded_least, graded_offset}
 use Rattle.replay_grades.specs.declared.Answer.{Answer}
-use Rattle.replay_grades.specs.declared.Case.{Case}
-use Rattle.replay_grades.specs.declared.Totals.{Totals}
-use Rattle.replay_grades.specs.declared.Step.{Step}
+use Rattle.replay_grades.specs.declared.Head.{Head}
+use Rattle.replay_grades.specs.declared.Choices.{Choices}
 
-abbrev pub answer_of : Graded → Answer
-answer_of g = record { number = graded_number g; offset = graded_offset g 0; least = graded_least g 0 }
+abbrev pub answer_of : Result Graded Refusal → Answer
+answer_of g = record { verdict = record { number = graded_number g; offset = graded_offset g 0 }; least = graded_least g 0 }
+
+abbrev pub agree : Answer → Answer → Bool
+agree a b = (eqb a.verdict.number b.verdict.number && eqb a.verdict.offset b.verdict.offset) && eqb a.least b.least
 
 -- the first fifteen bytes of the case at byte at
-abbrev pub head_at : List ℕ → ℕ → Case
+abbrev pub head_at : List ℕ → ℕ → Head
 head_at s at =
     record {
       bytes = number s at 2;
@@ -29,25 +35,23 @@ head_at s at =
       prices = number s (at + 4) 1;
       lent = number s (at + 5) 2;
       cells = number s (at + 7) 2;
-      number = number s (at + 9) 1;
-      offset = number s (at + 10) 4;
-      least = number s (at + 14) 1;
+      stored = record { verdict = verdict_at s (at + 9); least = number s (at + 14) 1 };
     }
 
 -- the parts of a case, one after the other: the sheet from byte at + 15 on, the columns, the prices of cars and of columns, the cells
-abbrev pub columns_at : ℕ → Case → ℕ
+abbrev pub columns_at : ℕ → Head → ℕ
 columns_at at h = at + 15 + h.bytes
 
-abbrev pub cars_at : ℕ → Case → ℕ
+abbrev pub cars_at : ℕ → Head → ℕ
 cars_at at h = columns_at at h + 4 * h.columns
 
-abbrev pub prices_at : ℕ → Case → ℕ
+abbrev pub prices_at : ℕ → Head → ℕ
 prices_at at h = cars_at at h + 8 * h.cars
 
-abbrev pub cells_at : ℕ → Case → ℕ
+abbrev pub cells_at : ℕ → Head → ℕ
 cells_at at h = prices_at at h + 8 * h.prices
 
-abbrev pub end_of : ℕ → Case → ℕ
+abbrev pub end_of : ℕ → Head → ℕ
 end_of at h = cells_at at h + 8 * h.cells
 
 -- a whole number of either sign in 64 bits: itself, or from 2^63 on, for a number below zero, how far it lies below -1
@@ -61,19 +65,19 @@ column_in s at k = number s (at + 4 * k) 4
 abbrev pub price_in : List ℕ → ℕ → ℕ → ℤ
 price_in s at k = signed (number s (at + 8 * k) 8)
 
-unfoldable pub sent_at : List ℕ → ℕ → Case → Sent
+unfoldable pub sent_at : List ℕ → ℕ → Head → Sent
 sent_at s at h =
     sent (tab (column_in s (columns_at at h)) h.columns) (tab (price_in s (cars_at at h)) h.cars) (tab (price_in s (prices_at at h)) h.prices)
 
 -- the case is longer than the bytes that are left, or larger than there is room for
-unfoldable pub broken : Case → ℕ → Bool
+unfoldable pub broken : Head → ℕ → Bool
 broken h left =
     ltb left (end_of 0 h)
     || ((ltb 128 h.columns || (ltb 128 h.cars || ltb 128 h.prices)) || (ltb 2052 h.lent || ltb h.lent h.cells))
 
 -- every cell holds 99 before
 abbrev pub blanks : ℕ → List ℕ
-blanks n = tab (λ k. 99) n
+blanks n = replicate n 99
 
 -- what must stand in cell k: one of the cells from byte at on, or 99 past them
 unfoldable pub left_in : List ℕ → ℕ → ℕ → ℕ → ℕ
@@ -83,59 +87,40 @@ abbrev pub misplaced : List ℕ → ℕ → ℕ → List ℕ → ℕ → Bool
 misplaced s at cells left k = not (eqb (get_or left k 0) (left_in s at cells k))
 
 -- an answer, or what it leaves in the matrix, is not as stored; the cells stand from byte at on
-abbrev pub apart : List ℕ → ℕ → Case → Answer → List ℕ → Bool
+abbrev pub apart : List ℕ → ℕ → Head → Answer → List ℕ → Bool
 apart s at h got left =
-    (not (eqb got.number h.number) || (not (eqb got.offset h.offset) || not (eqb got.least h.least)))
-    || any (misplaced s at h.cells left) (length left)
+    not (agree got h.stored) || any (misplaced s at h.cells left) (length left)
 
 -- so it is for the grader's contract
-unfoldable pub differ : List ℕ → ℕ → Case → Bool
+unfoldable pub differ : List ℕ → ℕ → Head → Bool
 differ s at h =
     let done = grade_of (take h.bytes (drop (at + 15) s)) (sent_at s at h) (blanks h.lent) in
     apart s (cells_at at h) h (answer_of done.answer) done.cells
 
--- after the case at byte at
-abbrev pub compared_at : List ℕ → ℕ → Case → Totals → Step
-compared_at s at h t =
-    record {
-      next = end_of at h;
-      totals = record {
-        compared = t.compared + 1;
-        least = t.least + bit (eqb h.least 1);
-        differ = t.differ + bit (differ s at h);
-      };
-    }
+-- the case at byte at
+abbrev pub compared_at : List ℕ → ℕ → Head → Case
+compared_at s at h = record { next = end_of at h; marked = eqb h.stored.least 1; differs = differ s at h }
 
--- after a case that is cut short
-abbrev pub cut_at : List ℕ → Totals → Step
-cut_at s t = record { next = length s; totals = record { compared = t.compared; least = t.least; differ = t.differ + 1 } }
+-- the head of the case at byte at, where a whole one stands there
+unfoldable pub whole_at : List ℕ → ℕ → Option Head
+whole_at s at = cond (ltb (length s - at) 15) None (cond (broken (head_at s at) (length s - at)) None (Some (head_at s at)))
 
-unfoldable pub turn_of : List ℕ → ℕ → Totals → Step
-turn_of s at t =
-    cond (ltb (length s - at) 15) (cut_at s t) (cond (broken (head_at s at) (length s - at)) (cut_at s t) (compared_at s at (head_at s at) t))
+abbrev pub compared_by : Option Head → List ℕ → ℕ → Option Case
+compared_by None s at = None
+compared_by (Some h) s at = Some (compared_at s at h)
 
--- no case yet
-abbrev pub start : Step
-start = record { next = 0; totals = record { compared = 0; least = 0; differ = 0 } }
-
--- byte at is reached with these totals
-abbrev pub Met : List ℕ → ℕ → Totals → Type 0
-Met s at t = Reached (λ (p : Step). p.next) (λ p. p.totals) (turn_of s) start (length s) at t
+-- the case at byte at, where a whole one stands there
+abbrev pub case_of : List ℕ → ℕ → Option Case
+case_of s at = compared_by (whole_at s at) s at
 
 -- the totals after the whole list
-abbrev pub Replayed : List ℕ → Totals → Type 0
-Replayed s t = Met s (length s) t
-
--- no count is above the number of bytes that were read
-pub record Counted (at : ℕ) (t : Totals) : Type 0 where
-  pub compared : t.compared ≤ at
-  pub least : t.least ≤ at
-  pub differ : t.differ ≤ at
+abbrev pub Replayed : List ℕ → Tally Choices → Type 0
+Replayed s t = AllCompared (case_of s) (length s) t.cases t
 
 -- ---- laws
 
 -- what so few bytes can say
-pub record Small (h : Case) : Type 0 where
+pub record Small (h : Head) : Type 0 where
   pub bytes : h.bytes < 65536
   pub columns : h.columns < 256
   pub cars : h.cars < 256
@@ -143,7 +128,7 @@ pub record Small (h : Case) : Type 0 where
   pub cells : h.cells < 65536
 
 -- a case that is not broken: what it is made of
-pub record Fitting (h : Case) (left : ℕ) : Type 0 where
+pub record Fitting (h : Head) (left : ℕ) : Type 0 where
   pub within : end_of 0 h ≤ left
   pub columns : h.columns ≤ 128
   pub cars : h.cars ≤ 128
@@ -152,13 +137,13 @@ pub record Fitting (h : Case) (left : ℕ) : Type 0 where
   pub cells : h.cells ≤ h.lent
 
 -- the lent places are as many as the case says
-pub record Lent (h : Case) (columns u v matrix : ℕ) : Type 0 where
+pub record Lent (h : Head) (columns u v matrix : ℕ) : Type 0 where
   pub one_a_column : columns ≡ h.columns
   pub one_a_car : u ≡ h.cars
   pub one_a_price : v ≡ h.prices
   pub one_a_cell : matrix ≡ h.lent
 
-module _ (h : Case) (left : ℕ) where
+module _ (h : Head) (left : ℕ) where
   pub not_broken : broken h left ≡ false → Fitting h left
   unfolding broken
   not_broken e =
@@ -186,7 +171,7 @@ signed_back x l =
     (to_z-of_z {w = w64} {z = negsuc (x - 9_223_372_036_854_775_808)} (record { sfits = omega arith })))
     (less? x 9_223_372_036_854_775_808)
 
-pub differ_by : (s : List ℕ) (at : ℕ) (h : Case) {n a b c d : ℕ} {columns left : List ℕ} {u v : List ℤ} {matrix : List ℕ} {g : Graded}
+pub differ_by : (s : List ℕ) (at : ℕ) (h : Head) {n a b c d : ℕ} {columns left : List ℕ} {u v : List ℤ} {matrix : List ℕ} {g : Result Graded Refusal}
     {got : Answer} {r : Bool} → n ≡ h.bytes → Lent h a b c d → columns ≡ tab (column_in s (columns_at at h)) a
     → u ≡ tab (price_in s (cars_at at h)) b → v ≡ tab (price_in s (prices_at at h)) c → matrix ≡ blanks d
     → done g left ≡ grade_of (take n (drop (at + 15) s)) (sent columns u v) matrix → got ≡ answer_of g → r ≡ apart s (cells_at at h) h got left
@@ -204,55 +189,3 @@ differ_by s at h {n} {a} {b} {c} {d} {columns} {left} {u} {v} {matrix} {g} {got}
     ∙ ap₂ (λ (x y : List ℤ). grade_of bytes (sent (tab (column_in s (columns_at at h)) h.columns) x y) matrix) eu' ev'
     ∙ ap (grade_of bytes (sent_at s at h)) em' in
     er ∙ ap₂ (λ (x : Answer) (y : List ℕ). apart s (cells_at at h) h x y) (ea ∙ ap (λ (k : Done). answer_of k.answer) e) (ap (λ (k : Done). k.cells) e)
-
-pub compared_by : (s : List ℕ) (at : ℕ) (h : Case) (t : Totals) {n x y : ℕ} {b : Bool} → n ≡ end_of at h → x ≡ bit (eqb h.least 1)
-    → y ≡ bit b → b ≡ differ s at h
-    → record { next = n; totals = record { compared = t.compared + 1; least = t.least + x; differ = t.differ + y } } ≡ compared_at s at h t
-compared_by s at h t {n} {x} {y} en ex ey eb =
-    ap (λ (k : ℕ). record { next = k; totals = record { compared = t.compared + 1; least = t.least + x; differ = t.differ + y } }) en
-    ∙ ap₂ (λ (k l : ℕ). record { next = end_of at h; totals = record { compared = t.compared + 1; least = t.least + k; differ = t.differ + l } })
-    ex (ey ∙ ap bit eb)
-
--- what a turn leaves
-pub record Turned (s : List ℕ) (at : ℕ) (t : Totals) (r : Step) : Type 0 where
-  pub is : r ≡ turn_of s at t
-  pub on : at < r.next
-  pub within : r.next ≤ length s
-  pub counted : Counted r.next r.totals
-
-cut_short : (s : List ℕ) (at : ℕ) (t : Totals) {r : Step} → at < length s → Counted at t → r ≡ cut_at s t → r ≡ turn_of s at t
-    → Turned s at t r
-cut_short s at t {r} l h e is =
-    record {
-      is = is;
-      on = rw e l;
-      within = rw e (omega arith);
-      counted = rw e (record { compared = omega (arith, h.compared); least = omega (arith, h.least); differ = omega (arith, h.differ) });
-    }
-
-pub turn_headless : (s : List ℕ) (at : ℕ) (t : Totals) {r : Step} → at < length s → Counted at t → length s - at < 15 → r ≡ cut_at s t
-    → Turned s at t r
-unfolding turn_of
-turn_headless s at t l h short e = cut_short s at t l h e (rw (lt-ltb (length s - at) 15 short) e)
-
-pub turn_broken : (s : List ℕ) (at : ℕ) (t : Totals) {h : Case} {b : Bool} {r : Step} → at < length s → Counted at t → 15 ≤ length s - at
-    → h ≡ head_at s at → b ≡ broken h (length s - at) → b ≡ true → r ≡ cut_at s t → Turned s at t r
-unfolding turn_of
-turn_broken s at t l h long eh eb is e =
-    cut_short s at t l h e (rw (le-ltb (length s - at) 15 long, ap (λ (c : Case). broken c (length s - at)) (sym eh) ∙ sym eb ∙ is) e)
-
-pub turn_whole : (s : List ℕ) (at : ℕ) (t : Totals) {h : Case} {b : Bool} {r : Step} → at < length s → Counted at t → 15 ≤ length s - at
-    → h ≡ head_at s at → b ≡ broken h (length s - at) → b ≡ false → r ≡ compared_at s at h t → Turned s at t r
-unfolding turn_of
-turn_whole s at t {h} {b} {r} l k long eh eb is e =
-    record {
-      is = rw (le-ltb (length s - at) 15 long, ap (λ (c : Case). broken c (length s - at)) (sym eh) ∙ sym eb ∙ is)
-          (e ∙ ap (λ (c : Case). compared_at s at c t) eh);
-      on = rw e (omega arith);
-      within = rw e (omega (arith, (not_broken h (length s - at) (sym eb ∙ is)).within));
-      counted = rw e (record {
-        compared = omega (arith, k.compared);
-        least = omega (arith, k.least, bit-lt (eqb h.least 1));
-        differ = omega (arith, k.differ, bit-lt (differ s at h));
-      });
-    }

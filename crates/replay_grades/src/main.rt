@@ -11,101 +11,76 @@
 // written.
 #![tactic(auto)]
 
-ghost use Rattle.std.specs.Prelude.{◌≡◌, ◌+◌, ◌-◌, ◌*◌, ◌≤◌, ◌<◌, length, ℤ};
-ghost use Rattle.laws.specs.Bools.{bit};
+ghost use Rattle.std.specs.Prelude.{◌≡◌, ◌+◌, ◌-◌, ◌*◌, ◌≤◌, ◌<◌, length, ℤ, IfSome};
 ghost use Rattle.laws.specs.Folds.{any};
 ghost use Rattle.laws.specs.Tables.{tab};
-ghost use Rattle.replay_grades.specs.Cases.{answer_of, head_at, signed, column_in, price_in, left_in, misplaced, blanks, apart, broken, differ};
-ghost use Rattle.replay_grades.specs.Cases.{end_of, cells_at, compared_at, cut_at, Small, Fitting, Lent, Counted, Turned, Replayed};
+ghost use Rattle.replay_grades.specs.Cases.{answer_of, head_at, whole_at, signed, column_in, price_in, left_in, misplaced, apart, broken, differ};
+ghost use Rattle.replay_grades.specs.Cases.{end_of, compared_at, case_of, Small, Fitting, Replayed};
 
 use grade::Graded;
+use layout::Refusal;
+use lists::{Case, Cases, Tally, Verdict};
 use std::io;
 
-// The answer's number and offset, 0 where there is a grade, and 1 for "least".
-#[derive(Clone, Copy)]
+// An answer as the list stores it: a refusal or none, and 1 for "least". A stored one may have any number for it.
+#[derive(Clone, Copy, PartialEq, Eq)]
 struct Answer {
-    number: u64,
-    offset: u64,
+    verdict: Verdict,
     least: u64,
 }
 
 // The head of a case.
 #[derive(Clone, Copy)]
-struct Case {
+struct Head {
     bytes: usize,
     columns: usize,
     cars: usize,
     prices: usize,
     lent: usize,
     cells: usize,
-    number: u64,
-    offset: u64,
-    least: u64,
+    stored: Answer,
 }
 
+// The list of stored choices; those that are stored as least are counted apart.
 #[derive(Clone, Copy)]
-struct Totals {
-    compared: u64,
-    least: u64,
-    differ: u64,
+struct Choices;
+
+impl Cases for Choices {
+    ghost case_of = { case_of };
+
+    fn case_at(self, rt: &impl Print, s: &[u8], at: usize) -> Option<Case> {
+        let h = whole_at(s, at)?;
+        Some(compare(rt, s, at, h))
+    }
 }
 
-// Where the next case starts, and the totals so far.
-#[derive(Clone, Copy)]
-struct Step {
-    next: usize,
-    totals: Totals,
-}
-
-// Room for the list.
-fn list_buffer() -> [u8; 327680]
-    ensures { 327680 ≡ length result }
-{
-    [0; 327680]
-}
-
-// Room for what is sent and lent in a case.
-fn column_buffer() -> [u32; 128]
-    ensures { 128 ≡ length result }
-{
-    [0; 128]
-}
-
-fn price_buffer() -> [i64; 128]
-    ensures { 128 ≡ length result }
-{
-    [0; 128]
-}
-
-fn cell_buffer() -> [u64; 2052]
-    ensures { 2052 ≡ length result }
-{
-    [0; 2052]
-}
-
-fn answer_of(g: Graded) -> Answer
+fn answer_of(g: Result<Graded, Refusal>) -> Answer
     ensures { result ≡ answer_of g }
 {
+    let none = Verdict {
+        number: 0,
+        offset: 0,
+    };
     match g {
-        Graded::Least => Answer {
-            number: 0,
-            offset: 0,
+        Ok(Graded::Least) => Answer {
+            verdict: none,
             least: 1,
         },
-        Graded::NotShown => Answer {
-            number: 0,
-            offset: 0,
+        Ok(Graded::NotShown) => Answer {
+            verdict: none,
             least: 0,
         },
-        Graded::Refused { number, offset } => Answer {
-            number: number as u64,
-            offset,
+        Err(refusal) => Answer {
+            verdict: Verdict {
+                number: u64::from(refusal.number),
+                offset: refusal.offset,
+            },
             least: 0,
         },
     }
 }
 
-fn head_at(s: &[u8], at: usize) -> Case
+fn head_at(s: &[u8], at: usize) -> Head
     requires { at + 15 ≤ length s.now }
     ensures is { result ≡ head_at s.now at }
     ensures small { Small result }
@@ -116,24 +91,23 @@ fn head_at(s: &[u8], at: usize) -> Case
     let prices = lists::number(s, at + 4, 1) as usize;
     let lent = lists::number(s, at + 5, 2) as usize;
     let cells = lists::number(s, at + 7, 2) as usize;
-    let number = lists::number(s, at + 9, 1);
-    let offset = lists::number(s, at + 10, 4);
-    let least = lists::number(s, at + 14, 1);
-    Case {
+    let stored = Answer {
+        verdict: lists::verdict_at(s, at + 9),
+        least: lists::number(s, at + 14, 1),
+    };
+    Head {
         bytes,
         columns,
         cars,
         prices,
         lent,
         cells,
-        number,
-        offset,
-        least,
+        stored,
     }
 }
 
 // Whether the case is longer than the bytes that are left, or larger than there is room for.
-fn is_broken(h: Case, left: usize) -> bool
+fn is_broken(h: Head, left: usize) -> bool
     requires { Small h }
     ensures { result ≡ broken h left }
 {
@@ -141,6 +115,23 @@ fn is_broken(h: Case, left: usize) -> bool
     let sent = (128 < h.columns) | ((128 < h.cars) | (128 < h.prices));
     let lent = (2052 < h.lent) | (h.lent < h.cells);
     (left < size) | (sent | lent)
+}
+
+// The head of the case at byte at, where a whole one stands there.
+fn whole_at(s: &[u8], at: usize) -> Option<Head>
+    requires { at < length s.now }
+    ensures is { result ≡ whole_at s.now at }
+    ensures fits { IfSome result (λ h. Fitting h (length s.now - at)) }
+{
+    let left = s.len() - at;
+    if left < 15 {
+        return None;
+    }
+    let h = head_at(s, at);
+    if is_broken(h, left) {
+        return None;
+    }
+    Some(h)
 }
 
 // A whole number of either sign.
@@ -159,10 +150,8 @@ fn fill_columns(s: &[u8], at: usize, columns: &mut [u32])
     requires { (length columns.old ≤ 128) × (at + 4 * length columns.old ≤ length s.now) }
     ensures { columns.new ≡ tab (column_in s.now at) (length columns.old) }
 {
-    let mut k: usize = 0;
-    while k < columns.len() {
+    for k in 0..columns.len() {
         columns[k] = lists::number(s, at + 4 * k, 4) as u32;
-        k += 1;
     }
 }
 
@@ -171,21 +160,8 @@ fn fill_prices(s: &[u8], at: usize, prices: &mut [i64])
     requires { (length prices.old ≤ 128) × (at + 8 * length prices.old ≤ length s.now) }
     ensures { prices.new ≡ tab (price_in s.now at) (length prices.old) }
 {
-    let mut k: usize = 0;
-    while k < prices.len() {
+    for k in 0..prices.len() {
         prices[k] = signed(lists::number(s, at + 8 * k, 8));
-        k += 1;
-    }
-}
-
-// 99 in every cell.
-fn blank(cells: &mut [u64])
-    ensures { cells.new ≡ blanks (length cells.old) }
-{
-    let mut k: usize = 0;
-    while k < cells.len() {
-        cells[k] = 99;
-        k += 1;
     }
 }
 
@@ -206,36 +182,24 @@ fn is_misplaced<'a>(s: &'a [u8], at: usize, cells: usize, left: &'a [u64]) -> bo
     ensures { result ≡ any (misplaced s.now at cells left.now) (length left.now) }
 {
     let mut wrong = false;
-    let mut k: usize = 0;
-    while k < left.len() {
+    for k in 0..left.len() {
         wrong = wrong | (left[k] != left_in(s, at, cells, k));
-        k += 1;
     }
     wrong
 }
 
 // Whether the answer, or what it left in the matrix, is not as stored; the cells stand from byte at on.
-fn is_apart<'a>(s: &'a [u8], at: usize, h: Case, got: Answer, left: &'a [u64]) -> bool
+fn is_apart<'a>(s: &'a [u8], at: usize, h: Head, got: Answer, left: &'a [u64]) -> bool
     requires { (h.cells ≤ 2052) × (at + 8 * h.cells ≤ length s.now) }
     ensures { result ≡ apart s.now at h got left.now }
 {
-    let numbers = (got.number != h.number) | ((got.offset != h.offset) | (got.least != h.least));
     let wrong = is_misplaced(s, at, h.cells, left);
-    numbers | wrong
+    (got != h.stored) | wrong
 }
 
-// The case at byte at, in lent places: whether the grader differs from what is stored.
-fn differs<'a>(
-    s: &'a [u8],
-    at: usize,
-    h: Case,
-    columns: &mut [u32],
-    u: &mut [i64],
-    v: &mut [i64],
-    matrix: &mut [u64],
-) -> bool
-    requires lent { Lent h (length columns.old) (length u.old) (length v.old) (length matrix.old) }
-    requires at_in_bounds { (at < length s.now) × Fitting h (length s.now - at) }
+// Whether the grader differs from what is stored of the case at byte at.
+fn differs(s: &[u8], at: usize, h: Head) -> bool
+    requires { (at < length s.now) × Fitting h (length s.now - at) }
     ensures { result ≡ differ s.now at h }
 {
     let start = at + 15;
@@ -243,33 +207,23 @@ fn differs<'a>(
     let cars = end + 4 * h.columns;
     let prices = cars + 8 * h.cars;
     let cells = prices + 8 * h.prices;
+    let mut columns = [0u32; 128];
+    let mut u = [0i64; 128];
+    let mut v = [0i64; 128];
+    let mut matrix = [99u64; 2052];
+    let columns = &mut columns[..h.columns];
+    let u = &mut u[..h.cars];
+    let v = &mut v[..h.prices];
+    let matrix = &mut matrix[..h.lent];
     fill_columns(s, end, columns);
     fill_prices(s, cars, u);
     fill_prices(s, prices, v);
-    blank(matrix);
     let got = answer_of(grade::grade(&s[start..end], columns, u, v, matrix));
     is_apart(s, cells, h, got, matrix)
 }
 
-// 1 for a case that differs, which is named, and 0 for one that does not.
-fn tally(rt: &impl Print, wrong: bool, at: usize) -> u64
-    ensures { result ≡ bit wrong }
-{
-    if wrong {
-        let _ = println!(rt; "differs: the case at byte {at}");
-        return 1;
-    }
-    0
-}
-
-fn one_if(b: bool) -> u64
-    ensures { result ≡ bit b }
-{
-    if b { 1 } else { 0 }
-}
-
 // Where the case at byte at ends.
-fn end_of(s: &[u8], at: usize, h: Case) -> usize
+fn end_of(s: &[u8], at: usize, h: Head) -> usize
     requires { end_of at h ≤ length s.now }
     ensures { result ≡ end_of at h }
 {
@@ -277,95 +231,33 @@ fn end_of(s: &[u8], at: usize, h: Case) -> usize
 }
 
 // The case at byte at compared.
-fn compare(rt: &impl Print, s: &[u8], at: usize, h: Case, t: Totals) -> Step
-    requires { (at < length s.now) × Fitting h (length s.now - at) × Counted at t }
-    ensures { result ≡ compared_at s.now at h t }
+fn compare(rt: &impl Print, s: &[u8], at: usize, h: Head) -> Case
+    requires { (at < length s.now) × Fitting h (length s.now - at) }
+    ensures { result ≡ compared_at s.now at h }
 {
     let next = end_of(s, at, h);
-    let shown = one_if(h.least == 1);
-    let mut columns = column_buffer();
-    let mut u = price_buffer();
-    let mut v = price_buffer();
-    let mut matrix = cell_buffer();
-    let sent = h.columns;
-    let cars = h.cars;
-    let prices = h.prices;
-    let lent = h.lent;
-    let wrong = differs(
-        s,
-        at,
-        h,
-        &mut columns[..sent],
-        &mut u[..cars],
-        &mut v[..prices],
-        &mut matrix[..lent],
-    );
-    let one = tally(rt, wrong, at);
-    Step {
+    let differs = differs(s, at, h);
+    if differs {
+        let _ = println!(rt; "differs: the case at byte {at}");
+    }
+    Case {
         next,
-        totals: Totals {
-            compared: t.compared + 1,
-            least: t.least + shown,
-            differ: t.differ + one,
-        },
+        marked: h.stored.least == 1,
+        differs,
     }
 }
 
-// A case that is cut short ends the run, and counts as one that differs.
-fn cut(rt: &impl Print, s: &[u8], at: usize, t: Totals) -> Step
-    requires { (at < length s.now) × Counted at t }
-    ensures { result ≡ cut_at s.now t }
-{
-    let _ = println!(rt; "no whole case at byte {at}");
-    Step {
-        next: s.len(),
-        totals: Totals {
-            compared: t.compared,
-            least: t.least,
-            differ: t.differ + 1,
-        },
-    }
-}
-
-fn turn(rt: &impl Print, s: &[u8], at: usize, t: Totals) -> Step
-    requires { (at < length s.now) × Counted at t }
-    ensures { Turned s.now at t result }
-{
-    let left = s.len() - at;
-    if left < 15 {
-        return cut(rt, s, at, t);
-    }
-    let h = head_at(s, at);
-    if is_broken(h, left) {
-        return cut(rt, s, at, t);
-    }
-    compare(rt, s, at, h, t)
-}
-
-fn run(rt: &impl Print, s: &[u8]) -> Totals
+fn run(rt: &impl Print, s: &[u8]) -> Tally<Choices>
     ensures { Replayed s.now result }
 {
-    let mut t = Totals {
-        compared: 0,
-        least: 0,
-        differ: 0,
-    };
-    let mut at: usize = 0;
-    while at < s.len() {
-        let next = turn(rt, s, at, t);
-        t = next.totals;
-        at = next.next;
-    }
-    t
+    lists::compare_all(rt, s, Choices)
 }
 
 fn main(rt: HostRuntime) -> io::Result<()> {
-    let mut buffer = list_buffer();
-    let mut input = rt.reader();
-    let n = lists::read_full(&mut input, &mut buffer)?;
-    let t = run(&rt, &buffer[..n]);
+    let list = lists::read_list(rt.alloc(), &mut rt.reader(), 327680)?;
+    let t = run(&rt, &list);
     println!(rt;
         "{} grades compared, {} least, {} differ",
-        t.compared, t.least, t.differ
+        t.compared, t.marked, t.differ
     )
 }

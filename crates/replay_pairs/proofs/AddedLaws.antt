@@ -1,4 +1,6 @@
 -- What two sheets with bars added agree in. Assumes nothing.
+use Rattle.std.specs.Prelude.{Ok, Result}
+use Rattle.layout.specs.declared.Refusal.{Refusal}
 use Rattle.std.specs.Prelude.{ℕ, ◌-◌, ◌*◌, ◌/◌, ◌≤◌, ◌<◌, ◌≡◌, Bool, true, not, ◌&&◌, ◌||◌, List, ◌≢◌, eqb, ltb, length}
 use Rattle.std.proofs.Common.{sym, ◌∙◌, ⊎_elim, arith, eqb-true, ltb-true, ltb-false}
 use Rattle.std.proofs.Math.Path.{ap}
@@ -10,8 +12,6 @@ use Rattle.laws.specs.Folds.{any_some, every_at}
 use Rattle.bits.specs.Field.{bit_at}
 use Rattle.layout.specs.declared.Counts.{Counts}
 use Rattle.layout.specs.Offsets.{car_start}
-use Rattle.layout.specs.declared.Reading.{Reading}
-use Rattle.layout.specs.declared.Reading.TheVariants.{Accepted}
 use Rattle.layout.specs.Records.{limit_of}
 use Rattle.layout.specs.Verdict.{verdict}
 use Rattle.assignment.specs.Candidates.{no_limit}
@@ -70,7 +70,7 @@ module _ (first second : List ℕ) (c : Counts) (e : length first ≡ length sec
   agree_but_bars = record { elsewhere = elsewhere; kept = kept }
 
 -- two sheets that are a pair with bars added, both accepted and without a limit, are a pair of the request
-pub bar_pair_of : {x y : Lent} {c d : Counts} → outcome_of x ≡ Accepted c → outcome_of y ≡ Accepted d → is_barred x.bytes y.bytes ≡ true
+pub bar_pair_of : {x y : Lent} {c d : Counts} → outcome_of x ≡ Ok c → outcome_of y ≡ Ok d → is_barred x.bytes y.bytes ≡ true
     → limit_of x.bytes ≡ no_limit → BarPair x y c d
 unfolding is_barred added_by
 bar_pair_of {x} {y} {c} {d} e f h l =
@@ -82,6 +82,6 @@ bar_pair_of {x} {y} {c} {d} e f h l =
       second_accepted = f;
       agree =
           agree_but_bars x.bytes y.bytes c (eqb-true (length x.bytes) (length y.bytes) (both_left _ _ h))
-          (sym (ap (λ (r : Reading). added_by r x.bytes y.bytes) v) ∙ k);
+          (sym (ap (λ (r : Result Counts Refusal). added_by r x.bytes y.bytes) v) ∙ k);
       no_limit_lem = l;
     }

@@ -1,5 +1,7 @@
 -- Two sheets that request F-14 speaks of: the second has bars that the first has not, "one more bit in one car's restricted mask" or several, and they
 -- agree in every other bit. Assumes nothing.
+use Rattle.std.specs.Prelude.{Err, Ok, Result}
+use Rattle.layout.specs.declared.Refusal.{Refusal}
 use Rattle.std.specs.Prelude.{ℕ, ◌+◌, ◌*◌, ◌<◌, ◌≡◌, Bool, true, false, not, ◌&&◌, ◌||◌, List, ◌≢◌, eqb, ltb, length}
 use Rattle.std.proofs.Common.{sym, ◌∙◌, add-zero, zero-add, arith, eq-eqb, ne_eqb}
 use Rattle.std.proofs.Math.Path.{ap}
@@ -10,8 +12,6 @@ use Rattle.components.specs.declared.Kind.TheVariants as kind
 use Rattle.layout.specs.declared.Counts.{Counts}
 use Rattle.layout.specs.Table.{past, car_restricted_field}
 use Rattle.layout.specs.Offsets.{Small, record_length, car_start}
-use Rattle.layout.specs.declared.Reading.{Reading}
-use Rattle.layout.specs.declared.Reading.TheVariants.{Accepted, Refused}
 use Rattle.layout.specs.Records.{limit_of}
 use Rattle.layout.specs.Verdict.{verdict}
 use Rattle.assignment.specs.Candidates.{no_limit}
@@ -39,9 +39,9 @@ abbrev pub added : Counts → List ℕ → List ℕ → Bool
 added c first second = every (added_at c first second) (8 * length first)
 
 -- by what is read of the first sheet
-unfoldable pub added_by : Reading → List ℕ → List ℕ → Bool
-added_by (Accepted c) first second = added c first second
-added_by (Refused number offset) first second = false
+unfoldable pub added_by : Result Counts Refusal → List ℕ → List ℕ → Bool
+added_by (Ok c) first second = added c first second
+added_by (Err r) first second = false
 
 -- some byte that is not of the limit, so some bar, is another one
 unfoldable pub is_barred : List ℕ → List ℕ → Bool
@@ -83,7 +83,7 @@ module _ (first second : List ℕ) where
   unfolding is_barred
   barred_same e = rw (← e) (sym (and-false (eqb (length first) (length second))))
 
-  pub barred_is : {r : Reading} {b : Bool} → length first ≡ length second → false ≡ agree first second → r ≡ verdict first
+  pub barred_is : {r : Result Counts Refusal} {b : Bool} → length first ≡ length second → false ≡ agree first second → r ≡ verdict first
       → b ≡ added_by r first second → b ≡ is_barred first second
   unfolding is_barred
-  barred_is e d f h = rw (eq-eqb (length first) (length second) e, ← d) (h ∙ ap (λ (x : Reading). added_by x first second) f)
+  barred_is e d f h = rw (eq-eqb (length first) (length second) e, ← d) (h ∙ ap (λ (x : Result Counts Refusal). added_by x first second) f)

@@ -1,11 +1,11 @@
 -- Two sheets that demand 3 speaks of: they "agree in every bit but the policy's limit, which is the higher number in the second". Assumes nothing.
+use Rattle.std.specs.Prelude.{Ok}
 use Rattle.std.specs.Prelude.{ℕ, ◌≤◌, ◌<◌, ◌≡◌, Bool, true, false, ◌&&◌, ◌||◌, List, ◌≢◌, eqb, ltb, length, get_or}
 use Rattle.std.proofs.Common.{sym, ◌∙◌, ⊎_elim, arith, eqb-true, ltb-true, eq-eqb, ne_eqb}
 use Rattle.std.proofs.Math.ListN.{get_or-eq_default}
 use Rattle.laws.specs.Bools.{both_left, both_right, less?}
 use Rattle.laws.specs.Folds.{every, every_at}
 use Rattle.layout.specs.declared.Counts.{Counts}
-use Rattle.layout.specs.declared.Reading.TheVariants.{Accepted}
 use Rattle.layout.specs.Records.{limit_of}
 use Rattle.accepted.specs.SameSheet.{AgreeButLimit}
 use Rattle.bench.specs.Done.{Lent, outcome_of}
@@ -53,7 +53,7 @@ agree_but_limit first second h k no-6 no-7 =
     (less? k (length first))
 
 -- two sheets that are a pair, both accepted, are a pair of demand 3
-pub pair_of : {x y : Lent} {c d : Counts} → outcome_of x ≡ Accepted c → outcome_of y ≡ Accepted d → is_pair x.bytes y.bytes ≡ true
+pub pair_of : {x y : Lent} {c d : Counts} → outcome_of x ≡ Ok c → outcome_of y ≡ Ok d → is_pair x.bytes y.bytes ≡ true
     → Pair x y c d
 unfolding is_pair
 pair_of {x} {y} e f h =

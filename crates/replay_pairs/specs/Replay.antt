@@ -1,16 +1,14 @@
 -- The totals of a replay: how many pairs and cells were compared, by how the second sheet differs from the first, in how many of them the second total
 -- is below the first, and how many entries differ. Assumes nothing.
-use Rattle.std.specs.Prelude.{ℕ, ◌+◌, ◌^◌, ◌≤◌, ◌<◌, ◌≡◌, Bool, not, ◌&&◌, ◌||◌, List, ltb, length}
+use Rattle.std.specs.Prelude.{ℕ, ◌+◌, ◌^◌, ◌≤◌, ◌<◌, ◌≡◌, Bool, not, Option, Some, None, ◌&&◌, ◌||◌, List, ltb, length}
 use Rattle.std.proofs.Common.{sym, ap, subst, arith}
 use Rattle.laws.specs.Bools.{bit, bit-lt}
-use Rattle.lists.specs.Turns.{Reached}
-use Rattle.stored_passes.specs.declared.Place.{Place}
-use Rattle.stored_passes.specs.declared.Place.TheVariants.{Whole, Cut}
+use Rattle.lists.specs.Turns.{Replayed as replayed, Turned as turned}
+use Rattle.lists.specs.declared.Step.{Step}
 use Rattle.stored_passes.specs.declared.Stored.{Stored}
 use Rattle.stored_passes.specs.Cases.{Inside, case_of}
 use Rattle.stored_passes.specs.Passes.{sheet_in, differs_at, total_at, differs_at_le}
 use Rattle.replay_pairs.specs.declared.Totals.{Totals}
-use Rattle.replay_pairs.specs.declared.Step.{Step}
 use Rattle.replay_pairs.specs.declared.Change.{Change}
 use Rattle.replay_pairs.specs.Pairs.{is_pair}
 use Rattle.replay_pairs.specs.Added.{is_barred, is_limited}
@@ -19,21 +17,17 @@ use Rattle.replay_pairs.specs.Added.{is_barred, is_limited}
 abbrev pub lower_at : List ℕ → ℕ → Stored → Stored → Bool
 lower_at s at p q = ltb (total_at s p.next q) (total_at s at p)
 
--- whether the second sheet is the first with its limit raised
-abbrev pub raised_at : List ℕ → ℕ → Stored → Stored → Bool
-raised_at s at p q = is_pair (sheet_in s at p) (sheet_in s p.next q)
+-- how the second sheet differs from the first: its limit is raised, or bars are added; and whether the first has a limit
+abbrev pub change_of : List ℕ → List ℕ → Change
+change_of first second = record { raised = is_pair first second; barred = is_barred first second; limited = is_limited first }
 
--- whether it is the first with bars added
-abbrev pub barred_at : List ℕ → ℕ → Stored → Stored → Bool
-barred_at s at p q = is_barred (sheet_in s at p) (sheet_in s p.next q)
-
--- whether the first has a limit
-abbrev pub limited_at : List ℕ → ℕ → Stored → Bool
-limited_at s at p = is_limited (sheet_in s at p)
-
--- how the second sheet differs from the first
+-- of the sheets of the cases at byte at and at its end
 abbrev pub change_at : List ℕ → ℕ → Stored → Stored → Change
-change_at s at p q = record { raised = raised_at s at p q; barred = barred_at s at p q; limited = limited_at s at p }
+change_at s at p q = change_of (sheet_in s at p) (sheet_in s p.next q)
+
+-- the sheets are a pair
+abbrev pub is_one : Change → Bool
+is_one k = k.raised || k.barred
 
 -- one pair more, with so many cells and entries that differ; sheets that are no pair count as a difference
 abbrev pub tallied : Totals → Change → Bool → ℕ → ℕ → Totals
@@ -46,11 +40,11 @@ tallied t k lower cells differ =
       limited = t.limited + bit (k.barred && k.limited);
       fallen = t.fallen + bit (k.barred && lower);
       cells = t.cells + cells;
-      differ = t.differ + bit (not (k.raised || k.barred)) + differ;
+      differ = t.differ + bit (not (is_one k)) + differ;
     }
 
 -- after the pair of the cases at byte at and at its end
-abbrev pub compared_at : List ℕ → ℕ → Stored → Stored → Totals → Step
+abbrev pub compared_at : List ℕ → ℕ → Stored → Stored → Totals → Step Totals
 compared_at s at p q t =
     record {
       next = q.next;
@@ -76,30 +70,25 @@ one_more t =
     }
 
 -- after a pair that is cut short
-abbrev pub cut_at : List ℕ → Totals → Step
+abbrev pub cut_at : List ℕ → Totals → Step Totals
 cut_at s t = record { next = length s; totals = one_more t }
 
 -- by its second case, then by its first
 
-unfoldable pub second_by : Place → List ℕ → ℕ → Stored → Totals → Step
-second_by (Whole q) s at p t = compared_at s at p q t
-second_by Cut s at p t = cut_at s t
+unfoldable pub second_by : Option Stored → List ℕ → ℕ → Stored → Totals → Step Totals
+second_by (Some q) s at p t = compared_at s at p q t
+second_by None s at p t = cut_at s t
 
-unfoldable pub step_by : Place → List ℕ → ℕ → Totals → Step
-step_by (Whole p) s at t = second_by (case_of s p.next) s at p t
-step_by Cut s at t = cut_at s t
+unfoldable pub step_by : Option Stored → List ℕ → ℕ → Totals → Step Totals
+step_by (Some p) s at t = second_by (case_of s p.next) s at p t
+step_by None s at t = cut_at s t
 
-abbrev pub turn_of : List ℕ → ℕ → Totals → Step
+abbrev pub turn_of : List ℕ → ℕ → Totals → Step Totals
 turn_of s at t = step_by (case_of s at) s at t
-
--- byte at is reached with these totals
-abbrev pub Met : List ℕ → ℕ → Totals → Type 0
-Met s at t = Reached (λ (p : Step). p.next) (λ p. p.totals) (turn_of s)
-    (record { next = 0; totals = no_totals }) (length s) at t
 
 -- the totals after the whole list
 abbrev pub Replayed : List ℕ → Totals → Type 0
-Replayed s t = Met s (length s) t
+Replayed s t = replayed (turn_of s) (length s) no_totals t
 
 -- no count is above the number of bytes that were read
 pub record Counted (at : ℕ) (t : Totals) : Type 0 where
@@ -113,7 +102,7 @@ pub record Counted (at : ℕ) (t : Totals) : Type 0 where
   pub differ : t.differ ≤ at
 
 -- a step from byte at is this one, goes on, and counts no more than it may
-pub record Turned (s : List ℕ) (at : ℕ) (v r : Step) : Type 0 where
+pub record Turned (s : List ℕ) (at : ℕ) (v r : Step Totals) : Type 0 where
   pub is : r ≡ v
   pub on : at < r.next
   pub within : r.next ≤ length s
@@ -208,13 +197,18 @@ module _ (s : List ℕ) (at : ℕ) (p q : Stored) (b : at + 2 ≤ p.end) (i : In
           counted = subst (Counted q.next) (sym e) (grown (change_at s at p q) (lower_at s at p q));
         }
 
-turned_as : (s : List ℕ) (at : ℕ) {v w r : Step} → v ≡ w → Turned s at v r → Turned s at w r
-turned_as s at {v} {w} {r} e h = subst (λ (z : Step). Turned s at z r) e h
+turned_as : (s : List ℕ) (at : ℕ) {v w r : Step Totals} → v ≡ w → Turned s at v r → Turned s at w r
+turned_as s at {v} {w} {r} e h = subst (λ (z : Step Totals). Turned s at z r) e h
 
-module _ (s : List ℕ) (at : ℕ) (t : Totals) {r : Step} (v : Place) where
+module _ (s : List ℕ) (at : ℕ) (t : Totals) {r : Step Totals} (v : Option Stored) where
   pub turned_second : (p : Stored) → v ≡ case_of s p.next → Turned s at (second_by v s at p t) r
       → Turned s at (second_by (case_of s p.next) s at p t) r
-  turned_second p e h = turned_as s at (ap (λ (z : Place). second_by z s at p t) e) h
+  turned_second p e h = turned_as s at (ap (λ (z : Option Stored). second_by z s at p t) e) h
 
   pub turned_first : v ≡ case_of s at → Turned s at (step_by v s at t) r → Turned s at (turn_of s at t) r
-  turned_first e h = turned_as s at (ap (λ (z : Place). step_by z s at t) e) h
+  turned_first e h = turned_as s at (ap (λ (z : Option Stored). step_by z s at t) e) h
+
+-- as the run over the list asks it
+pub turned_all : (s : List ℕ) (at : ℕ) (t : Totals) {r : Step Totals} → Turned s at (turn_of s at t) r
+    → turned (turn_of s) (λ a u. Counted a u) (length s) at t r
+turned_all s at t h = record { is = h.is; on = h.on; within = h.within; can = h.counted }

@@ -21,20 +21,23 @@
 #![tactic(auto)]
 
 ghost use Rattle.std.specs.Prelude.{◌≡◌, ◌+◌, ◌≤◌, ◌<◌, length};
-ghost use Rattle.laws.specs.Bools.{bit};
 ghost use Rattle.bench.specs.Answers.{total_of};
 ghost use Rattle.stored_passes.specs.Cases.{Inside, case_of};
 ghost use Rattle.stored_passes.specs.Passes.{differs_at};
 ghost use Rattle.layout.specs.Offsets.{Small};
 ghost use Rattle.bench.specs.Done.{lent, done, pass_of};
-ghost use Rattle.replay_pairs.specs.Pairs.{of_limit, agree, is_pair};
+ghost use Rattle.replay_pairs.specs.Pairs.{of_limit, agree_at, agree, is_pair};
 ghost use Rattle.replay_pairs.specs.Added.{of_mask, of_masks, added_at, added, is_barred, is_limited};
-ghost use Rattle.replay_pairs.specs.Replay.{lower_at, change_at, tallied, Room, compared_at, cut_at, second_by, turn_of, Counted, Turned, Replayed};
+ghost use Rattle.replay_pairs.specs.Replay.{lower_at, change_of, is_one, tallied, Room, compared_at, cut_at, second_by, turn_of, Counted, Turned, Replayed};
 
-use bench::{Answer, Answers};
-use layout::{Counts, Reading, car};
+use bench::{Answers, Passed};
+use layout::{Counts, Refusal, car};
+use lists::{Replay, Step};
 use std::io;
-use stored_passes::{Place, Stored, Tally};
+use stored_passes::{Buffers, Stored, Tally};
+
+// The list's bytes that are read.
+const LIMIT: usize = 262144;
 
 // How the second sheet of a pair differs from the first: its limit is raised, or bars are added. And whether the first has a limit.
 #[derive(Clone, Copy)]
@@ -65,20 +68,6 @@ struct Totals {
     differ: u64,
 }
 
-// Where the next pair starts, and the totals so far.
-#[derive(Clone, Copy)]
-struct Step {
-    next: usize,
-    totals: Totals,
-}
-
-// Room for the list.
-fn list_buffer() -> [u8; 262144]
-    ensures { 262144 ≡ length result }
-{
-    [0; 262144]
-}
-
 // The bytes of a sheet's limit.
 fn of_limit(k: usize) -> bool
     ensures { result ≡ of_limit k }
@@ -86,23 +75,30 @@ fn of_limit(k: usize) -> bool
     (k == 6) | (k == 7)
 }
 
+// Whether byte k is the same in both, or of the limit.
+fn same_at(first: &[u8], second: &[u8], k: usize) -> bool
+    requires { (k < length first.now) × (k < length second.now) }
+    ensures { result ≡ agree_at first.now second.now k }
+{
+    of_limit(k) | (first[k] == second[k])
+}
+
 // Whether two sheets agree in every byte but those of the limit.
-fn agree<'a>(first: &'a [u8], second: &'a [u8]) -> bool
+fn agree(first: &[u8], second: &[u8]) -> bool
     ensures { result ≡ agree first.now second.now }
 {
     if first.len() != second.len() {
         return false;
     }
-    let mut same = true;
-    let mut k: usize = 0;
-    while k < first.len() {
-        same = same & (of_limit(k) | (first[k] == second[k]));
-        k += 1;
+    for k in 0..first.len() {
+        if !same_at(first, second, k) {
+            return false;
+        }
     }
-    same
+    true
 }
 
-fn is_pair<'a>(first: &'a [u8], second: &'a [u8]) -> bool
+fn is_pair(first: &[u8], second: &[u8]) -> bool
     ensures { result ≡ is_pair first.now second.now }
 {
     agree(first, second) & (sheet::limit(first) < sheet::limit(second))
@@ -122,17 +118,16 @@ fn of_masks(c: Counts, b: u32) -> bool
     requires { Small c }
     ensures { result ≡ of_masks c b }
 {
-    let mut found = false;
-    let mut i: u32 = 0;
-    while i < c.cars {
-        found = found | of_mask(c, b, i);
-        i += 1;
+    for i in 0..c.cars {
+        if of_mask(c, b, i) {
+            return true;
+        }
     }
-    found
+    false
 }
 
 // Whether bit b is the same in both, or a bar that is added.
-fn added_at<'a>(c: Counts, first: &'a [u8], second: &'a [u8], b: u32) -> bool
+fn added_at(c: Counts, first: &[u8], second: &[u8], b: u32) -> bool
     requires { Small c }
     ensures { result ≡ added_at c first.now second.now b }
 {
@@ -141,22 +136,20 @@ fn added_at<'a>(c: Counts, first: &'a [u8], second: &'a [u8], b: u32) -> bool
     (x == y) | ((x == 0) & of_masks(c, b))
 }
 
-fn added<'a>(c: Counts, first: &'a [u8], second: &'a [u8]) -> bool
+fn added(c: Counts, first: &[u8], second: &[u8]) -> bool
     requires { Small c × (length first.now ≤ 27283) }
     ensures { result ≡ added c first.now second.now }
 {
-    let n = 8 * first.len() as u32;
-    let mut all = true;
-    let mut b: u32 = 0;
-    while b < n {
-        all = all & added_at(c, first, second, b);
-        b += 1;
+    for b in 0..8 * first.len() as u32 {
+        if !added_at(c, first, second, b) {
+            return false;
+        }
     }
-    all
+    true
 }
 
 // Whether the second sheet is the first with bars added.
-fn is_barred<'a>(first: &'a [u8], second: &'a [u8]) -> bool
+fn is_barred(first: &[u8], second: &[u8]) -> bool
     ensures { result ≡ is_barred first.now second.now }
 {
     if first.len() != second.len() {
@@ -166,11 +159,8 @@ fn is_barred<'a>(first: &'a [u8], second: &'a [u8]) -> bool
         return false;
     }
     match sheet::read(first) {
-        Reading::Accepted(c) => added(c, first, second),
-        Reading::Refused {
-            number: _,
-            offset: _,
-        } => false,
+        Ok(c) => added(c, first, second),
+        Err(_) => false,
     }
 }
 
@@ -180,66 +170,71 @@ fn is_limited(s: &[u8]) -> bool
     !(sheet::limit(s) == 65535)
 }
 
-// How the sheets of the cases at byte at and at its end differ.
-fn change_at(s: &[u8], at: usize, p: Stored, q: Stored) -> Change
-    requires { (at + 2 ≤ p.end) × Inside s.now p × (p.next + 2 ≤ q.end) × Inside s.now q }
-    ensures { result ≡ change_at s.now at p q }
-{
-    let start = at + 2;
-    let end = p.end;
-    let start2 = p.next + 2;
-    let end2 = q.end;
-    Change {
-        raised: is_pair(&s[start..end], &s[start2..end2]),
-        barred: is_barred(&s[start..end], &s[start2..end2]),
-        limited: is_limited(&s[start..end]),
+impl Change {
+    // Of two sheets.
+    fn of(first: &[u8], second: &[u8]) -> Self
+        ensures { result ≡ change_of first.now second.now }
+    {
+        Change {
+            raised: is_pair(first, second),
+            barred: is_barred(first, second),
+            limited: is_limited(first),
+        }
+    }
+
+    // Whether the sheets are a pair.
+    fn is_one(self) -> bool
+        ensures { result ≡ is_one self }
+    {
+        self.raised | self.barred
     }
 }
 
-// Both passes, by the function whose promise the pair is to show.
-fn pass_both<'a>(
+// Both passes, by the function whose promise the pair is to show. One `if`: a function passed in would have to promise all this again.
+fn pass_both(
     barred: bool,
-    first: &'a [u8],
-    decisions: &mut [u32],
-    matrix: &mut [u64],
-    sweeps: &mut [u8],
-    second: &'a [u8],
-    decisions2: &mut [u32],
-    matrix2: &mut [u64],
-    sweeps2: &mut [u8],
+    first: &[u8],
+    left: &mut Buffers,
+    second: &[u8],
+    left2: &mut Buffers,
 ) -> Answers
-    ensures { let x = lent first.now decisions.old matrix.old sweeps.old in
-        let y = done result.first decisions.new matrix.new sweeps.new in
-        let x2 = lent second.now decisions2.old matrix2.old sweeps2.old in
-        let y2 = done result.second decisions2.new matrix2.new sweeps2.new in
+    ensures { let x = lent first.now left.old.decisions left.old.matrix left.old.sweeps in
+        let y = done result.first left.new.decisions left.new.matrix left.new.sweeps in
+        let x2 = lent second.now left2.old.decisions left2.old.matrix left2.old.sweeps in
+        let y2 = done result.second left2.new.decisions left2.new.matrix left2.new.sweeps in
         (y ≡ pass_of x) × (y2 ≡ pass_of x2) }
 {
     if barred {
         bars::pass_barred(
-            first, decisions, matrix, sweeps, second, decisions2, matrix2, sweeps2,
+            first,
+            &mut left.decisions,
+            &mut left.matrix,
+            &mut left.sweeps,
+            second,
+            &mut left2.decisions,
+            &mut left2.matrix,
+            &mut left2.sweeps,
         )
     } else {
         bench::pass_two(
-            first, decisions, matrix, sweeps, second, decisions2, matrix2, sweeps2,
+            first,
+            &mut left.decisions,
+            &mut left.matrix,
+            &mut left.sweeps,
+            second,
+            &mut left2.decisions,
+            &mut left2.matrix,
+            &mut left2.sweeps,
         )
     }
 }
 
-fn total(a: Answer) -> u64
+fn total(a: Result<Passed, Refusal>) -> u64
     ensures { result ≡ total_of a }
 {
     match a {
-        Answer::Passed {
-            cars: _,
-            stops: _,
-            total,
-            ranked: _,
-            held: _,
-        } => total,
-        Answer::Refused {
-            number: _,
-            offset: _,
-        } => 0,
+        Ok(passed) => passed.total,
+        Err(_) => 0,
     }
 }
 
@@ -250,40 +245,20 @@ fn run_pair(s: &[u8], at: usize, p: Stored, q: Stored, barred: bool) -> Compared
     ensures second { result.second.differ ≡ differs_at s.now p.next q }
     ensures lower { result.lower ≡ lower_at s.now at p q }
 {
-    let start = at + 2;
-    let end = p.end;
-    let start2 = p.next + 2;
-    let end2 = q.end;
-    let mut decisions = [0xffff_ffffu32; 32];
-    let mut matrix = [0xffff_ffff_ffff_ffffu64; 2048];
-    let mut sweeps = [0xffu8; 32];
-    let mut decisions2 = [0xffff_ffffu32; 32];
-    let mut matrix2 = [0xffff_ffff_ffff_ffffu64; 2048];
-    let mut sweeps2 = [0xffu8; 32];
-    let a = pass_both(
+    let mut left = Buffers::ones();
+    let mut left2 = Buffers::ones();
+    let both = pass_both(
         barred,
-        &s[start..end],
-        &mut decisions,
-        &mut matrix,
-        &mut sweeps,
-        &s[start2..end2],
-        &mut decisions2,
-        &mut matrix2,
-        &mut sweeps2,
+        p.sheet(s, at),
+        &mut left,
+        q.sheet(s, p.next),
+        &mut left2,
     );
-    let one = a.first;
-    let two = a.second;
     Compared {
-        first: stored_passes::answered(s, p, one, &decisions, &matrix, &sweeps),
-        second: stored_passes::answered(s, q, two, &decisions2, &matrix2, &sweeps2),
-        lower: total(two) < total(one),
+        first: stored_passes::answered(s, p, both.first, &left),
+        second: stored_passes::answered(s, q, both.second, &left2),
+        lower: total(both.second) < total(both.first),
     }
-}
-
-fn one_if(b: bool) -> u64
-    ensures { result ≡ bit b }
-{
-    if b { 1 } else { 0 }
 }
 
 // Sheets that are no pair.
@@ -291,98 +266,91 @@ fn report_sheets(rt: &impl Print, k: u64, at: usize, pair: bool) -> io::Result<(
     if pair {
         return Ok(());
     }
-    stored_passes::print_number(rt, b"pair ", k)?;
-    stored_passes::print_number(rt, b" at byte ", at as u64)?;
-    println!(rt; ": not one sheet with its limit raised, nor with bars added")
+    println!(rt; "pair {k} at byte {at}: not one sheet with its limit raised, nor with bars added")
 }
 
-// One pair more, with so many cells and entries that differ.
-fn tally(t: Totals, change: Change, lower: bool, cells: u64, differ: u64) -> Totals
-    requires { Room t cells differ }
-    ensures { result ≡ tallied t change lower cells differ }
-{
-    let raised = one_if(change.raised);
-    let falls = one_if(change.raised & lower);
-    let barred = one_if(change.barred);
-    let limited = one_if(change.barred & change.limited);
-    let fallen = one_if(change.barred & lower);
-    let other = one_if(!(change.raised | change.barred));
-    Totals {
-        pairs: t.pairs + 1,
-        raised: t.raised + raised,
-        lower: t.lower + falls,
-        barred: t.barred + barred,
-        limited: t.limited + limited,
-        fallen: t.fallen + fallen,
-        cells: t.cells + cells,
-        differ: t.differ + other + differ,
+impl Totals {
+    // One pair more, with so many cells and entries that differ.
+    fn tally(self, change: Change, lower: bool, cells: u64, differ: u64) -> Self
+        requires { Room self cells differ }
+        ensures { result ≡ tallied self change lower cells differ }
+    {
+        Totals {
+            pairs: self.pairs + 1,
+            raised: self.raised + u64::from(change.raised),
+            lower: self.lower + u64::from(change.raised & lower),
+            barred: self.barred + u64::from(change.barred),
+            limited: self.limited + u64::from(change.barred & change.limited),
+            fallen: self.fallen + u64::from(change.barred & lower),
+            cells: self.cells + cells,
+            differ: self.differ + u64::from(!change.is_one()) + differ,
+        }
+    }
+
+    // The pair of the cases at byte at and at its end, compared.
+    fn compare(self, rt: &impl Print, s: &[u8], at: usize, p: Stored, q: Stored) -> Step<Self>
+        requires { (at + 2 ≤ p.end) × Inside s.now p × (p.next + 2 ≤ q.end) × Inside s.now q × Counted at self }
+        ensures { Turned s.now at (compared_at s.now at p q self) result }
+    {
+        let first = p.sheet(s, at);
+        let second = q.sheet(s, p.next);
+        let change = Change::of(first, second);
+        let _ = report_sheets(rt, self.pairs, at, change.is_one());
+        let x = run_pair(s, at, p, q, change.barred);
+        let _ = stored_passes::report(rt, b"first of pair ", self.pairs, at, x.first);
+        let _ = stored_passes::report(rt, b"second of pair ", self.pairs, p.next, x.second);
+        let cells = p.size + q.size;
+        let differ = x.first.differ + x.second.differ;
+        Step {
+            next: q.next,
+            totals: self.tally(change, x.lower, cells as u64, differ),
+        }
+    }
+
+    // A pair that is cut short ends the run, and counts as a difference.
+    fn cut(self, rt: &impl Print, s: &[u8], at: usize) -> Step<Self>
+        requires { (at < length s.now) × Counted at self }
+        ensures { Turned s.now at (cut_at s.now self) result }
+    {
+        let _ = println!(rt; "no whole pair at byte {at}");
+        Step {
+            next: s.len(),
+            totals: Totals {
+                differ: self.differ + 1,
+                ..self
+            },
+        }
+    }
+
+    // The pair at byte at, whose first case is whole.
+    fn second(self, rt: &impl Print, s: &[u8], at: usize, p: Stored) -> Step<Self>
+        requires { (at < length s.now) × (at + 2 ≤ p.end) × Inside s.now p × Counted at self }
+        ensures { Turned s.now at (second_by (case_of s.now p.next) s.now at p self) result }
+    {
+        match stored_passes::case_at(s, p.next) {
+            Some(q) => self.compare(rt, s, at, p, q),
+            None => self.cut(rt, s, at),
+        }
     }
 }
 
-// The pair of the cases at byte at and at its end, compared.
-fn compare(rt: &impl Print, s: &[u8], at: usize, p: Stored, q: Stored, t: Totals) -> Step
-    requires { (at + 2 ≤ p.end) × Inside s.now p × (p.next + 2 ≤ q.end) × Inside s.now q × Counted at t }
-    ensures { Turned s.now at (compared_at s.now at p q t) result }
-{
-    let change = change_at(s, at, p, q);
-    let _ = report_sheets(rt, t.pairs, at, change.raised | change.barred);
-    let x = run_pair(s, at, p, q, change.barred);
-    let _ = stored_passes::report(rt, b"first of pair ", t.pairs, at, x.first);
-    let _ = stored_passes::report(rt, b"second of pair ", t.pairs, p.next, x.second);
-    let cells = p.size + q.size;
-    let differ = x.first.differ + x.second.differ;
-    Step {
-        next: q.next,
-        totals: tally(t, change, x.lower, cells as u64, differ),
-    }
-}
+impl Replay for Totals {
+    ghost turn_of = { turn_of };
 
-// A pair that is cut short ends the run, and counts as a difference.
-fn cut(rt: &impl Print, s: &[u8], at: usize, t: Totals) -> Step
-    requires { (at < length s.now) × Counted at t }
-    ensures { Turned s.now at (cut_at s.now t) result }
-{
-    let _ = println!(rt; "no whole pair at byte {at}");
-    Step {
-        next: s.len(),
-        totals: Totals {
-            pairs: t.pairs,
-            raised: t.raised,
-            lower: t.lower,
-            barred: t.barred,
-            limited: t.limited,
-            fallen: t.fallen,
-            cells: t.cells,
-            differ: t.differ + 1,
-        },
-    }
-}
+    ghost can_turn = { λ s at t. Counted at t };
 
-// The pair at byte at, whose first case is whole.
-fn second(rt: &impl Print, s: &[u8], at: usize, p: Stored, t: Totals) -> Step
-    requires { (at < length s.now) × (at + 2 ≤ p.end) × Inside s.now p × Counted at t }
-    ensures { Turned s.now at (second_by (case_of s.now p.next) s.now at p t) result }
-{
-    match stored_passes::case_at(s, p.next) {
-        Place::Whole(q) => compare(rt, s, at, p, q, t),
-        Place::Cut => cut(rt, s, at, t),
-    }
-}
-
-fn turn(rt: &impl Print, s: &[u8], at: usize, t: Totals) -> Step
-    requires { (at < length s.now) × Counted at t }
-    ensures { Turned s.now at (turn_of s.now at t) result }
-{
-    match stored_passes::case_at(s, at) {
-        Place::Whole(p) => second(rt, s, at, p, t),
-        Place::Cut => cut(rt, s, at, t),
+    fn turn(self, rt: &impl Print, s: &[u8], at: usize) -> Step<Self> {
+        match stored_passes::case_at(s, at) {
+            Some(p) => self.second(rt, s, at, p),
+            None => self.cut(rt, s, at),
+        }
     }
 }
 
 fn run(rt: &impl Print, s: &[u8]) -> Totals
     ensures { Replayed s.now result }
 {
-    let mut t = Totals {
+    let none = Totals {
         pairs: 0,
         raised: 0,
         lower: 0,
@@ -392,27 +360,26 @@ fn run(rt: &impl Print, s: &[u8]) -> Totals
         cells: 0,
         differ: 0,
     };
-    let mut at: usize = 0;
-    while at < s.len() {
-        let next = turn(rt, s, at, t);
-        t = next.totals;
-        at = next.next;
-    }
-    t
+    lists::replay_all(rt, s, none)
 }
 
 fn main(rt: HostRuntime) -> io::Result<()> {
-    let mut buffer = list_buffer();
-    let mut input = rt.reader();
-    let n = lists::read_full(&mut input, &mut buffer)?;
-    let t = run(&rt, &buffer[..n]);
-    stored_passes::print_number(&rt, b"", t.pairs)?;
-    stored_passes::print_number(&rt, b" pairs compared: ", t.raised)?;
-    stored_passes::print_number(&rt, b" with the limit raised, ", t.lower)?;
-    stored_passes::print_number(&rt, b" of them with a lower total; ", t.barred)?;
-    stored_passes::print_number(&rt, b" with bars added, ", t.limited)?;
-    stored_passes::print_number(&rt, b" of them under a limit, ", t.fallen)?;
-    stored_passes::print_number(&rt, b" of them with a lower total; ", t.cells)?;
-    stored_passes::print_number(&rt, b" cells, ", t.differ)?;
-    println!(rt; " differences")
+    let list = lists::read_list(rt.alloc(), &mut rt.reader(), LIMIT)?;
+    let Totals {
+        pairs,
+        raised,
+        lower,
+        barred,
+        limited,
+        fallen,
+        cells,
+        differ,
+    } = run(&rt, &list);
+    print!(rt;
+        "{pairs} pairs compared: {raised} with the limit raised, {lower} of them with a lower total; "
+    )?;
+    print!(rt;
+        "{barred} with bars added, {limited} of them under a limit, {fallen} of them with a lower total; "
+    )?;
+    println!(rt; "{cells} cells, {differ} differences")
 }

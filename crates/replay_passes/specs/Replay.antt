@@ -1,18 +1,16 @@
 -- The totals of a replay: how many sheets, matrices of the Rust's and cells were compared, and how many entries differ. Assumes nothing.
-use Rattle.std.specs.Prelude.{ℕ, ◌+◌, ◌-◌, ◌≤◌, ◌<◌, ◌≡◌, List, eqb, length, get_or}
+use Rattle.std.specs.Prelude.{ℕ, ◌+◌, ◌-◌, ◌≤◌, ◌<◌, ◌≡◌, Option, Some, None, List, eqb, length, get_or}
 use Rattle.std.proofs.Common.{ap, ap₂, ◌∙◌, arith}
 use Rattle.laws.specs.Bools.{bit, bit-lt}
-use Rattle.lists.specs.Turns.{Reached}
-use Rattle.stored_passes.specs.declared.Place.{Place}
-use Rattle.stored_passes.specs.declared.Place.TheVariants.{Whole, Cut}
+use Rattle.lists.specs.Turns.{Turned, Replayed as replayed}
+use Rattle.lists.specs.declared.Step.{Step}
 use Rattle.stored_passes.specs.declared.Stored.{Stored}
 use Rattle.stored_passes.specs.Cases.{Inside, Placed, case_of}
 use Rattle.stored_passes.specs.Passes.{differs_at, differs_at_le}
 use Rattle.replay_passes.specs.declared.Totals.{Totals}
-use Rattle.replay_passes.specs.declared.Step.{Step}
 
 -- after the case at byte at
-abbrev pub compared_at : List ℕ → ℕ → Stored → Totals → Step
+abbrev pub compared_at : List ℕ → ℕ → Stored → Totals → Step Totals
 compared_at s at p t =
     record {
       next = p.next;
@@ -25,24 +23,23 @@ compared_at s at p t =
     }
 
 -- after a case that is cut short
-abbrev pub cut_at : List ℕ → Totals → Step
+abbrev pub cut_at : List ℕ → Totals → Step Totals
 cut_at s t = record { next = length s; totals = record { sheets = t.sheets; built = t.built; cells = t.cells; differ = t.differ + 1 } }
 
-unfoldable pub step_by : Place → List ℕ → ℕ → Totals → Step
-step_by (Whole p) s at t = compared_at s at p t
-step_by Cut s at t = cut_at s t
+unfoldable pub step_by : Option Stored → List ℕ → ℕ → Totals → Step Totals
+step_by (Some p) s at t = compared_at s at p t
+step_by None s at t = cut_at s t
 
-abbrev pub turn_of : List ℕ → ℕ → Totals → Step
+abbrev pub turn_of : List ℕ → ℕ → Totals → Step Totals
 turn_of s at t = step_by (case_of s at) s at t
 
--- byte at is reached with these totals
-abbrev pub Met : List ℕ → ℕ → Totals → Type 0
-Met s at t = Reached (λ (p : Step). p.next) (λ p. p.totals) (turn_of s)
-    (record { next = 0; totals = record { sheets = 0; built = 0; cells = 0; differ = 0 } }) (length s) at t
+-- before the first case
+abbrev pub no_totals : Totals
+no_totals = record { sheets = 0; built = 0; cells = 0; differ = 0 }
 
 -- the totals after the whole list
 abbrev pub Replayed : List ℕ → Totals → Type 0
-Replayed s t = Met s (length s) t
+Replayed s t = replayed (turn_of s) (length s) no_totals t
 
 -- no count is above the number of bytes that were read
 pub record Counted (at : ℕ) (t : Totals) : Type 0 where
@@ -76,24 +73,18 @@ compared_is s at p t {built} {differ} b i h eb ed = (
 )
 
 -- what a turn leaves
-pub record Turned (s : List ℕ) (at : ℕ) (t : Totals) (r : Step) : Type 0 where
-  pub is : r ≡ turn_of s at t
-  pub on : at < r.next
-  pub within : r.next ≤ length s
-  pub counted : Counted r.next r.totals
-
-pub turned_by : (s : List ℕ) (at : ℕ) (t : Totals) (v : Place) {r : Step} → at < length s → Counted at t → v ≡ case_of s at
+pub turned_by : (s : List ℕ) (at : ℕ) (t : Totals) (v : Option Stored) {r : Step Totals} → at < length s → v ≡ case_of s at
     → Placed s (at + 2) v
-    → r ≡ step_by v s at t → Counted r.next r.totals → Turned s at t r
+    → r ≡ step_by v s at t → Counted r.next r.totals → Turned (turn_of s) (λ a u. Counted a u) (length s) at t r
 unfolding step_by
-turned_by s at t (Whole p) {r} l h e i er k =
-    let next : r.next ≡ p.next = ap (λ (z : Step). z.next) er in
+turned_by s at t (Some p) {r} l e i er k =
+    let next : r.next ≡ p.next = ap (λ (z : Step Totals). z.next) er in
     record {
-      is = er ∙ ap (λ (v : Place). step_by v s at t) e;
+      is = er ∙ ap (λ (v : Option Stored). step_by v s at t) e;
       on = omega (arith, next, i.0, i.1.decisions_from, i.1.cells_from, i.1.sweeps_from, i.1.ends);
       within = omega (arith, next, i.1.inside);
-      counted = k;
+      can = k;
     }
-turned_by s at t Cut {r} l h e i er k =
-    let next : r.next ≡ length s = ap (λ (z : Step). z.next) er in
-    record { is = er ∙ ap (λ (v : Place). step_by v s at t) e; on = omega (arith, next); within = omega (arith, next); counted = k }
+turned_by s at t None {r} l e i er k =
+    let next : r.next ≡ length s = ap (λ (z : Step Totals). z.next) er in
+    record { is = er ∙ ap (λ (v : Option Stored). step_by v s at t) e; on = omega (arith, next); within = omega (arith, next); can = k }

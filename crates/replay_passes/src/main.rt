@@ -12,14 +12,17 @@
 // written.
 #![tactic(auto)]
 
-ghost use Rattle.std.specs.Prelude.{◌≡◌, ◌+◌, ◌≤◌, ◌<◌, length};
-ghost use Rattle.laws.specs.Bools.{bit};
+ghost use Rattle.std.specs.Prelude.{◌≡◌, ◌+◌, ◌≤◌};
 ghost use Rattle.stored_passes.specs.Cases.{Inside};
 ghost use Rattle.stored_passes.specs.Passes.{differs_at};
-ghost use Rattle.replay_passes.specs.Replay.{compared_at, cut_at, Counted, Turned, Replayed};
+ghost use Rattle.replay_passes.specs.Replay.{compared_at, turn_of, Counted, Replayed};
 
+use lists::{Replay, Step};
 use std::io;
-use stored_passes::{Place, Stored, Tally};
+use stored_passes::{Buffers, Stored, Tally};
+
+// The list's bytes that are read.
+const LIMIT: usize = 131072;
 
 #[derive(Clone, Copy)]
 struct Totals {
@@ -29,113 +32,86 @@ struct Totals {
     differ: u64,
 }
 
-// Where the next case starts, and the totals so far.
-#[derive(Clone, Copy)]
-struct Step {
-    next: usize,
-    totals: Totals,
-}
-
-// Room for the list.
-fn list_buffer() -> [u8; 131072]
-    ensures { 131072 ≡ length result }
-{
-    [0; 131072]
-}
-
 // The pass on the sheet of the case at byte at.
 fn run_case(s: &[u8], at: usize, p: Stored) -> Tally
     requires { (at + 2 ≤ p.end) × Inside s.now p }
     ensures { result.differ ≡ differs_at s.now at p }
 {
-    let start = at + 2;
-    let end = p.end;
-    let mut decisions = [0xffff_ffffu32; 32];
-    let mut matrix = [0xffff_ffff_ffff_ffffu64; 2048];
-    let mut sweeps = [0xffu8; 32];
-    let answer = bench::pass(&s[start..end], &mut decisions, &mut matrix, &mut sweeps);
-    stored_passes::answered(s, p, answer, &decisions, &matrix, &sweeps)
+    let mut left = Buffers::ones();
+    let sheet = p.sheet(s, at);
+    let answer = bench::pass(
+        sheet,
+        &mut left.decisions,
+        &mut left.matrix,
+        &mut left.sweeps,
+    );
+    stored_passes::answered(s, p, answer, &left)
 }
 
-fn one_if(b: bool) -> u64
-    ensures { result ≡ bit b }
-{
-    if b { 1 } else { 0 }
-}
-
-// The case at byte at, compared.
-fn compare(rt: &impl Print, s: &[u8], at: usize, p: Stored, t: Totals) -> Step
-    requires { (at + 2 ≤ p.end) × Inside s.now p × Counted at t }
-    ensures { (result ≡ compared_at s.now at p t) × Counted result.next result.totals }
-{
-    let d = run_case(s, at, p);
-    let _ = stored_passes::report(rt, b"sheet ", t.sheets, at, d);
-    let last = p.next - 1;
-    let built = one_if(s[last] == 1);
-    Step {
-        next: p.next,
-        totals: Totals {
-            sheets: t.sheets + 1,
-            built: t.built + built,
-            cells: t.cells + p.size as u64,
-            differ: t.differ + d.differ,
-        },
+impl Totals {
+    // The case at byte at, compared.
+    fn compare(self, rt: &impl Print, s: &[u8], at: usize, p: Stored) -> Step<Self>
+        requires { (at + 2 ≤ p.end) × Inside s.now p × Counted at self }
+        ensures { (result ≡ compared_at s.now at p self) × Counted result.next result.totals }
+    {
+        let d = run_case(s, at, p);
+        let _ = stored_passes::report(rt, b"sheet ", self.sheets, at, d);
+        let built = s[p.next - 1] == 1;
+        Step {
+            next: p.next,
+            totals: Totals {
+                sheets: self.sheets + 1,
+                built: self.built + u64::from(built),
+                cells: self.cells + p.size as u64,
+                differ: self.differ + d.differ,
+            },
+        }
     }
 }
 
-// A case that is cut short ends the run, and counts as a difference.
-fn cut(rt: &impl Print, s: &[u8], at: usize, t: Totals) -> Step
-    requires { (at < length s.now) × Counted at t }
-    ensures { (result ≡ cut_at s.now t) × Counted result.next result.totals }
-{
-    let _ = println!(rt; "no whole case at byte {at}");
-    Step {
-        next: s.len(),
-        totals: Totals {
-            sheets: t.sheets,
-            built: t.built,
-            cells: t.cells,
-            differ: t.differ + 1,
-        },
-    }
-}
+impl Replay for Totals {
+    ghost turn_of = { turn_of };
 
-fn turn(rt: &impl Print, s: &[u8], at: usize, t: Totals) -> Step
-    requires { (at < length s.now) × Counted at t }
-    ensures { Turned s.now at t result }
-{
-    match stored_passes::case_at(s, at) {
-        Place::Whole(p) => compare(rt, s, at, p, t),
-        Place::Cut => cut(rt, s, at, t),
+    ghost can_turn = { λ s at t. Counted at t };
+
+    // A case that is cut short ends the run, and counts as a difference.
+    fn turn(self, rt: &impl Print, s: &[u8], at: usize) -> Step<Self> {
+        match stored_passes::case_at(s, at) {
+            Some(p) => self.compare(rt, s, at, p),
+            None => lists::cut(
+                rt,
+                s,
+                at,
+                Totals {
+                    differ: self.differ + 1,
+                    ..self
+                },
+            ),
+        }
     }
 }
 
 fn run(rt: &impl Print, s: &[u8]) -> Totals
     ensures { Replayed s.now result }
 {
-    let mut t = Totals {
+    let none = Totals {
         sheets: 0,
         built: 0,
         cells: 0,
         differ: 0,
     };
-    let mut at: usize = 0;
-    while at < s.len() {
-        let next = turn(rt, s, at, t);
-        t = next.totals;
-        at = next.next;
-    }
-    t
+    lists::replay_all(rt, s, none)
 }
 
 fn main(rt: HostRuntime) -> io::Result<()> {
-    let mut buffer = list_buffer();
-    let mut input = rt.reader();
-    let n = lists::read_full(&mut input, &mut buffer)?;
-    let t = run(&rt, &buffer[..n]);
-    stored_passes::print_number(&rt, b"", t.sheets)?;
-    stored_passes::print_number(&rt, b" sheets compared, ", t.built)?;
-    stored_passes::print_number(&rt, b" with a matrix of the Rust's; ", t.cells)?;
-    stored_passes::print_number(&rt, b" cells, ", t.differ)?;
-    println!(rt; " differences")
+    let list = lists::read_list(rt.alloc(), &mut rt.reader(), LIMIT)?;
+    let Totals {
+        sheets,
+        built,
+        cells,
+        differ,
+    } = run(&rt, &list);
+    println!(rt;
+        "{sheets} sheets compared, {built} with a matrix of the Rust's; {cells} cells, {differ} differences"
+    )
 }

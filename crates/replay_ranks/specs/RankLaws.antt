@@ -1,27 +1,23 @@
 -- What the proved functions answer of a pair is the sheet's rank. Assumes nothing.
-use Rattle.std.specs.Prelude.{ℕ, zero, suc, ◌*◌, ◌<◌, ◌≡◌, Bool, true, false, not, List, Float}
-use Rattle.std.proofs.Common.{sym, ap, ◌∙◌, mul-zero, arith}
+use Rattle.std.specs.Prelude.{Ok}
+use Rattle.std.specs.Prelude.{ℕ, zero, suc, ◌*◌, ◌<◌, ◌≡◌, true, false, List, Float}
+use Rattle.std.proofs.Common.{sym, ap, mul-zero, arith}
 use Rattle.std.specs.Float.{nan, binary64}
 use Rattle.std.specs.Float.Ieee.{eq, to_bits}
-use Rattle.laws.specs.Bools.{bit}
 use Rattle.fp.specs.Num as num
-use Rattle.components.specs.Sheet.{Sheet}
 use Rattle.layout.specs.declared.Counts.{Counts}
-use Rattle.layout.specs.declared.Reading.TheVariants.{Accepted}
 use Rattle.layout.specs.Records.{sheet_of}
 use Rattle.layout.specs.Verdict.{verdict}
 use Rattle.accepted.specs.Accepted.{accepted}
 use Rattle.manifest.specs.declared.Waiters.{Waiters}
 use Rattle.manifest.specs.Stops.{HoldsStops}
 use Rattle.assignment.specs.Cells.{rank}
-use Rattle.ranking.specs.declared.Row.{Row}
+use Rattle.dispatch.specs.declared.Row.{Row}
 use Rattle.ranking.specs.Ranking.{rank_by}
 use Rattle.ranking.specs.RankingLaws.{HoldsRow, rank_is}
 use Rattle.rows.specs.Gathered.{waiters_at, Gathered, gathered_held}
 use Rattle.cells.specs.Survey.{weighed_of}
-use Rattle.replay_ranks.specs.declared.Answer.{Answer}
-use Rattle.replay_ranks.specs.declared.Pair.{Pair}
-use Rattle.replay_ranks.specs.Ranks.{bits_of, answer_for, same, differs}
+use Rattle.replay_ranks.specs.Ranks.{bits_of}
 
 -- ---- bits
 
@@ -44,21 +40,9 @@ pub some_stop : (k a b : ℕ) → k < a * b → 0 < b
 some_stop k a zero l = absurd (omega (arith, mul-zero a))
 some_stop k a (suc b) l = omega arith
 
--- ---- a pair
-
-pub agrees : (s : Sheet) (p : Pair) {a : Answer} {b : Bool} → a ≡ answer_for s p.car p.stop → b ≡ same a p.stored → b ≡ true
-    → 0 ≡ bit (differs s p)
-unfolding differs
-agrees s p {a} {b} ea eb e = ap (λ (z : Bool). bit (not z)) (sym e ∙ eb ∙ ap (λ (z : Answer). same z p.stored) ea)
-
-pub disagrees : (s : Sheet) (p : Pair) {a : Answer} {b : Bool} → a ≡ answer_for s p.car p.stop → b ≡ same a p.stored → b ≡ false
-    → 1 ≡ bit (differs s p)
-unfolding differs
-disagrees s p {a} {b} ea eb e = ap (λ (z : Bool). bit (not z)) (sym e ∙ eb ∙ ap (λ (z : Answer). same z p.stored) ea)
-
 -- ---- the rank
 
-module _ (bytes : List ℕ) (c : Counts) (e : verdict bytes ≡ Accepted c) (ids : List ℕ) (xs : List Float)
+module _ (bytes : List ℕ) (c : Counts) (e : verdict bytes ≡ Ok c) (ids : List ℕ) (xs : List Float)
     (hs : HoldsStops (sheet_of bytes c) ids xs (sheet_of bytes c).stops) where
   pub ranked : (i j limit : ℕ) → i < (sheet_of bytes c).cars → j < (sheet_of bytes c).stops → (row : Row) {dests sides : List Float}
       → HoldsRow (sheet_of bytes c) i limit row dests sides

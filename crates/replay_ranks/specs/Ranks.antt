@@ -1,24 +1,24 @@
 -- What a stored case asks, and what the proved functions answer. Assumes nothing.
+use Rattle.std.specs.Prelude.{Err, Ok, Result}
+use Rattle.layout.specs.declared.Refusal.{Refusal}
+use Rattle.layout.specs.declared.Counts.{Counts}
+use Rattle.std.specs.Prelude.{None, Option, Some}
 use Rattle.std.specs.Prelude.{ℕ, ◌+◌, ◌-◌, ◌*◌, ◌/◌, ◌%◌, ◌≤◌, ◌≡◌, Bool, not, ◌&&◌, cond, List, eqb, ltb, length, take, drop, Float}
 use Rattle.std.specs.Float.{binary64}
 use Rattle.std.specs.Float.Ieee.{eq, to_bits}
 use Rattle.laws.specs.Folds.{count}
 use Rattle.fp.specs.Num as num
 use Rattle.bits.specs.Field.{field_at}
-use Rattle.components.specs.declared.Rank.{Rank}
-use Rattle.components.specs.declared.Rank.TheVariants.{Never, Cost}
 use Rattle.components.specs.Sheet.{Sheet}
-use Rattle.layout.specs.declared.Reading.{Reading}
-use Rattle.layout.specs.declared.Reading.TheVariants.{Refused, Accepted}
 use Rattle.layout.specs.Records.{sheet_of}
 use Rattle.layout.specs.Verdict.{verdict}
 use Rattle.assignment.specs.Cells.{rank}
-use Rattle.lists.specs.Turns.{Reached}
+use Rattle.lists.specs.Turns.{Replayed as AllReplayed}
+use Rattle.lists.specs.declared.Step.{Step}
 use Rattle.replay_ranks.specs.declared.Answer.{Answer}
 use Rattle.replay_ranks.specs.declared.Pair.{Pair}
 use Rattle.replay_ranks.specs.declared.Case.{Case}
 use Rattle.replay_ranks.specs.declared.Totals.{Totals}
-use Rattle.replay_ranks.specs.declared.Step.{Step}
 
 -- ---- a rank as the list has it
 
@@ -26,9 +26,9 @@ use Rattle.replay_ranks.specs.declared.Step.{Step}
 unfoldable pub bits_of : Float → ℕ
 bits_of x = cond (eq x num.zero) 0 (to_bits binary64 x)
 
-abbrev pub answer_of : Rank → Answer
-answer_of Never = record { ranked = 0; bits = 0 }
-answer_of (Cost x) = record { ranked = 1; bits = bits_of x }
+abbrev pub answer_of : Option Float → Answer
+answer_of None = record { ranked = 0; bits = 0 }
+answer_of (Some x) = record { ranked = 1; bits = bits_of x }
 
 -- of car record i and stop record j; a number that no byte holds where there is no such record
 unfoldable pub answer_for : Sheet → ℕ → ℕ → Answer
@@ -68,14 +68,14 @@ pair_at s case k =
 -- ---- the totals
 
 -- a refused sheet counts as one that differs
-abbrev pub refused_at : Case → Totals → Step
+abbrev pub refused_at : Case → Totals → Step Totals
 refused_at case t =
     record { next = case.next; totals = record { sheets = t.sheets + 1; ranks = t.ranks; differ = t.differ + 1 } }
 
 -- after a case, by the verdict on its sheet b
-unfoldable pub compared_by : Reading → List ℕ → List ℕ → Case → Totals → Step
-compared_by (Refused n o) s b case t = refused_at case t
-compared_by (Accepted c) s b case t =
+unfoldable pub compared_by : Result Counts Refusal → List ℕ → List ℕ → Case → Totals → Step Totals
+compared_by (Err r) s b case t = refused_at case t
+compared_by (Ok c) s b case t =
     record {
       next = case.next;
       totals = record {
@@ -86,24 +86,23 @@ compared_by (Accepted c) s b case t =
     }
 
 -- after a case that is cut short
-abbrev pub cut_at : List ℕ → Totals → Step
+abbrev pub cut_at : List ℕ → Totals → Step Totals
 cut_at s t = record { next = length s; totals = record { sheets = t.sheets; ranks = t.ranks; differ = t.differ + 1 } }
 
 -- after the case at byte at; b is its sheet
-unfoldable pub turn_of : List ℕ → ℕ → Totals → Step
+unfoldable pub turn_of : List ℕ → ℕ → Totals → Step Totals
 turn_of s at t =
     let case = case_at s at in
     let b = take (case.end - (at + 2)) (drop (at + 2) s) in
     cond (ltb (length s) case.next) (cut_at s t) (compared_by (verdict b) s b case t)
 
--- byte at is reached with these totals
-abbrev pub Met : List ℕ → ℕ → Totals → Type 0
-Met s at t = Reached (λ (p : Step). p.next) (λ p. p.totals) (turn_of s)
-    (record { next = 0; totals = record { sheets = 0; ranks = 0; differ = 0 } }) (length s) at t
+-- before the first case
+abbrev pub none : Totals
+none = record { sheets = 0; ranks = 0; differ = 0 }
 
 -- the totals after the whole list
 abbrev pub Replayed : List ℕ → Totals → Type 0
-Replayed s t = Met s (length s) t
+Replayed s t = AllReplayed (turn_of s) (length s) none t
 
 -- ---- bounds
 

@@ -15,29 +15,42 @@
 // written.
 #![tactic(auto)]
 
-ghost use Rattle.std.specs.Prelude.{◌≡◌, ◌+◌, ◌*◌, ◌^◌, ◌≤◌, ◌<◌, length};
-ghost use Rattle.laws.specs.Bools.{bit};
+ghost use Rattle.std.specs.Prelude.{◌≡◌, ◌+◌, ◌*◌, ◌^◌, ◌≤◌, ◌<◌, length, Ok};
 ghost use Rattle.laws.specs.Folds.{count};
 ghost use Rattle.bits.specs.Field.{IsField};
-ghost use Rattle.layout.specs.declared.Reading.TheVariants.{Accepted};
 ghost use Rattle.layout.specs.Records.{sheet_of};
 ghost use Rattle.layout.specs.Verdict.{verdict};
 ghost use Rattle.assignment.specs.Cells.{rank};
 ghost use Rattle.cells.specs.Survey.{SeenStops};
-ghost use Rattle.replay_ranks.specs.Ranks.{bits_of, answer_of, answer_for, same, differs, case_at, pair_at, refused_at, compared_by, cut_at, Inside};
+ghost use Rattle.replay_ranks.specs.Ranks.{bits_of, answer_of, answer_for, differs, case_at, pair_at, refused_at, compared_by, turn_of, Inside};
 ghost use Rattle.replay_ranks.specs.Ranks.{Counted, Replayed};
-ghost use Rattle.replay_ranks.specs.TurnLaws.{Turned};
 
-use components::Rank;
-use layout::{Counts, Reading};
+use layout::Counts;
+use lists::{Replay, Step};
+use manifest::Stops;
 use pending::StopMasks;
-use std::io;
+use riders::Destinations;
+use std::{fmt, io};
 
-// A mark, 1 where there is a rank and 0 where there is none, and the rank's bits.
-#[derive(Clone, Copy)]
+// An answer as the list stores it: a mark, 1 where there is a rank and 0 where there is none, and the rank's bits. A stored one may have any mark
+// beside any bits.
+#[derive(Clone, Copy, PartialEq, Eq)]
 struct Answer {
     ranked: u64,
     bits: u64,
+}
+
+// The bits in hexadecimal, or none. Before bits of what is neither stands its mark.
+impl fmt::Display for Answer {
+    fn fmt<W: fmt::Write>(&self, f: &mut fmt::Formatter<W>) -> fmt::Result {
+        let ranked = self.ranked;
+        let bits = self.bits;
+        match (ranked, bits) {
+            (0, 0) => write!(f, "none"),
+            (1, _) => write!(f, "{bits:016x}"),
+            _ => write!(f, "mark {ranked} {bits:016x}"),
+        }
+    }
 }
 
 // A car record and a stop record, and what is stored of them.
@@ -58,25 +71,31 @@ struct Case {
     next: usize,
 }
 
-#[derive(Clone, Copy)]
+#[derive(Clone, Copy, Default)]
 struct Totals {
     sheets: u64,
     ranks: u64,
     differ: u64,
 }
 
-// Where the next case starts, and the totals so far.
-#[derive(Clone, Copy)]
-struct Step {
-    next: usize,
-    totals: Totals,
-}
+impl Replay for Totals {
+    ghost turn_of = { turn_of };
 
-// Room for the list.
-fn list_buffer() -> [u8; 262144]
-    ensures { 262144 ≡ length result }
-{
-    [0; 262144]
+    ghost can_turn = { λ s at t. (length s ≤ 262144) × Counted at t };
+
+    fn turn(self, rt: &impl Print, s: &[u8], at: usize) -> Step<Self> {
+        let case = case_at(s, at);
+        if s.len() < case.next {
+            let totals = Totals {
+                differ: self.differ + 1,
+                ..self
+            };
+            return lists::cut(rt, s, at, totals);
+        }
+        let start = at + 2;
+        let end = case.end;
+        compare(rt, s, &s[start..end], at, case, self)
+    }
 }
 
 // The bits of a double; of a zero of either sign 0.
@@ -92,12 +111,12 @@ fn bits_of(x: f64) -> u64
     f64::to_bits(x)
 }
 
-fn answer_of(rank: Rank) -> Answer
+fn answer_of(rank: Option<f64>) -> Answer
     ensures { result ≡ answer_of rank }
 {
     match rank {
-        Rank::Never => Answer { ranked: 0, bits: 0 },
-        Rank::Cost(x) => Answer {
+        None => Answer { ranked: 0, bits: 0 },
+        Some(x) => Answer {
             ranked: 1,
             bits: bits_of(x),
         },
@@ -113,8 +132,8 @@ fn rank_by<'a>(
     ids: &'a [u32],
     xs: &'a [f64],
     masks: StopMasks,
-) -> Rank
-    requires s_value { (verdict s.now ≡ Accepted c) × (i < c.cars) × (j < c.stops) × (length ids.now ≡ 64) × (length xs.now ≡ 128) }
+) -> Option<f64>
+    requires s_value { (verdict s.now ≡ Ok c) × (i < c.cars) × (j < c.stops) × (length ids.now ≡ 64) × (length xs.now ≡ 128) }
     requires seen_stops { SeenStops (sheet_of s.now c) ids.now xs.now masks }
     ensures { result ≡ rank (sheet_of s.now c) i j }
 {
@@ -124,15 +143,22 @@ fn rank_by<'a>(
     let mut sums = [0.0f64; 320];
     let someone = cells::waiting(s, c, ids, xs, masks.calls, &mut sums);
     let v = rows::waiters_at(someone, masks.calls, &sums, j);
-    let n = c.stops as usize;
-    let x = row.car.position.along;
-    let halts = etd::intervening_stops(x, xs[j], row.demand, xs, n);
-    ranking::rank(row, &dests, &sides, v, xs, halts, n, j)
+    let stops = Stops {
+        ids,
+        points: xs,
+        count: c.stops as usize,
+    };
+    let bound = Destinations {
+        along: &dests,
+        across: &sides,
+    };
+    let halts = etd::intervening_stops(row.car.position.along, xs[j], row.demand, &stops);
+    ranking::rank(&row, &bound, v, &stops, halts, j)
 }
 
 // The rank of car i for stop j of an accepted sheet.
-fn rank_of(s: &[u8], c: Counts, i: u32, j: usize) -> Rank
-    requires { (verdict s.now ≡ Accepted c) × (i < c.cars) × (j < c.stops) }
+fn rank_of(s: &[u8], c: Counts, i: u32, j: usize) -> Option<f64>
+    requires { (verdict s.now ≡ Ok c) × (i < c.cars) × (j < c.stops) }
     ensures { result ≡ rank (sheet_of s.now c) i j }
 {
     let mut ids = [0u32; 64];
@@ -144,26 +170,20 @@ fn rank_of(s: &[u8], c: Counts, i: u32, j: usize) -> Rank
 // What the proved functions answer of a pair. Where there is no such car or stop, 256, which no byte holds, so that it differs from all that is
 // stored.
 fn answer_for(s: &[u8], c: Counts, i: u64, j: u64) -> Answer
-    requires { verdict s.now ≡ Accepted c }
+    requires { verdict s.now ≡ Ok c }
     ensures { result ≡ answer_for (sheet_of s.now c) i j }
 {
     let none = Answer {
         ranked: 256,
         bits: 0,
     };
-    if c.cars as u64 <= i {
+    if u64::from(c.cars) <= i {
         return none;
     }
-    if c.stops as u64 <= j {
+    if u64::from(c.stops) <= j {
         return none;
     }
     answer_of(rank_of(s, c, i as u32, j as usize))
-}
-
-fn same(a: Answer, b: Answer) -> bool
-    ensures { result ≡ same a b }
-{
-    (a.ranked == b.ranked) & (a.bits == b.bits)
 }
 
 // The w bits from byte at on.
@@ -217,48 +237,22 @@ fn pair_at(s: &[u8], case: Case, k: usize) -> Pair
     Pair { car, stop, stored }
 }
 
-fn print_number(rt: &impl Print, text: &[u8], n: u64) -> io::Result<()> {
-    rt.write_all(text)?;
-    print!(rt; "{n}")
-}
-
-// The bits in hexadecimal, or none. Before bits of what is neither stands its mark.
-fn print_answer(rt: &impl Print, text: &[u8], a: Answer) -> io::Result<()> {
-    rt.write_all(text)?;
-    if (a.ranked == 0) & (a.bits == 0) {
-        return print!(rt; "none");
-    }
-    if a.ranked != 1 {
-        print_number(rt, b"mark ", a.ranked)?;
-        print!(rt; " ")?;
-    }
-    print!(rt; "{:016x}", a.bits)
-}
-
-// The line of the first pair that differs.
-fn print_pair(rt: &impl Print, at: usize, p: Pair, got: Answer) -> io::Result<()> {
-    print_number(rt, b"the case at byte ", at as u64)?;
-    print_number(rt, b": car ", p.car)?;
-    print_number(rt, b" stop ", p.stop)?;
-    print_answer(rt, b" got ", got)?;
-    print_answer(rt, b", expected ", p.stored)?;
-    println!(rt; "")
-}
-
-// 1 where a pair of the case at byte at differs, else 0. It is printed if it is the first.
-fn differ(rt: &impl Print, s: &[u8], c: Counts, p: Pair, at: usize, first: bool) -> u64
-    requires { verdict s.now ≡ Accepted c }
-    ensures { result ≡ bit (differs (sheet_of s.now c) p) }
+// Whether a pair of the case at byte at differs. It is printed if it is the first.
+fn differs(rt: &impl Print, s: &[u8], c: Counts, p: Pair, at: usize, first: bool) -> bool
+    requires { verdict s.now ≡ Ok c }
+    ensures { result ≡ differs (sheet_of s.now c) p }
 {
-    let got = answer_for(s, c, p.car, p.stop);
-    let stored = p.stored;
-    if same(got, stored) {
-        return 0;
+    let Pair { car, stop, stored } = p;
+    let got = answer_for(s, c, car, stop);
+    if got == stored {
+        return false;
     }
     if first {
-        let _ = print_pair(rt, at, p, got);
+        let _ = println!(rt;
+            "the case at byte {at}: car {car} stop {stop} got {got}, expected {stored}"
+        );
     }
-    1
+    true
 }
 
 // How many pairs of the case at byte at, which has the accepted sheet b, differ.
@@ -271,22 +265,19 @@ fn count_differ<'a>(
     at: usize,
     first: bool,
 ) -> u64
-    requires { (verdict b.now ≡ Accepted c) × Inside case }
+    requires { (verdict b.now ≡ Ok c) × Inside case }
     ensures { result ≡ count (λ k. differs (sheet_of b.now c) (pair_at s.now case k)) case.pairs }
 {
-    let n = case.pairs;
     let mut d: u64 = 0;
-    let mut k: usize = 0;
-    while k < n {
+    for k in 0..case.pairs {
         let p = pair_at(s, case, k);
-        d += differ(rt, b, c, p, at, first & (d == 0));
-        k += 1;
+        d += u64::from(differs(rt, b, c, p, at, first & (d == 0)));
     }
     d
 }
 
 // A refused sheet counts as one that differs.
-fn refused(rt: &impl Print, t: Totals, case: Case, at: usize) -> Step
+fn refused(rt: &impl Print, t: Totals, case: Case, at: usize) -> Step<Totals>
     requires { Counted at t × (at < case.next) × (case.next ≤ 262144) }
     ensures { result ≡ refused_at case t }
 {
@@ -295,90 +286,49 @@ fn refused(rt: &impl Print, t: Totals, case: Case, at: usize) -> Step
         next: case.next,
         totals: Totals {
             sheets: t.sheets + 1,
-            ranks: t.ranks,
             differ: t.differ + 1,
+            ..t
         },
     }
 }
 
 // The case at byte at, compared; b is its sheet.
-fn compare<'a>(rt: &impl Print, s: &'a [u8], b: &'a [u8], at: usize, case: Case, t: Totals) -> Step
+fn compare<'a>(
+    rt: &impl Print,
+    s: &'a [u8],
+    b: &'a [u8],
+    at: usize,
+    case: Case,
+    t: Totals,
+) -> Step<Totals>
     requires { Counted at t × Inside case × (at + 4 + 9 * case.pairs ≤ case.next) }
     ensures { result ≡ compared_by (verdict b.now) s.now b.now case t }
 {
-    let sheets = t.sheets;
-    let ranks = t.ranks;
-    let before = t.differ;
     match sheet::read(b) {
-        Reading::Refused { number, offset } => refused(rt, t, case, at),
-        Reading::Accepted(c) => {
-            let d = count_differ(rt, s, b, c, case, at, before == 0);
-            Step {
-                next: case.next,
-                totals: Totals {
-                    sheets: sheets + 1,
-                    ranks: ranks + case.pairs as u64,
-                    differ: before + d,
-                },
-            }
-        }
-    }
-}
-
-// A case that is cut short ends the run, and counts as one that differs.
-fn cut(rt: &impl Print, s: &[u8], at: usize, t: Totals) -> Step
-    requires { (at < length s.now) × (length s.now ≤ 262144) × Counted at t }
-    ensures { result ≡ cut_at s.now t }
-{
-    let _ = println!(rt; "no whole case at byte {at}");
-    Step {
-        next: s.len(),
-        totals: Totals {
-            sheets: t.sheets,
-            ranks: t.ranks,
-            differ: t.differ + 1,
+        Err(_) => refused(rt, t, case, at),
+        Ok(c) => Step {
+            next: case.next,
+            totals: Totals {
+                sheets: t.sheets + 1,
+                ranks: t.ranks + case.pairs as u64,
+                differ: t.differ + count_differ(rt, s, b, c, case, at, t.differ == 0),
+            },
         },
     }
-}
-
-fn turn(rt: &impl Print, s: &[u8], at: usize, t: Totals) -> Step
-    requires { (at < length s.now) × (length s.now ≤ 262144) × Counted at t }
-    ensures { Turned s.now at t result }
-{
-    let case = case_at(s, at);
-    if s.len() < case.next {
-        return cut(rt, s, at, t);
-    }
-    let start = at + 2;
-    let end = case.end;
-    compare(rt, s, &s[start..end], at, case, t)
 }
 
 fn run(rt: &impl Print, s: &[u8]) -> Totals
     requires { length s.now ≤ 262144 }
     ensures { Replayed s.now result }
 {
-    let mut t = Totals {
-        sheets: 0,
-        ranks: 0,
-        differ: 0,
-    };
-    let mut at: usize = 0;
-    while at < s.len() {
-        let next = turn(rt, s, at, t);
-        t = next.totals;
-        at = next.next;
-    }
-    t
+    lists::replay_all(rt, s, Totals::default())
 }
 
 fn main(rt: HostRuntime) -> io::Result<()> {
-    let mut buffer = list_buffer();
-    let mut input = rt.reader();
-    let n = lists::read_full(&mut input, &mut buffer)?;
-    let t = run(&rt, &buffer[..n]);
-    print_number(&rt, b"", t.sheets)?;
-    print_number(&rt, b" sheets, ", t.ranks)?;
-    print_number(&rt, b" ranks compared, ", t.differ)?;
-    println!(rt; " differ")
+    let list = lists::read_list(rt.alloc(), &mut rt.reader(), 262144)?;
+    let t = run(&rt, &list);
+    println!(rt;
+        "{} sheets, {} ranks compared, {} differ",
+        t.sheets, t.ranks, t.differ
+    )
 }

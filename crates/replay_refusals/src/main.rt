@@ -11,187 +11,68 @@
 // written.
 #![tactic(auto)]
 
-ghost use Rattle.std.specs.Prelude.{◌≡◌, ◌+◌, ◌≤◌, ◌<◌, length};
-ghost use Rattle.laws.specs.Bools.{bit};
-ghost use Rattle.replay_refusals.specs.Cases.{answer_of, case_at, agree, compared_at, cut_at, Counted, Turned, Replayed};
+ghost use Rattle.std.specs.Prelude.{◌≡◌, ◌+◌, ◌≤◌, length};
+ghost use Rattle.replay_refusals.specs.Cases.{answer_of, compared_at, case_of, Replayed};
 
-use layout::Reading;
+use layout::{Counts, Refusal};
+use lists::{Case, Cases, Tally, Verdict};
 use std::io;
 
-// A refusal's number and offset; both 0 where the sheet is accepted.
+// The list of stored sheets; those that are accepted are counted apart.
 #[derive(Clone, Copy)]
-struct Answer {
-    number: u64,
-    offset: u64,
+struct Sheets;
+
+impl Cases for Sheets {
+    ghost case_of = { case_of };
+
+    fn case_at(self, rt: &impl Print, s: &[u8], at: usize) -> Option<Case> {
+        let n = lists::part_length(s, at, 7)?;
+        Some(compare(rt, s, at, n))
+    }
 }
 
-// What the reader answers, and what is stored.
-#[derive(Clone, Copy)]
-struct Case {
-    got: Answer,
-    expected: Answer,
-}
-
-#[derive(Clone, Copy)]
-struct Totals {
-    compared: u64,
-    accepted: u64,
-    differ: u64,
-}
-
-// Where the next case starts, and the totals so far.
-#[derive(Clone, Copy)]
-struct Step {
-    next: usize,
-    totals: Totals,
-}
-
-// Room for the list.
-fn list_buffer() -> [u8; 204800]
-    ensures { 204800 ≡ length result }
-{
-    [0; 204800]
-}
-
-fn answer_of(r: Reading) -> Answer
+fn answer_of(r: Result<Counts, Refusal>) -> Verdict
     ensures { result ≡ answer_of r }
 {
     match r {
-        Reading::Refused { number, offset } => Answer {
-            number: number as u64,
-            offset,
+        Err(refusal) => Verdict {
+            number: u64::from(refusal.number),
+            offset: refusal.offset,
         },
-        Reading::Accepted(_) => Answer {
+        Ok(_) => Verdict {
             number: 0,
             offset: 0,
         },
     }
 }
 
-// The case at byte at, whose sheet has n bytes.
-fn case_at(s: &[u8], at: usize, n: usize) -> Case
+// The case at byte at, with a sheet of n bytes, compared.
+fn compare(rt: &impl Print, s: &[u8], at: usize, n: usize) -> Case
     requires { at + 7 + n ≤ length s.now }
-    ensures { result ≡ case_at s.now at n }
+    ensures { result ≡ compared_at s.now at n }
 {
     let start = at + 2;
     let end = start + n;
-    let expected = Answer {
-        number: lists::number(s, end, 1),
-        offset: lists::number(s, end + 1, 4),
-    };
     let got = answer_of(sheet::read(&s[start..end]));
-    Case { got, expected }
-}
-
-fn print_answer(rt: &impl Print, before: &[u8], a: Answer) -> io::Result<()> {
-    rt.write_all(before)?;
-    print!(rt; "{} at {}", a.number, a.offset)
-}
-
-fn print_difference(rt: &impl Print, at: usize, got: Answer, expected: Answer) -> io::Result<()> {
-    print!(rt; "the case at byte {at}")?;
-    print_answer(rt, b": got ", got)?;
-    print_answer(rt, b", expected ", expected)?;
-    println!(rt; "")
-}
-
-// Whether the two answers are equal; where not, both are printed.
-fn agrees(rt: &impl Print, c: Case, at: usize) -> bool
-    ensures { result ≡ agree c }
-{
-    let got = c.got;
-    let expected = c.expected;
-    if (got.number == expected.number) & (got.offset == expected.offset) {
-        return true;
-    }
-    let _ = print_difference(rt, at, got, expected);
-    false
-}
-
-fn one_if(b: bool) -> u64
-    ensures { result ≡ bit b }
-{
-    if b { 1 } else { 0 }
-}
-
-// The case at byte at, with a sheet of n bytes, compared.
-fn compare(rt: &impl Print, s: &[u8], at: usize, n: usize, t: Totals) -> Step
-    requires { (at + 7 + n ≤ length s.now) × Counted at t }
-    ensures { result ≡ compared_at s.now at n t }
-{
-    let compared = t.compared;
-    let accepted = t.accepted;
-    let differ = t.differ;
-    let c = case_at(s, at, n);
-    let took = one_if(c.got.number == 0);
-    let agree = agrees(rt, c, at);
-    Step {
+    let expected = lists::verdict_at(s, end);
+    Case {
         next: at + 7 + n,
-        totals: Totals {
-            compared: compared + 1,
-            accepted: accepted + took,
-            differ: differ + one_if(!agree),
-        },
+        marked: got.number == 0,
+        differs: lists::differs(rt, at, &got, &expected),
     }
 }
 
-// A case that is cut short ends the run, and counts as one that differs.
-fn cut(rt: &impl Print, s: &[u8], at: usize, t: Totals) -> Step
-    requires { (at < length s.now) × Counted at t }
-    ensures { result ≡ cut_at s.now t }
-{
-    let _ = println!(rt; "no whole case at byte {at}");
-    Step {
-        next: s.len(),
-        totals: Totals {
-            compared: t.compared,
-            accepted: t.accepted,
-            differ: t.differ + 1,
-        },
-    }
-}
-
-fn turn(rt: &impl Print, s: &[u8], at: usize, t: Totals) -> Step
-    requires { (at < length s.now) × Counted at t }
-    ensures { Turned s.now at t result }
-{
-    let left = s.len() - at;
-    if left < 7 {
-        return cut(rt, s, at, t);
-    }
-    let n = lists::number(s, at, 2) as usize;
-    if left - 7 < n {
-        return cut(rt, s, at, t);
-    }
-    compare(rt, s, at, n, t)
-}
-
-fn run(rt: &impl Print, s: &[u8]) -> Totals
+fn run(rt: &impl Print, s: &[u8]) -> Tally<Sheets>
     ensures { Replayed s.now result }
 {
-    let mut t = Totals {
-        compared: 0,
-        accepted: 0,
-        differ: 0,
-    };
-    let mut at: usize = 0;
-    while at < s.len() {
-        let next = turn(rt, s, at, t);
-        t = next.totals;
-        at = next.next;
-    }
-    t
+    lists::compare_all(rt, s, Sheets)
 }
 
 fn main(rt: HostRuntime) -> io::Result<()> {
-    let mut buffer = list_buffer();
-    let mut input = rt.reader();
-    let n = lists::read_full(&mut input, &mut buffer)?;
-    let t = run(&rt, &buffer[..n]);
-    let Totals {
-        compared,
-        accepted,
-        differ,
-    } = t;
-    println!(rt; "{compared} sheets compared, {accepted} accepted, {differ} differ")
+    let list = lists::read_list(rt.alloc(), &mut rt.reader(), 204800)?;
+    let t = run(&rt, &list);
+    println!(rt;
+        "{} sheets compared, {} accepted, {} differ",
+        t.compared, t.marked, t.differ
+    )
 }

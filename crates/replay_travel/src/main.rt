@@ -15,60 +15,55 @@
 // written.
 #![tactic(auto)]
 
-ghost use Rattle.std.specs.Prelude.{◌≡◌, ◌+◌, ◌≤◌, ◌<◌, length};
+ghost use Rattle.std.specs.Prelude.{◌≡◌, ◌+◌, ◌≤◌, length};
 ghost use Rattle.std.specs.Float.{binary64};
 ghost use Rattle.std.specs.Float.Ieee.{of_bits};
-ghost use Rattle.laws.specs.Bools.{bit};
 ghost use Rattle.lists.specs.Lists.{number};
-ghost use Rattle.replay_travel.specs.Cases.{answer_of, stored_at, case_at, agree, compared_at, cut_at, Counted, Turned, Replayed};
+ghost use Rattle.replay_travel.specs.Cases.{answer_of, stored_at, got_at, compared_at, case_of, Replayed};
 
-use std::io;
-use travel::TravelTime;
+use lists::{Case, Cases, Tally};
+use std::{fmt, io};
 
-// 0 and the bits of the seconds, or a refusal's number and 0.
-#[derive(Clone, Copy)]
+// An answer as the list stores it: 0 and the bits of the seconds, or a refusal's number and 0. A stored one may have any number beside any bits.
+#[derive(Clone, Copy, PartialEq, Eq)]
 struct Answer {
     number: u64,
     time: u64,
 }
 
-// What the travel time answers, and what is stored.
+impl fmt::Display for Answer {
+    fn fmt<W: fmt::Write>(&self, f: &mut fmt::Formatter<W>) -> fmt::Result {
+        let number = self.number;
+        let time = self.time;
+        write!(f, "{number} time {time:016x}")
+    }
+}
+
+// The list of stored runs; those that have a time are counted apart.
 #[derive(Clone, Copy)]
-struct Case {
-    got: Answer,
-    expected: Answer,
+struct Runs;
+
+impl Cases for Runs {
+    ghost case_of = { case_of };
+
+    fn case_at(self, rt: &impl Print, s: &[u8], at: usize) -> Option<Case> {
+        let left = s.len() - at;
+        if left < 49 {
+            return None;
+        }
+        Some(compare(rt, s, at))
+    }
 }
 
-#[derive(Clone, Copy)]
-struct Totals {
-    compared: u64,
-    timed: u64,
-    differ: u64,
-}
-
-// Where the next case starts, and the totals so far.
-#[derive(Clone, Copy)]
-struct Step {
-    next: usize,
-    totals: Totals,
-}
-
-// Room for the list.
-fn list_buffer() -> [u8; 65536]
-    ensures { 65536 ≡ length result }
-{
-    [0; 65536]
-}
-
-fn answer_of(answer: TravelTime) -> Answer
+fn answer_of(answer: Option<f64>) -> Answer
     ensures { result ≡ answer_of answer }
 {
     match answer {
-        TravelTime::Seconds(x) => Answer {
+        Some(x) => Answer {
             number: 0,
             time: double_bits::bits_of(x),
         },
-        TravelTime::Refused => Answer {
+        None => Answer {
             number: 21,
             time: 0,
         },
@@ -83,6 +78,19 @@ fn double_at(s: &[u8], at: usize) -> f64
     fp::double(lists::number(s, at, 8))
 }
 
+// The answer to the run whose five doubles stand from byte at on.
+fn got_at(s: &[u8], at: usize) -> Answer
+    requires { at + 40 ≤ length s.now }
+    ensures { result ≡ got_at s.now at }
+{
+    let distance = double_at(s, at);
+    let start = double_at(s, at + 8);
+    let top = double_at(s, at + 16);
+    let accel = double_at(s, at + 24);
+    let decel = double_at(s, at + 32);
+    answer_of(travel::travel_time(distance, start, top, accel, decel))
+}
+
 // The stored answer from byte at on.
 fn stored_at(s: &[u8], at: usize) -> Answer
     requires { at + 9 ≤ length s.now }
@@ -94,124 +102,31 @@ fn stored_at(s: &[u8], at: usize) -> Answer
     }
 }
 
-// The case at byte at.
-fn case_at(s: &[u8], at: usize) -> Case
-    requires { at + 49 ≤ length s.now }
-    ensures { result ≡ case_at s.now at }
-{
-    let distance = double_at(s, at);
-    let start = double_at(s, at + 8);
-    let top = double_at(s, at + 16);
-    let accel = double_at(s, at + 24);
-    let decel = double_at(s, at + 32);
-    let expected = stored_at(s, at + 40);
-    let got = answer_of(travel::travel_time(distance, start, top, accel, decel));
-    Case { got, expected }
-}
-
-fn print_answer(rt: &impl Print, before: &[u8], a: Answer) -> io::Result<()> {
-    rt.write_all(before)?;
-    print!(rt; "{} time {:016x}", a.number, a.time)
-}
-
-fn print_difference(rt: &impl Print, at: usize, got: Answer, expected: Answer) -> io::Result<()> {
-    print!(rt; "the case at byte {at}")?;
-    print_answer(rt, b": got ", got)?;
-    print_answer(rt, b", expected ", expected)?;
-    println!(rt; "")
-}
-
-// Whether the two answers are equal; where not, both are printed.
-fn agrees(rt: &impl Print, c: Case, at: usize) -> bool
-    ensures { result ≡ agree c }
-{
-    let got = c.got;
-    let expected = c.expected;
-    if (got.number == expected.number) & (got.time == expected.time) {
-        return true;
-    }
-    let _ = print_difference(rt, at, got, expected);
-    false
-}
-
-fn one_if(b: bool) -> u64
-    ensures { result ≡ bit b }
-{
-    if b { 1 } else { 0 }
-}
-
 // The case at byte at, compared.
-fn compare(rt: &impl Print, s: &[u8], at: usize, t: Totals) -> Step
-    requires { (at + 49 ≤ length s.now) × Counted at t }
-    ensures { result ≡ compared_at s.now at t }
+fn compare(rt: &impl Print, s: &[u8], at: usize) -> Case
+    requires { at + 49 ≤ length s.now }
+    ensures { result ≡ compared_at s.now at }
 {
-    let compared = t.compared;
-    let timed = t.timed;
-    let differ = t.differ;
-    let c = case_at(s, at);
-    let took = one_if(c.got.number == 0);
-    let agree = agrees(rt, c, at);
-    Step {
+    let got = got_at(s, at);
+    let expected = stored_at(s, at + 40);
+    Case {
         next: at + 49,
-        totals: Totals {
-            compared: compared + 1,
-            timed: timed + took,
-            differ: differ + one_if(!agree),
-        },
+        marked: got.number == 0,
+        differs: lists::differs(rt, at, &got, &expected),
     }
 }
 
-// A case that is cut short ends the run, and counts as one that differs.
-fn cut(rt: &impl Print, s: &[u8], at: usize, t: Totals) -> Step
-    requires { (at < length s.now) × Counted at t }
-    ensures { result ≡ cut_at s.now t }
-{
-    let _ = println!(rt; "no whole case at byte {at}");
-    Step {
-        next: s.len(),
-        totals: Totals {
-            compared: t.compared,
-            timed: t.timed,
-            differ: t.differ + 1,
-        },
-    }
-}
-
-fn turn(rt: &impl Print, s: &[u8], at: usize, t: Totals) -> Step
-    requires { (at < length s.now) × Counted at t }
-    ensures { Turned s.now at t result }
-{
-    let left = s.len() - at;
-    if left < 49 {
-        return cut(rt, s, at, t);
-    }
-    compare(rt, s, at, t)
-}
-
-fn run(rt: &impl Print, s: &[u8]) -> Totals
+fn run(rt: &impl Print, s: &[u8]) -> Tally<Runs>
     ensures { Replayed s.now result }
 {
-    let mut t = Totals {
-        compared: 0,
-        timed: 0,
-        differ: 0,
-    };
-    let mut at: usize = 0;
-    while at < s.len() {
-        let next = turn(rt, s, at, t);
-        t = next.totals;
-        at = next.next;
-    }
-    t
+    lists::compare_all(rt, s, Runs)
 }
 
 fn main(rt: HostRuntime) -> io::Result<()> {
-    let mut buffer = list_buffer();
-    let mut input = rt.reader();
-    let n = lists::read_full(&mut input, &mut buffer)?;
-    let t = run(&rt, &buffer[..n]);
+    let list = lists::read_list(rt.alloc(), &mut rt.reader(), 65536)?;
+    let t = run(&rt, &list);
     println!(rt;
         "{} runs compared, {} timed, {} differ",
-        t.compared, t.timed, t.differ
+        t.compared, t.marked, t.differ
     )
 }

@@ -28,6 +28,10 @@ known ids n id car dest = eqb car id && ltb (stop_index ids n dest) n
 abbrev pub routed : ℕ → ℕ → ℕ → Bool
 routed id car dest = eqb car id && not (eqb dest 0)
 
+-- two lists of coordinates have those of n known destinations
+abbrev pub HasPoints : ℕ → List Float → List Float → Type 0
+HasPoints n along across = (n ≤ length along) × (n ≤ length across)
+
 -- ---- the riders of na records
 
 module _ (ids : List ℕ) (n : ℕ) (acar adest : List ℕ) (id : ℕ) where

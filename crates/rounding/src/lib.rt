@@ -6,22 +6,24 @@ ghost use Rattle.std.specs.Prelude.{◌≡◌};
 ghost use Rattle.rounding.specs.Unpack.{significand_of, exponent_of};
 
 // The significand of a pattern, with its leading digit where the field is not 0.
+#[tactic(auto, unfolding(crate::specs::Unpack::significand_of))]
 pub fn significand(b: u64) -> u64
     ensures { result ≡ significand_of b }
 {
-    let field: u64 = (b >> 52) % 2048;
-    let t: u64 = b % 0x10_0000_0000_0000;
+    let field = (b >> 52) % 2048;
+    let digits = b % 0x10_0000_0000_0000;
     if field == 0 {
-        t
+        digits
     } else {
-        t + 0x10_0000_0000_0000
+        digits + 0x10_0000_0000_0000
     }
 }
 
 // The place of the significand's last digit above the least double.
+#[tactic(auto, unfolding(crate::specs::Unpack::exponent_of))]
 pub fn exponent(b: u64) -> u64
     ensures { result ≡ exponent_of b }
 {
-    let field: u64 = (b >> 52) % 2048;
-    if field == 0 { 0 } else { field - 1 }
+    let field = (b >> 52) % 2048;
+    field.saturating_sub(1)
 }

@@ -1,4 +1,6 @@
 -- A row of cells is that of the sheet's matrix. Assumes nothing.
+use Rattle.std.specs.Prelude.{Option}
+use Rattle.components.specs.declared.Point.{Point}
 use Rattle.std.specs.Prelude.{ℕ, ◌+◌, ◌*◌, ◌-◌, ◌≤◌, ◌<◌, ◌≡◌, refl, Bool, false, ◌&&◌, List, ◌++◌, ltb, length, get_or, take, drop, replicate, Float}
 use Rattle.std.proofs.Math.Path.{sym, ap}
 use Rattle.std.proofs.Common.{ap₂, ◌∙◌, arith, length-take, length-drop}
@@ -15,7 +17,6 @@ use Rattle.mask.specs.declared.Ones.{Ones}
 use Rattle.mask.specs.Ones.{ones_of, ones_count, ones_at}
 use Rattle.components.specs.declared.Car.{Car}
 use Rattle.components.specs.Sheet.{Sheet}
-use Rattle.components.specs.declared.Place.{Place}
 use Rattle.components.specs.declared.Policy.{Policy}
 use Rattle.components.specs.declared.Strategy.TheVariants.{Etd}
 use Rattle.etd.specs.Halts.{HoldsCounts}
@@ -35,7 +36,7 @@ use Rattle.assignment.proofs.CellLaws.{held_in_row_lem, pending_le}
 use Rattle.pending.specs.declared.StopMasks.{StopMasks}
 use Rattle.pending.specs.Masks.{stop_mask, pending_are}
 use Rattle.sweep.specs.declared.Sweep.{Sweep}
-use Rattle.ranking.specs.declared.Row.{Row}
+use Rattle.dispatch.specs.declared.Row.{Row}
 use Rattle.ranking.specs.Ranking.{sweep_by}
 use Rattle.ranking.specs.RankingLaws.{HoldsRow, cell_is, held_is}
 use Rattle.rows.specs.declared.Counted.{Counted}
@@ -151,7 +152,7 @@ row_for s ids xs acar adest masks limit car =
     }
 
 pub row_for_is : (s : Sheet) (ids : List ℕ) (xs : List Float) (acar adest : List ℕ) (masks : StopMasks) (limit : ℕ) (policy : Policy) (car : Car)
-    (sweep : Sweep) (goal : Place) (riders : Riders) (kept : ℕ)
+    (sweep : Sweep) (goal : Option Point) (riders : Riders) (kept : ℕ)
     → policy ≡ s.policy → riders ≡ riders_in ids s.stops acar adest car.id s.aboards
     → goal ≡ goal_of (position_in ids xs s.stops) car.phase → sweep ≡ sweep_by policy.strategy car masks.pending masks.demand xs
     s.stops

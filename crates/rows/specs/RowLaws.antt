@@ -7,7 +7,7 @@ use Rattle.laws.specs.Tables.{tab, tab-length, length-tab, get_or-tab, get_or-ta
 use Rattle.mask.specs.declared.Ones.{Ones}
 use Rattle.scale.specs.Scale.{sentinel}
 use Rattle.manifest.specs.declared.Waiters.{Waiters}
-use Rattle.ranking.specs.declared.Row.{Row}
+use Rattle.dispatch.specs.declared.Row.{Row}
 use Rattle.ranking.specs.Ranking.{cell_by, held_by, HoldsHalts}
 use Rattle.components.specs.declared.Strategy.{Strategy}
 use Rattle.components.specs.declared.Strategy.TheVariants.{Etd, Rsr, Scan, Unknown}
@@ -22,6 +22,10 @@ row_cell row dests sides waiters xs n stops k = cell_by row dests sides (waiters
 -- whether it is held
 unfoldable pub row_held : Row → List Float → List Float → (ℕ → Waiters) → List Float → ℕ → Ones → ℕ → Bool
 row_held row dests sides waiters xs n stops k = held_by row dests sides (waiters (get_or stops.at k 0)) xs n (get_or stops.at k 0)
+
+-- the stops of the columns are among n, and they have cells
+abbrev pub ColumnsFit : Ones → ℕ → ℕ → Type 0
+ColumnsFit columns n cells = (columns.count ≤ cells) × (columns.count ≤ 64) × ((k : ℕ) → k < columns.count → get_or columns.at k 0 < n)
 
 -- ---- what ETD asks for, in buffers that no other strategy writes to
 

@@ -1,4 +1,5 @@
 -- RSR: rsr.rs, with its order of operations. F-12: "Directions .. use the first coordinate." Assumes nothing.
+use Rattle.std.specs.Prelude.{None, Option, Some}
 use Rattle.std.specs.Prelude.{ℕ, ◌≡◌, Bool, true, false, not, ◌&&◌, ◌||◌, cond, Float}
 use Rattle.std.proofs.Math.Path.{ap}
 use Rattle.std.specs.Float.Ieee.{lt, le}
@@ -8,12 +9,8 @@ use Rattle.mask.specs.Mask.{has}
 use Rattle.components.specs.declared.Car.{Car}
 use Rattle.components.specs.declared.Point.{Point}
 use Rattle.components.specs.declared.Policy.{Policy}
-use Rattle.components.specs.declared.Place.{Place}
-use Rattle.components.specs.declared.Place.TheVariants as place
 use Rattle.components.specs.declared.Traffic.{Traffic}
 use Rattle.components.specs.declared.Traffic.TheVariants as traffic
-use Rattle.components.specs.declared.Rank.{Rank}
-use Rattle.components.specs.declared.Rank.TheVariants.{Never}
 use Rattle.components.specs.Cars.{is_idle}
 use Rattle.components.specs.Points.{distance}
 use Rattle.components.specs.Sheet.{Sheet}
@@ -26,9 +23,9 @@ use Rattle.rsr.specs.declared.Terms.{Terms}
 -- ---- on values: x the car's first coordinate, p the stop's
 
 -- the car moves to g, away from the stop
-abbrev pub wrong_direction : Place → Float → Float → Bool
-wrong_direction place.Nowhere x p = false
-wrong_direction (place.At g) x p = (lt x g.along && lt p x) || (lt g.along x && lt x p)
+abbrev pub wrong_direction : Option Point → Float → Float → Bool
+wrong_direction None x p = false
+wrong_direction (Some g) x p = (lt x g.along && lt p x) || (lt g.along x && lt x p)
 
 -- peak_scaling: the multiplier in an up or a down peak
 abbrev pub peak_scaling : Traffic → Float → Float
@@ -57,7 +54,7 @@ with_load cost weight idle load capacity =
 
 -- compute_cost: eta, wrong direction, coincident call, load, age; of a car that moves to goal, for a stop at p where so many ticks were waited, and for
 -- which the car has a call, or not
-unfoldable pub rsr_cost_of : Policy → Car → Place → Float → Bool → Point → Float
+unfoldable pub rsr_cost_of : Policy → Car → Option Point → Float → Bool → Point → Float
 rsr_cost_of y c goal waited call p =
     let eta = times y.w0 (over (distance c.position p) c.speed) in
     let reversed = with_penalty eta y.w1 (peak_scaling y.traffic y.w5) (wrong_direction goal c.position.along p.along) in
@@ -67,7 +64,7 @@ rsr_cost_of y c goal waited call p =
     max_zero aged
 
 -- what it is made of: the running cost after each term
-unfoldable pub rsr_terms_of : Policy → Car → Place → Float → Bool → Point → Terms
+unfoldable pub rsr_terms_of : Policy → Car → Option Point → Float → Bool → Point → Terms
 rsr_terms_of y c goal waited call p =
     let eta = times y.w0 (over (distance c.position p) c.speed) in
     let reversed = with_penalty eta y.w1 (peak_scaling y.traffic y.w5) (wrong_direction goal c.position.along p.along) in
@@ -84,7 +81,7 @@ rsr_terms_of y c goal waited call p =
       cost = rsr_cost_of y c goal waited call p;
     }
 
-module _ (y : Policy) (c : Car) (goal : Place) (waited : Float) (call : Bool) (p : Point) where
+module _ (y : Policy) (c : Car) (goal : Option Point) (waited : Float) (call : Bool) (p : Point) where
   pub cost_by_lem : {t : Terms} → t ≡ rsr_terms_of y c goal waited call p → t.cost ≡ rsr_cost_of y c goal waited call p
   unfolding rsr_terms_of
   cost_by_lem e = ap (λ (t : Terms). t.cost) e
@@ -118,5 +115,5 @@ module _ (s : Sheet) (i j : ℕ) where
   rsr_terms = rsr_terms_of s.policy (s.car i) (goal s i) (wait_ticks_sum s j) (has (s.car i).calls j) (stop_at s j)
 
   -- rank. "Speed 0 gives ETD and RSR no rank"
-  unfoldable pub rsr_rank : Rank
-  rsr_rank = cond (pair_is_useful s i j true && not (le (s.car i).speed zero)) (finite_rank rsr_cost) Never
+  unfoldable pub rsr_rank : Option Float
+  rsr_rank = cond (pair_is_useful s i j true && not (le (s.car i).speed zero)) (finite_rank rsr_cost) None

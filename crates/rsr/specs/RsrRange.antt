@@ -1,5 +1,6 @@
 -- RSR's ranks are finite and never below zero, on every sheet; and in document 01's admitted ranges a useful pair of a car that can move has a rank.
 -- Assumes nothing.
+use Rattle.std.specs.Prelude.{Some}
 use Rattle.std.specs.Prelude.{ℕ, ◌*◌, ◌^◌, ◌<◌, ◌≡◌, refl, Bool, true, false, not, ◌&&◌, cond, Float}
 use Rattle.std.proofs.Common.{arith, sym, lit≤, ltb-false}
 use Rattle.std.specs.Float.{nan, inf, fin}
@@ -17,7 +18,6 @@ use Rattle.multiply_add.specs.Sizes.{mul_add_size}
 use Rattle.mask.specs.Mask.{has}
 use Rattle.components.specs.declared.Traffic.{Traffic}
 use Rattle.components.specs.declared.Traffic.TheVariants as traffic
-use Rattle.components.specs.declared.Rank.TheVariants.{Cost}
 use Rattle.components.specs.Cars.{is_idle}
 use Rattle.components.specs.Points.{distance, distance_size, placed_size}
 use Rattle.components.specs.Sheet.{Sheet}
@@ -30,7 +30,7 @@ use Rattle.dispatch.specs.FiniteRank.{finite_rank, ranked}
 use Rattle.rsr.specs.Rsr.{wrong_direction, peak_scaling, with_penalty, with_coincident_call, held_ratio, with_load, rsr_cost_of, rsr_cost, rsr_rank}
 
 -- a rank is never negative and never a NaN: 0 is at most it
-pub rsr_nonneg : (s : Sheet) (i j : ℕ) (x : Float) → rsr_rank s i j ≡ Cost x → (le Num.zero x ≡ true) × (finite x ≡ true)
+pub rsr_nonneg : (s : Sheet) (i j : ℕ) (x : Float) → rsr_rank s i j ≡ Some x → (le Num.zero x ≡ true) × (finite x ≡ true)
 unfolding rsr_rank rsr_cost_of
 rsr_nonneg s i j x h =
     let (e, f) = ranked (pair_is_useful s i j true && not (le (s.car i).speed Num.zero)) (rsr_cost s i j) x h in
@@ -119,7 +119,7 @@ module _ (s : Sheet) (a : Admitted s) (i j : ℕ) (li : i < s.cars) (lj : j < s.
       by false h = refl
 
   -- "In the admitted ranges every rank is finite": a useful pair has one
-  pub rsr_ranked : pair_is_useful s i j true ≡ true → rsr_rank s i j ≡ Cost (rsr_cost s i j)
+  pub rsr_ranked : pair_is_useful s i j true ≡ true → rsr_rank s i j ≡ Some (rsr_cost s i j)
   unfolding rsr_rank finite_rank rsr_cost_of
   rsr_ranked u = rw (u, above_zero, cost_finite)
     where

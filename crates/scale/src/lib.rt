@@ -9,8 +9,8 @@ pub const SENTINEL: u64 = 281_474_976_710_656;
 
 const CEILING: u64 = 281_474_976_710_655;
 
-// A cost as a cell, and whether the ceiling held its value down.
-#[derive(Drop)]
+// A cost as a cell, and whether the ceiling held its value down: the two are always both there.
+#[derive(Clone, Copy)]
 pub struct Scaled {
     pub cell: u64,
     pub held: bool,
@@ -21,24 +21,17 @@ impl Scaled {
     pub fn held_count(self) -> u64
         ensures { result ≡ bit self.held }
     {
-        if self.held { 1 } else { 0 }
+        u64::from(self.held)
     }
 }
 
 // A whole number, held to the ceiling.
-fn at_most_ceiling(r: u64) -> Scaled
-    ensures { (result.cell ≡ min r ceiling) × (result.held ≡ ltb ceiling r) }
+fn at_most_ceiling(n: u64) -> Scaled
+    ensures { (result.cell ≡ min n ceiling) × (result.held ≡ ltb ceiling n) }
 {
-    if CEILING < r {
-        Scaled {
-            cell: CEILING,
-            held: true,
-        }
-    } else {
-        Scaled {
-            cell: r,
-            held: false,
-        }
+    Scaled {
+        cell: n.min(CEILING),
+        held: CEILING < n,
     }
 }
 
@@ -47,28 +40,24 @@ fn at_most_ceiling(r: u64) -> Scaled
 fn whole(y: f64) -> Scaled
     ensures { (result.cell ≡ whole y) × (result.held ≡ above_ceiling y) }
 {
-    if y != y {
+    if y.is_nan() {
         return at_most_ceiling(0);
     }
-    let b: u64 = f64::to_bits(y);
-    if b >= 0x8000_0000_0000_0000 {
-        return at_most_ceiling(0);
-    }
-    let field: u64 = b >> 52;
-    let digits: u64 = b % 0x10_0000_0000_0000 + 0x10_0000_0000_0000;
-    if field < 1022 {
-        return at_most_ceiling(0);
-    }
-    if field < 1071 {
-        let s: u64 = 1075 - field;
-        let half: u64 = 1 << (s - 1);
-        at_most_ceiling((digits + half) >> s)
+    let bits = y.to_bits();
+    let field = bits >> 52;
+    if bits >= 0x8000_0000_0000_0000 || field < 1022 {
+        at_most_ceiling(0)
+    } else if field < 1071 {
+        let digits = bits % 0x10_0000_0000_0000 + 0x10_0000_0000_0000;
+        let shift = 1075 - field;
+        let half = 1 << (shift - 1);
+        at_most_ceiling((digits + half) >> shift)
     } else {
         at_most_ceiling(SENTINEL)
     }
 }
 
-// The cell of a pair without a rank.
+// The cell of a pair without a rank; a function, since what callers know of it is its promise.
 pub fn no_rank() -> Scaled
     ensures { (result.cell ≡ sentinel) × (result.held ≡ false) }
 {
@@ -81,13 +70,9 @@ pub fn no_rank() -> Scaled
 pub fn scale_cost(cost: f64) -> Scaled
     ensures { (result.cell ≡ scale_cost cost) × (result.held ≡ held_down cost) }
 {
-    if fp::finite(cost) {
-        if cost < 0.0 {
-            no_rank()
-        } else {
-            whole(cost * 1_000_000.0)
-        }
-    } else {
+    if !fp::finite(cost) || cost < 0.0 {
         no_rank()
+    } else {
+        whole(cost * 1_000_000.0)
     }
 }

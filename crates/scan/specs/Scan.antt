@@ -1,12 +1,11 @@
 -- SCAN over a sheet: scan.rs. F-12: "Directions .. use the first coordinate." Its cost is a distance, of both. Assumes nothing.
+use Rattle.std.specs.Prelude.{None, Option}
 use Rattle.std.specs.Prelude.{ℕ, Bool, false, ◌&&◌, cond, List, get_or, Float}
 use Rattle.std.specs.Float.{nan}
 use Rattle.laws.specs.Folds.{any}
 use Rattle.mask.specs.Mask.{has}
 use Rattle.components.specs.declared.Direction.{Direction}
 use Rattle.components.specs.declared.Point.{Point}
-use Rattle.components.specs.declared.Rank.{Rank}
-use Rattle.components.specs.declared.Rank.TheVariants.{Never}
 use Rattle.components.specs.Sheet.{Sheet}
 use Rattle.manifest.specs.World.{stop_at}
 use Rattle.manifest.specs.Manifest.{demand_stop}
@@ -25,8 +24,8 @@ unfoldable pub prepared_by : Sweep → Float → ℕ → List Float → ℕ → 
 prepared_by w x demand xs n = prepared w (demand_ahead w.direction x demand xs n)
 
 -- rank, of a pair that is useful or not
-unfoldable pub rank_of : Sweep → Bool → Point → Point → Rank
-rank_of w useful x p = cond useful (sweep_rank w x p) Never
+unfoldable pub rank_of : Sweep → Bool → Point → Point → Option Float
+rank_of w useful x p = cond useful (sweep_rank w x p) None
 
 -- ---- over a sheet
 
@@ -41,5 +40,5 @@ module _ (s : Sheet) where
   prepared_sweep i = prepared (sweep_of (s.car i)) (strict_demand_ahead i)
 
   -- rank, of car i with a sweep for stop j
-  unfoldable pub scan_rank : Sweep → ℕ → ℕ → Rank
+  unfoldable pub scan_rank : Sweep → ℕ → ℕ → Option Float
   scan_rank w i j = rank_of w (pair_is_useful s i j false) (s.car i).position (stop_at s j)

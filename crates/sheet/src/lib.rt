@@ -1,9 +1,8 @@
 // The reader: every byte string is a sheet or one numbered refusal. An accepted sheet is its bytes and its counts; a record is decoded in place.
 #![tactic(auto)]
 
-ghost use Rattle.std.specs.Prelude.{◌≡◌, true, ◌+◌, ◌<◌, length};
+ghost use Rattle.std.specs.Prelude.{◌≡◌, true, ◌+◌, ◌<◌, length, Ok};
 ghost use Rattle.bits.specs.Field.{field_at, IsField};
-ghost use Rattle.layout.specs.declared.Reading.TheVariants.{Accepted};
 ghost use Rattle.components.specs.Codes.{kind_of};
 ghost use Rattle.layout.specs.Offsets.{head_length, across_bits, Small, none, end_of, last_kind};
 ghost use Rattle.layout.specs.Table.{first};
@@ -14,7 +13,7 @@ ghost use Rattle.sheet.specs.Kept.{kept, keeps, Before};
 
 use components::{Car, Kind, Line, Policy};
 use conditions::pick;
-use layout::{Counts, Reading, head, line, policy, record};
+use layout::{Counts, Refusal, head, line, policy, record};
 
 // How a record starts: the code of its kind, the stated length, and of every kind but the policy the first field, an id.
 #[derive(Clone, Copy)]
@@ -22,6 +21,15 @@ struct Front {
     code: u64,
     length: u64,
     id: u32,
+}
+
+// The ids of the stops, cars, demands and closed landings that are read, which later records are held to.
+#[derive(Clone, Copy)]
+struct Tables {
+    stops: [u32; 64],
+    cars: [u32; 32],
+    demands: [u32; 64],
+    closures: [u32; 64],
 }
 
 // Whether bit e lies past the end.
@@ -48,17 +56,7 @@ fn front_at(s: &[u8], at: u32) -> Front
 fn is_unknown(kind: Kind) -> bool
     ensures { result ≡ refusal4 kind }
 {
-    match kind {
-        Kind::Policy => false,
-        Kind::Stop => false,
-        Kind::Line => false,
-        Kind::Car => false,
-        Kind::Aboard => false,
-        Kind::Waiting => false,
-        Kind::Demand => false,
-        Kind::Closed => false,
-        Kind::Unknown => true,
-    }
+    matches!(kind, Kind::Unknown)
 }
 
 // The refusal of the record at bit at, after those counted, where its kind and what its body is refused for are known: the first number whose
@@ -101,19 +99,16 @@ fn take_record(
     at: u32,
     front: Front,
     kind: Kind,
-    stops: &mut [u32],
-    cars: &mut [u32],
-    demands: &mut [u32],
-    closures: &mut [u32],
+    tables: &mut Tables,
 ) -> u32
-    requires { Small c × Before s.now c at last stops.old cars.old demands.old closures.old
+    requires { Small c × Before s.now c at last tables.old.stops tables.old.cars tables.old.demands tables.old.closures
         × (front.code ≡ kind_at s.now c) × (front.length ≡ length_at s.now c) × (front.length < 65536)
         × (front.id ≡ read (from s.now at) (first 32)) × (kind ≡ kind_of (kind_at s.now c)) }
     ensures { (result ≡ record_refusal s.now c)
-        × (stops.new ≡ kept (keeps kind 2 result) c.stops front.id stops.old)
-        × (cars.new ≡ kept (keeps kind 4 result) c.cars front.id cars.old)
-        × (demands.new ≡ kept (keeps kind 7 result) c.demands front.id demands.old)
-        × (closures.new ≡ kept (keeps kind 8 result) c.closures front.id closures.old) }
+        × (tables.new.stops ≡ kept (keeps kind 2 result) c.stops front.id tables.old.stops)
+        × (tables.new.cars ≡ kept (keeps kind 4 result) c.cars front.id tables.old.cars)
+        × (tables.new.demands ≡ kept (keeps kind 7 result) c.demands front.id tables.old.demands)
+        × (tables.new.closures ≡ kept (keeps kind 8 result) c.closures front.id tables.old.closures) }
 {
     let id = front.id;
     match kind {
@@ -124,7 +119,7 @@ fn take_record(
         Kind::Stop => {
             let body = refusals::stop_refusal(s, c, at, id);
             let number = record_refusal(s, c, last, at, front, Kind::Stop, body);
-            keep(number == 0, c.stops, id, stops);
+            keep(number == 0, c.stops, id, &mut tables.stops);
             number
         }
         Kind::Line => {
@@ -132,29 +127,35 @@ fn take_record(
             record_refusal(s, c, last, at, front, Kind::Line, body)
         }
         Kind::Car => {
-            let body = refusals_car::car_refusal(s, c, at, id, cars);
+            let body = refusals_car::car_refusal(s, c, at, id, &tables.cars);
             let number = record_refusal(s, c, last, at, front, Kind::Car, body);
-            keep(number == 0, c.cars, id, cars);
+            keep(number == 0, c.cars, id, &mut tables.cars);
             number
         }
         Kind::Aboard => {
-            let body = refusals::aboard_refusal(s, c, at, id, cars);
+            let body = refusals::aboard_refusal(s, c, at, id, &tables.cars);
             record_refusal(s, c, last, at, front, Kind::Aboard, body)
         }
         Kind::Waiting => {
-            let body = refusals::waiting_refusal(s, c, at, id, stops);
+            let body = refusals::waiting_refusal(s, c, at, id, &tables.stops);
             record_refusal(s, c, last, at, front, Kind::Waiting, body)
         }
         Kind::Demand => {
-            let body = refusals::one_a_stop(id, stops, c.stops, demands, c.demands);
+            let body = refusals::one_a_stop(id, &tables.stops, c.stops, &tables.demands, c.demands);
             let number = record_refusal(s, c, last, at, front, Kind::Demand, body);
-            keep(number == 0, c.demands, id, demands);
+            keep(number == 0, c.demands, id, &mut tables.demands);
             number
         }
         Kind::Closed => {
-            let body = refusals::one_a_stop(id, stops, c.stops, closures, c.closures);
+            let body = refusals::one_a_stop(
+                id,
+                &tables.stops,
+                c.stops,
+                &tables.closures,
+                c.closures,
+            );
             let number = record_refusal(s, c, last, at, front, Kind::Closed, body);
-            keep(number == 0, c.closures, id, closures);
+            keep(number == 0, c.closures, id, &mut tables.closures);
             number
         }
         Kind::Unknown => record_refusal(s, c, last, at, front, Kind::Unknown, 0),
@@ -174,21 +175,21 @@ fn tail_fits(s: &[u8], c: Counts) -> bool
 }
 
 // Refused with a number at a bit, or the sheet is accepted.
-fn given(number: u32, at: u32, c: Counts) -> Reading
-    ensures { result ≡ given number at (Accepted c) }
+fn given(number: u32, at: u32, c: Counts) -> Result<Counts, Refusal>
+    ensures { result ≡ given number at (Ok c) }
 {
     if number == 0 {
-        Reading::Accepted(c)
+        Ok(c)
     } else {
-        Reading::Refused {
+        Err(Refusal {
             number,
             offset: at as u64,
-        }
+        })
     }
 }
 
 // The tail, after the last record: 6 where there is no record, 16.
-fn tail(s: &[u8], c: Counts) -> Reading
+fn tail(s: &[u8], c: Counts) -> Result<Counts, Refusal>
     requires { Small c }
     ensures { result ≡ tail_verdict s.now c }
 {
@@ -197,61 +198,33 @@ fn tail(s: &[u8], c: Counts) -> Reading
     given(number, c.end_of(), c)
 }
 
-// Before the first record.
-fn none(across: u32) -> Counts
-    ensures { result ≡ none across }
-{
-    Counts {
-        across,
-        policies: 0,
-        stops: 0,
-        lines: 0,
-        cars: 0,
-        aboards: 0,
-        waits: 0,
-        demands: 0,
-        closures: 0,
-    }
-}
-
 // The records in turn: the first refusal, or the tail. The ids that later records are held to are kept as they are read.
-fn records(s: &[u8], across: u32, count: u32) -> Reading
+fn records(s: &[u8], across: u32, count: u32) -> Result<Counts, Refusal>
     requires { across ≡ across_bits (edition s.now) }
     ensures { result ≡ records_verdict s.now count (none across) }
 {
-    let mut c = none(across);
+    let mut c = Counts::none(across);
     let mut at = head::BITS;
     let mut last: u64 = 0;
-    let mut stops = [0u32; 64];
-    let mut cars = [0u32; 32];
-    let mut demands = [0u32; 64];
-    let mut closures = [0u32; 64];
-    let mut left = count;
-    while 0 < left {
+    let mut tables = Tables {
+        stops: [0; 64],
+        cars: [0; 32],
+        demands: [0; 64],
+        closures: [0; 64],
+    };
+    for i in 0..count {
         let front = front_at(s, at);
         let kind = Kind::of_code(front.code);
-        let n = take_record(
-            s,
-            c,
-            last,
-            at,
-            front,
-            kind,
-            &mut stops,
-            &mut cars,
-            &mut demands,
-            &mut closures,
-        );
+        let n = take_record(s, c, last, at, front, kind, &mut tables);
         if n != 0 {
-            return Reading::Refused {
+            return Err(Refusal {
                 number: n,
                 offset: at as u64,
-            };
+            });
         }
         c = c.next(kind);
         at = at + record::BODY + front.length as u32;
         last = front.code;
-        left -= 1;
     }
     tail(s, c)
 }
@@ -265,13 +238,13 @@ fn head_refusal(s: &[u8]) -> u32
     pick(past_end(s, head::BITS), 2, pick(!known, 3, 0))
 }
 
-// The verdict on a byte string.
-pub fn read(s: &[u8]) -> Reading
+// The verdict on a byte string: the counts of an accepted sheet, or its refusal.
+pub fn read(s: &[u8]) -> Result<Counts, Refusal>
     ensures { result ≡ verdict s.now }
 {
     let number = head_refusal(s);
     if number != 0 {
-        return Reading::Refused { number, offset: 0 };
+        return Err(Refusal { number, offset: 0 });
     }
     let across = layout::across_bits(bits::field(s, 0, head::EDITION, 8));
     let count = bits::field(s, 0, head::COUNT, 16);

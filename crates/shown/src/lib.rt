@@ -10,37 +10,26 @@ ghost use Rattle.shown.specs.Fits.{price_at, column_of, Priced, Inside};
 ghost use Rattle.shown.specs.Refusals.{refusal19, mispriced, refusal20};
 
 // Whether the price of car i and no column's exceed their cell.
-fn row_within<'a>(
-    n: usize,
-    w: usize,
-    cells: &'a [u64],
-    u: &'a [i64],
-    v: &'a [i64],
-    i: usize,
-) -> bool
+fn row_within(n: usize, w: usize, cells: &[u64], u: &[i64], v: &[i64], i: usize) -> bool
     requires { Priced n w cells.now u.now v.now × (i < n) }
     ensures { result ≡ every (λ j. within (price_at u.now i) (price_at v.now j) (cell_at cells.now w i j)) w }
 {
     let mut ok = true;
-    let mut j: usize = 0;
-    while j < w {
+    for j in 0..w {
         let cell = cells[i * w + j];
         ok = ok & prices::within(u[i], v[j], cell);
-        j += 1;
     }
     ok
 }
 
 // Whether no car's price and column's exceed their cell.
-fn never_above<'a>(n: usize, w: usize, cells: &'a [u64], u: &'a [i64], v: &'a [i64]) -> bool
+fn never_above(n: usize, w: usize, cells: &[u64], u: &[i64], v: &[i64]) -> bool
     requires { Priced n w cells.now u.now v.now }
     ensures { result ≡ never_above n w (cell_at cells.now w) (price_at u.now) (price_at v.now) }
 {
     let mut ok = true;
-    let mut i: usize = 0;
-    while i < n {
+    for i in 0..n {
         ok = ok & row_within(n, w, cells, u, v, i);
-        i += 1;
     }
     ok
 }
@@ -51,63 +40,50 @@ fn taken(n: usize, columns: &[u32], j: usize) -> bool
     ensures { result ≡ any (λ i. eqb (column_of columns.now i) j) n }
 {
     let mut found = false;
-    let mut i: usize = 0;
-    while i < n {
-        found = found | (columns[i] as usize == j);
-        i += 1;
+    for column in &columns[..n] {
+        found |= *column as usize == j;
     }
     found
 }
 
 // Whether each car's price and its column's are their cell.
-fn equal_where_chosen<'a>(
+fn equal_where_chosen(
     n: usize,
     w: usize,
-    cells: &'a [u64],
-    columns: &'a [u32],
-    u: &'a [i64],
-    v: &'a [i64],
+    cells: &[u64],
+    columns: &[u32],
+    u: &[i64],
+    v: &[i64],
 ) -> bool
     requires { Priced n w cells.now u.now v.now × Inside n w columns.now }
     ensures { result ≡ equal_where_chosen n (cell_at cells.now w) (column_of columns.now) (price_at u.now)
         (price_at v.now) }
 {
     let mut ok = true;
-    let mut i: usize = 0;
-    while i < n {
+    for i in 0..n {
         let j = columns[i] as usize;
         let cell = cells[i * w + j];
         ok = ok & prices::equals(u[i], v[j], cell);
-        i += 1;
     }
     ok
 }
 
 // Whether each column's price is zero or less, and zero where no car has it.
-fn columns_priced<'a>(n: usize, w: usize, columns: &'a [u32], v: &'a [i64]) -> bool
+fn columns_priced(n: usize, w: usize, columns: &[u32], v: &[i64]) -> bool
     requires { (n ≤ length columns.now) × (w ≤ length v.now) × (w ≤ 64) × ((j : ℕ) → j < w → in_range (price_at v.now j) ≡ true) }
     ensures { result ≡ columns_priced n w (column_of columns.now) (price_at v.now) }
 {
     let mut ok = true;
-    let mut j: usize = 0;
-    while j < w {
+    for j in 0..w {
         let y = v[j];
         let some = taken(n, columns, j);
         ok = ok & (prices::zero_or_less(y) & (some | prices::is_zero(y)));
-        j += 1;
     }
     ok
 }
 
 // Whether the prices show that the choice is least.
-pub fn shows<'a>(
-    n: usize,
-    w: usize,
-    cells: &'a [u64],
-    columns: &'a [u32],
-    u: &'a [i64],
-    v: &'a [i64],
-) -> bool
+pub fn shows(n: usize, w: usize, cells: &[u64], columns: &[u32], u: &[i64], v: &[i64]) -> bool
     requires { Priced n w cells.now u.now v.now × Inside n w columns.now }
     ensures { result ≡ shown n w (cell_at cells.now w) (column_of columns.now) (price_at u.now)
         (price_at v.now) }
@@ -126,11 +102,9 @@ pub fn wrong_columns(n: usize, w: usize, columns: &[u32]) -> bool
         return true;
     }
     let mut wrong = false;
-    let mut i: usize = 0;
-    while i < n {
+    for i in 0..n {
         let j = columns[i] as usize;
         wrong = wrong | ((w <= j) | taken(i, columns, j));
-        i += 1;
     }
     wrong
 }
@@ -143,19 +117,15 @@ fn mispriced(k: usize, sent: &[i64]) -> bool
         return true;
     }
     let mut wrong = false;
-    let mut i: usize = 0;
-    while i < k {
-        wrong = wrong | !prices::in_range(sent[i]);
-        i += 1;
+    for price in sent {
+        wrong |= !prices::in_range(*price);
     }
     wrong
 }
 
 // Whether there isn't one price for each of n cars and w columns, or a price is out of its range: refusal 20.
-pub fn wrong_prices<'a>(n: usize, w: usize, u: &'a [i64], v: &'a [i64]) -> bool
+pub fn wrong_prices(n: usize, w: usize, u: &[i64], v: &[i64]) -> bool
     ensures { result ≡ refusal20 n w u.now v.now }
 {
-    let cars = mispriced(n, u);
-    let columns = mispriced(w, v);
-    cars | columns
+    mispriced(n, u) | mispriced(w, v)
 }

@@ -1,4 +1,7 @@
 -- Document 02, F-12: "With all second coordinates zero, an accepted edition 2 sheet answers as its edition 1 twin". Assumes nothing.
+use Rattle.std.specs.Prelude.{Ok, Result}
+use Rattle.layout.specs.declared.Refusal.{Refusal}
+use Rattle.layout.specs.Refused.{refused}
 use Rattle.std.specs.Prelude.{ℕ, ◌<◌, ◌≡◌, Bool, true, false, cond, List, length}
 use Rattle.std.proofs.Common.{sym, ◌∙◌}
 use Rattle.std.proofs.Math.Path.{ap, ap₂}
@@ -9,8 +12,6 @@ use Rattle.components.specs.declared.Car.{Car}
 use Rattle.components.specs.Points.{distance}
 use Rattle.components.specs.Sheet.{Sheet}
 use Rattle.layout.specs.declared.Counts.{Counts}
-use Rattle.layout.specs.declared.Reading.{Reading}
-use Rattle.layout.specs.declared.Reading.TheVariants.{Accepted, Refused}
 use Rattle.layout.specs.Table.{closed_stop_field}
 use Rattle.layout.specs.Offsets.{stop_start, line_start, car_start, aboard_start, waiting_start, demand_start, closed_start}
 use Rattle.layout.specs.Records.{from, read, stop_of, line_of, car_of, aboard_of, waiting_of, demand_of, sheet_of, limit_of}
@@ -123,7 +124,7 @@ module _ (s t : List ℕ) (c : Counts) (r : SameRecords s t c) (level : Level (s
       ∙ ap₂ (λ (z : Sheet) (l : ℕ). written z l x) other_is r.limit
 
 -- of the bytes and whatever the buffers held: it "answers as its edition 1 twin", and leaves what its twin leaves
-pub twin_pass : (s decisions cells sweeps : List ℕ) (c : Counts) → outcome_of (lent s decisions cells sweeps) ≡ Accepted c → edition s ≡ 2
+pub twin_pass : (s decisions cells sweeps : List ℕ) (c : Counts) → outcome_of (lent s decisions cells sweeps) ≡ Ok c → edition s ≡ 2
     → Level (sheet_of s c)
     → pass_of (lent s decisions cells sweeps) ≡ pass_of (lent (twin s) decisions cells sweeps)
 unfolding outcome
@@ -131,13 +132,13 @@ twin_pass s decisions cells sweeps c e two level =
     let x = lent s decisions cells sweeps in
     let y = lent (twin s) decisions cells sweeps in
     let b = refusal1 (length decisions) (length cells) (length sweeps) in
-    let v : verdict s ≡ Accepted c = past_one b e in
-    let w : verdict (twin s) ≡ Accepted (under 0 c) = twin_accepted s c v two in
-    let f : outcome_of y ≡ Accepted (under 0 c) = past_both b (verdict s) e w in
-    ap (λ (z : Reading). done_of z x) e
+    let v : verdict s ≡ Ok c = past_one b e in
+    let w : verdict (twin s) ≡ Ok (under 0 c) = twin_accepted s c v two in
+    let f : outcome_of y ≡ Ok (under 0 c) = past_both b (verdict s) e w in
+    ap (λ (z : Result Counts Refusal). done_of z x) e
     ∙ same_pass s (twin s) c (twin_records s c v two) level x
-    ∙ sym (ap (λ (z : Reading). done_of z y) f)
+    ∙ sym (ap (λ (z : Result Counts Refusal). done_of z y) f)
   where
-    past_both : (b : Bool) (v : Reading) {w : Reading} {c d : Counts} → cond b (Refused 1 0) v ≡ Accepted c → w ≡ Accepted d → cond b (Refused 1 0) w ≡ Accepted d
+    past_both : (b : Bool) (v : Result Counts Refusal) {w : Result Counts Refusal} {c d : Counts} → cond b (refused 1 0) v ≡ Ok c → w ≡ Ok d → cond b (refused 1 0) w ≡ Ok d
     past_both true v h k = absurd (refused≢accepted h)
     past_both false v h k = k

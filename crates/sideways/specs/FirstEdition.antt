@@ -1,4 +1,5 @@
 -- In edition 1 a distance is how far apart the two positions are, bit for bit: second coordinates of zero add nothing. Assumes nothing.
+use Rattle.std.specs.Prelude.{Ok}
 use Rattle.std.specs.Prelude.{ℕ, zero, suc, ◌*◌, ◌^◌, ◌≤◌, ◌<◌, ◌≡◌, refl, true, false, List, T, ℤ, Float}
 use Rattle.std.proofs.Common.{mul_right_comm, mul-one, zero-mul, mul-le-mul_right, le_of_mul-le-mul_right, le_trans, le_of_eq, le_refl, lt_of_le_of_lt, arith, sym, ap, ap₂, ◌∙◌, ⊎_elim, lit<, pow_pos}
 use Rattle.std.specs.Int.Count.{count_trailing_zeros}
@@ -22,7 +23,6 @@ use Rattle.components.specs.declared.Kind.TheVariants.{Policy, Stop, Line, Car, 
 use Rattle.components.specs.Codes.{kind_of}
 use Rattle.components.specs.Points.{distance, is_placed, along_inside}
 use Rattle.layout.specs.declared.Counts.{Counts}
-use Rattle.layout.specs.declared.Reading.TheVariants.{Accepted}
 use Rattle.layout.specs.Offsets.{across_bits, next}
 use Rattle.layout.specs.Records.{stop_of, car_of, sheet_of}
 use Rattle.layout.specs.Refusals.{edition, record_count, kind_at}
@@ -104,16 +104,16 @@ next_across c Demand = refl
 next_across c Closed = refl
 next_across c Unknown = refl
 
-across_kept : (s : List ℕ) (n : ℕ) (c d : Counts) → records_verdict s n c ≡ Accepted d → d.across ≡ c.across
+across_kept : (s : List ℕ) (n : ℕ) (c d : Counts) → records_verdict s n c ≡ Ok d → d.across ≡ c.across
 across_kept s zero c d e = ap (λ (x : Counts). x.across) (sym (at_end s c d e))
 across_kept s (suc n) c d e =
     across_kept s n (next c (kind_of (kind_at s c))) d (on s n c d e).1 ∙ next_across c (kind_of (kind_at s c))
 
 -- the bits of a second coordinate are those of its edition
-pub across_is : (s : List ℕ) (c : Counts) → verdict s ≡ Accepted c → c.across ≡ across_bits (edition s)
+pub across_is : (s : List ℕ) (c : Counts) → verdict s ≡ Ok c → c.across ≡ across_bits (edition s)
 across_is s c e = across_kept s (record_count s) (at_first s) c (headed s c e).rest
 
-module _ (s : List ℕ) (c : Counts) (v : verdict s ≡ Accepted c) (one : edition s ≡ 1) where
+module _ (s : List ℕ) (c : Counts) (v : verdict s ≡ Ok c) (one : edition s ≡ 1) where
   none_across : c.across ≡ 0
   none_across = across_is s c v ∙ ap across_bits one
 

@@ -1,4 +1,5 @@
 -- Alike sheets with the same bars: a pass answers and leaves the same. Assumes nothing.
+use Rattle.bench.specs.Answers.{passed}
 use Rattle.std.specs.Prelude.{ℕ, ◌<◌, ◌≡◌}
 use Rattle.components.specs.declared.Stop.{Stop}
 use Rattle.components.specs.declared.Line.{Line}
@@ -11,7 +12,6 @@ use Rattle.alike.specs.Alike.{Alike, other}
 use Rattle.alike.specs.Stops.{same_cars, same_stops}
 use Rattle.alike.proofs.Rows.{same_held, same_ranked}
 use Rattle.alike.proofs.Buffers.{same_total, same_decisions, same_cells, same_sweeps}
-use Rattle.bench.specs.declared.Answer.TheVariants.{Passed}
 use Rattle.bench.specs.Done.{Lent, written, answer_of, same_done}
 
 module _ (s : Sheet) (stop : ℕ → Stop) (line : ℕ → Line) (car : ℕ → Car) (aboard : ℕ → Aboard) (waiting : ℕ → Waiting)
@@ -20,7 +20,7 @@ module _ (s : Sheet) (stop : ℕ → Stop) (line : ℕ → Line) (car : ℕ → 
   abbrev t : Sheet
   t = other s stop line car aboard waiting demand closed
 
-  answers : {n n' m m' a a' r r' k k' : ℕ} → n ≡ n' → m ≡ m' → a ≡ a' → r ≡ r' → k ≡ k' → Passed n m a r k ≡ Passed n' m' a' r' k'
+  answers : {n n' m m' a a' r r' k k' : ℕ} → n ≡ n' → m ≡ m' → a ≡ a' → r ≡ r' → k ≡ k' → passed n m a r k ≡ passed n' m' a' r' k'
   answers a b c d e = cc
 
   same_answer : answer_of s limit ≡ answer_of t limit

@@ -1,13 +1,11 @@
 -- A turn of the loop of `whole_root`: the digits passed are p * p + r, and those to come are w. Assumes nothing.
 use Prim.Native.Nat.{ℕ, ◌+◌, ◌-◌, ◌*◌, ◌/◌, ◌%◌, ◌^◌, ◌≤◌, ◌<◌}
-use native.Mathlib.Nat.{lt_of_lt_of_le, le_of_suc-le-suc, mul_left_comm, mul-mul-mul_comm, pow-succ'}
+use native.Mathlib.Nat.{lt_of_lt_of_le, le_of_suc-le-suc, mul_comm, mul_left_comm, mul-mul-mul_comm, pow-succ'}
 use native.Mathlib.Numerals.{add-one}
 use native.Mathlib.Omega.{arith}
 use mathlib.Core.Path.{◌≡◌, sym, ap, ◌∙◌, subst}
-use lib.Dec.{lit<}
 use lib.Pow.{pow_mono}
 use Rattle.fp.specs.Fields.{field_one}
-use Rattle.square_root.specs.Steps.{Rooted}
 use Rattle.square_root.specs.Squares.{square_odd, square_even}
 
 abbrev pub Turn : ℕ → ℕ → ℕ → ℕ → ℕ → Type 0
@@ -24,9 +22,6 @@ four d i =
 below : (p i : ℕ) → i < 53 → p < 2 ^ i → p < field_one
 below p i h l = lt_of_lt_of_le l (pow_mono {j = 52} (le_of_suc-le-suc h))
 
-pub turn_first : (d : ℕ) → d < 4 * field_one → Turn d 0 0 d 0
-turn_first d h = (omega arith, omega arith, h, omega arith, lit< tt, omega arith)
-
 module _ (d p r w i : ℕ) (h : i < 53) (v : Turn d p r w i) where
   -- the next digit is 1
   pub turn_one : 4 * p < 4 * r + w / field_one → Turn d (2 * p + 1) (4 * r + w / field_one - (4 * p + 1)) (w % field_one * 4) (i + 1)
@@ -36,17 +31,11 @@ module _ (d p r w i : ℕ) (h : i < 53) (v : Turn d p r w i) where
       (omega arith, omega arith, omega arith, omega arith, omega (arith, twice i), omega (arith, four d i, square_odd p))
 
   -- it is 0
-  pub turn_none : 4 * r + w / field_one ≤ 4 * p → Turn d (2 * p) (4 * r + w / field_one) (w % field_one * 4) (i + 1)
+  pub turn_none : 4 * r + w / field_one ≤ 4 * p → Turn d (p * 2) (4 * r + w / field_one) (w % field_one * 4) (i + 1)
   turn_none g =
       let b = below p i h v.4 in
       let e = v.5 in
-      (omega arith, omega arith, omega arith, omega arith, omega (arith, twice i), omega (arith, four d i, square_even p))
-
-pub turn_last : (d p r w i : ℕ) → 53 ≤ i → Turn d p r w i → Rooted (d * field_one) p r
-turn_last d p r w i h v =
-    let l : i ≡ 53 = omega arith in
-    let e : (p * p + r) * 0x40_0000_0000_0000 + w ≡ d * (2 ^ 53 * 2 ^ 53) = v.5 ∙ ap (λ (k : ℕ). d * (2 ^ k * 2 ^ k)) l in
-    record { sum = omega arith; few = v.1 }
+      rw (mul_comm p 2) (omega arith, omega arith, omega arith, omega arith, omega (arith, twice i), omega (arith, four d i, square_even p))
 
 pub turn_same : (d p r w i p' r' : ℕ) → p' ≡ p → r' ≡ r → Turn d p r w i → Turn d p' r' w i
 turn_same d p r w i p' r' e f v = subst (λ (x : ℕ). Turn d x r' w i) (sym e) (subst (λ (y : ℕ). Turn d p y w i) (sym f) v)

@@ -6,7 +6,7 @@ use mathlib.Core.Path.{◌≡◌, refl, sym, ap, ◌∙◌}
 use mathlib.Core.Bool.{Bool, true, false, not}
 use lib.IntN.{ℤ}
 use lib.Dec.{T, eqb}
-use lib.Ieee.{Float, nan, inf, fin, binary64, up, down, units, is_nan, lt, eq, of_bits, nan_bits, div}
+use lib.Ieee.{Float, nan, inf, fin, binary64, up, down, units, lt, le, eq, of_bits, nan_bits}
 use lib.Ieee.Fits.{up_pos}
 use lib.Ieee.Bits.{nan_bits_above}
 use borrow.Author.Tests.{lt-ltb, le-ltb, ltb-false, eq-eqb, ne_eqb, eqb-true}
@@ -14,7 +14,7 @@ use Rattle.laws.specs.Bools.{never, both_left}
 use Rattle.fp.specs.Num as Num
 use Rattle.fp.specs.Num.{finite}
 use Rattle.fp.specs.Fields.{field_one, sign_one}
-use Rattle.fp.specs.Order.{no_digits}
+use Rattle.fp.specs.Order.{no_digits, le_tells, le_not, le_antisym, lt-le, eq_ge}
 use Rattle.square_root.specs.SquareRoot.{nearest_root, square_root}
 use Rattle.square_root.specs.Steps.{Evened, Rooted}
 use Rattle.square_root.specs.Kept.{packed, root_least, root_most, root_up}
@@ -44,12 +44,6 @@ number_bits r h = rw (nan_bits_above binary64 r, le-ltb 0x7ff0_0000_0000_0000 (r
 
 -- ---- sqrt
 
-pub number : (x : Float) → finite x ≡ true → T (not (is_nan x))
-unfolding is_nan
-number nan f = never f
-number (inf s) f = never f
-number (fin s m e) f = tt
-
 pub way_infinite : (x : Float) → lt Num.zero x ≡ true → finite x ≡ false → x ≡ square_root x
 unfolding square_root lt of_bits
 way_infinite nan l f = never l
@@ -57,11 +51,11 @@ way_infinite (inf true) l f = never l
 way_infinite (inf false) l f = refl
 way_infinite (fin s m e) l f = never (sym f)
 
-pub way_zero : (x : Float) → eq x Num.zero ≡ true → x ≡ square_root x
+zero_root : (x : Float) → eq x Num.zero ≡ true → x ≡ square_root x
 unfolding square_root eq of_bits
-way_zero nan h = never h
-way_zero (inf s) h = never h
-way_zero (fin s m e) h =
+zero_root nan h = never h
+zero_root (inf s) h = never h
+zero_root (fin s m e) h =
     let p : m * up e * 1 ≡ 0 * down e = eqb-true _ _ (both_left (eqb (m * up e * 1) (0 * down e)) _ h) in
     rw (eq-eqb m 0 (no_digits m (up e) (up_pos e) (omega (arith, zero-mul (down e)))))
 
@@ -71,12 +65,24 @@ unfolding eq of_bits
 level_zero true m e z = rw (z, zero-mul (up e), zero-mul (down e))
 level_zero false m e z = rw (z, zero-mul (up e), zero-mul (down e))
 
-pub way_none : (x : Float) → lt Num.zero x ≡ false → eq x Num.zero ≡ false → div binary64 Num.zero Num.zero ≡ square_root x
-unfolding square_root lt of_bits div
-way_none nan l h = refl
-way_none (inf true) l h = refl
-way_none (inf false) l h = never (sym l)
-way_none (fin true m e) l h = rw (ne_eqb m 0 (λ (z : m ≡ 0). never (sym h ∙ level_zero true m e z)))
-way_none (fin false m e) l h =
+none : (x : Float) → lt Num.zero x ≡ false → eq x Num.zero ≡ false → nan ≡ square_root x
+unfolding square_root lt of_bits
+none nan l h = refl
+none (inf true) l h = refl
+none (inf false) l h = never (sym l)
+none (fin true m e) l h = rw (ne_eqb m 0 (λ (z : m ≡ 0). never (sym h ∙ level_zero true m e z)))
+none (fin false m e) l h =
     let p : m * up e * 1 ≤ 0 * down e = ltb-false (0 * down e) (m * up e * 1) l in
     never (sym h ∙ level_zero false m e (no_digits m (up e) (up_pos e) (omega (arith, zero-mul (down e)))))
+
+-- at least zero, and not above it
+pub way_zero : (x : Float) → lt Num.zero x ≡ false → le Num.zero x ≡ true → x ≡ square_root x
+way_zero x l h = let (z, r, n) = le_tells Num.zero x h in zero_root x (le_antisym x Num.zero (le_not x Num.zero r z l) h)
+
+-- below zero, or a NaN
+pub way_none : (x : Float) → le Num.zero x ≡ false → nan ≡ square_root x
+way_none x h = none x (not_so _ (lt-le Num.zero x)) (not_so _ (eq_ge x Num.zero))
+  where
+    not_so : (a : Bool) → (a ≡ true → le Num.zero x ≡ true) → a ≡ false
+    not_so true g = never (sym h ∙ g refl)
+    not_so false g = refl

@@ -1,5 +1,5 @@
 -- A stored case: where its parts lie, and in how many entries the numbers of a pass and its buffers differ from it. Assumes nothing.
-use Rattle.std.specs.Prelude.{ℕ, ◌+◌, ◌-◌, ◌*◌, ◌≤◌, ◌<◌, max, ◌≡◌, refl, Bool, not, cond, List, ◌≢◌, eqb, ltb, length, get_or}
+use Rattle.std.specs.Prelude.{ℕ, ◌+◌, ◌-◌, ◌*◌, ◌≤◌, ◌<◌, max, ◌≡◌, refl, Bool, not, cond, Option, Some, None, List, ◌≢◌, eqb, ltb, length, get_or}
 use Rattle.std.proofs.Math.Path.{sym}
 use Rattle.std.proofs.Common.{mul-le-mul}
 use native.Mathlib.Omega.{arith}
@@ -7,21 +7,19 @@ use borrow.Author.Tests.{eq-eqb, ne_eqb, lt-ltb, le-ltb}
 use Rattle.laws.specs.Bools.{bit, bit-lt}
 use Rattle.laws.specs.Folds.{count, count_next, count-le}
 use Rattle.lists.specs.Lists.{number}
-use Rattle.stored_passes.specs.declared.Place.{Place}
-use Rattle.stored_passes.specs.declared.Place.TheVariants.{Whole, Cut}
 use Rattle.stored_passes.specs.declared.Stored.{Stored}
 
 -- ---- where a case's parts lie
 
 -- after a sheet that ends at byte end, with n idle cars and w columns; cut where some of it is not there
-unfoldable pub parts_of : List ℕ → ℕ → ℕ → ℕ → Place
+unfoldable pub parts_of : List ℕ → ℕ → ℕ → ℕ → Option Stored
 parts_of s end n w =
     let front = 12 + 4 * n + 8 * (n * w) in
     let records = number s (end + front) 1 in
     cond (ltb front (length s - end))
-    (cond (ltb 32 records) Cut
-    (cond (ltb (length s - end) (front + 2 + records)) Cut
-    (Whole (record {
+    (cond (ltb 32 records) None
+    (cond (ltb (length s - end) (front + 2 + records)) None
+    (Some (record {
       end = end;
       cars = n;
       size = n * w;
@@ -31,19 +29,19 @@ parts_of s end n w =
       records = records;
       next = end + front + 2 + records;
     }))))
-    Cut
+    None
 
 -- the case at byte at: the sheet's length in 16 bits, its bytes, n and m in 8 bits each
-unfoldable pub case_of : List ℕ → ℕ → Place
+unfoldable pub case_of : List ℕ → ℕ → Option Stored
 case_of s at =
     let bytes = number s at 2 in
     let end = at + 2 + bytes in
     let n = number s end 1 in
     let w = max n (number s (end + 1) 1) in
-    cond (ltb (length s - at) 2) Cut
-    (cond (ltb (length s - at) (bytes + 14)) Cut
-    (cond (ltb 32 n) Cut
-    (cond (ltb 64 w) Cut
+    cond (ltb (length s - at) 2) None
+    (cond (ltb (length s - at) (bytes + 14)) None
+    (cond (ltb 32 n) None
+    (cond (ltb 64 w) None
     (parts_of s end n w))))
 
 -- the parts follow each other, and are there
@@ -58,9 +56,9 @@ pub record Inside (s : List ℕ) (p : Stored) : Type 0 where
   pub inside : p.next ≤ length s
 
 -- after a sheet that starts at byte at
-abbrev pub Placed : List ℕ → ℕ → Place → Type 0
-Placed s at (Whole p) = (at ≤ p.end) × Inside s p
-Placed s at Cut = Unit {0}
+abbrev pub Placed : List ℕ → ℕ → Option Stored → Type 0
+Placed s at (Some p) = (at ≤ p.end) × Inside s p
+Placed s at None = Unit {0}
 
 -- ---- a pass beside a case
 
@@ -147,9 +145,9 @@ head_inside s p i = omega (arith, i.decisions_from, i.cells_from, i.sweeps_from,
 pub small_size : (n w : ℕ) → n ≤ 32 → w ≤ 64 → n * w ≤ 2048
 small_size n w h l = mul-le-mul h l
 
-pub placed_from : (s : List ℕ) (a e : ℕ) (r : Place) → a ≤ e → Placed s e r → Placed s a r
-placed_from s a e (Whole p) h i = (omega (arith, i.0), i.1)
-placed_from s a e Cut h i = tt
+pub placed_from : (s : List ℕ) (a e : ℕ) (r : Option Stored) → a ≤ e → Placed s e r → Placed s a r
+placed_from s a e (Some p) h i = (omega (arith, i.0), i.1)
+placed_from s a e None h i = tt
 
 -- ---- the parts, test by test
 
@@ -157,21 +155,21 @@ module _ (s : List ℕ) (end n w : ℕ) where
   abbrev front : ℕ
   front = 12 + 4 * n + 8 * (n * w)
 
-  pub parts_short : length s - end ≤ front → Cut ≡ parts_of s end n w
+  pub parts_short : length s - end ≤ front → None ≡ parts_of s end n w
   unfolding parts_of
   parts_short h = rw (le-ltb front (length s - end) h)
 
   module _ (long : front < length s - end) {records : ℕ} (e : records ≡ number s (end + front) 1) where
-    pub parts_many : 32 < records → Cut ≡ parts_of s end n w
+    pub parts_many : 32 < records → None ≡ parts_of s end n w
     unfolding parts_of
     parts_many h = rw (lt-ltb front (length s - end) long, sym e, lt-ltb 32 records h)
 
-    pub parts_cut : records ≤ 32 → length s - end < front + 2 + records → Cut ≡ parts_of s end n w
+    pub parts_cut : records ≤ 32 → length s - end < front + 2 + records → None ≡ parts_of s end n w
     unfolding parts_of
     parts_cut h short = rw (lt-ltb front (length s - end) long, sym e, le-ltb 32 records h, lt-ltb (length s - end) (front + 2 + records) short)
 
     pub parts_whole : records ≤ 32 → front + 2 + records ≤ length s - end
-        → Whole (record {
+        → Some (record {
           end = end;
           cars = n;
           size = n * w;
@@ -186,22 +184,22 @@ module _ (s : List ℕ) (end n w : ℕ) where
     parts_whole h whole = rw (lt-ltb front (length s - end) long, sym e, le-ltb 32 records h, le-ltb (length s - end) (front + 2 + records) whole)
 
 module _ (s : List ℕ) (at : ℕ) where
-  pub case_headless : length s - at < 2 → Cut ≡ case_of s at
+  pub case_headless : length s - at < 2 → None ≡ case_of s at
   unfolding case_of
   case_headless h = rw (lt-ltb (length s - at) 2 h)
 
   module _ (long : 2 ≤ length s - at) {bytes : ℕ} (e : bytes ≡ number s at 2) where
-    pub case_short : length s - at < bytes + 14 → Cut ≡ case_of s at
+    pub case_short : length s - at < bytes + 14 → None ≡ case_of s at
     unfolding case_of
     case_short h = rw (le-ltb (length s - at) 2 long, sym e, lt-ltb (length s - at) (bytes + 14) h)
 
     module _ (whole : bytes + 14 ≤ length s - at) {n m w : ℕ} (en : n ≡ number s (at + 2 + bytes) 1) (em : m ≡ number s (at + 2 + bytes + 1) 1)
         (ew : w ≡ max n m) where
-      pub case_cars : 32 < n → Cut ≡ case_of s at
+      pub case_cars : 32 < n → None ≡ case_of s at
       unfolding case_of
       case_cars h = rw (le-ltb (length s - at) 2 long, sym e, le-ltb (length s - at) (bytes + 14) whole, sym en, lt-ltb 32 n h)
 
-      pub case_wide : n ≤ 32 → 64 < w → Cut ≡ case_of s at
+      pub case_wide : n ≤ 32 → 64 < w → None ≡ case_of s at
       unfolding case_of
       case_wide h k =
           rw (le-ltb (length s - at) 2 long, sym e, le-ltb (length s - at) (bytes + 14) whole, sym en, le-ltb 32 n h, sym em, sym ew, lt-ltb 64 w k)

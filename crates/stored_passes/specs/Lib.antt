@@ -1,3 +1,4 @@
 pub mod Cases
 pub mod Passes
+pub mod Printed
 pub mod Tallies

@@ -5,13 +5,15 @@
 // significant byte comes first.
 #![tactic(auto)]
 
-ghost use Rattle.std.specs.Prelude.{◌≡◌, ◌+◌, ◌≤◌, ◌<◌, ◌*◌, max, length};
+ghost use Rattle.std.specs.Prelude.{◌≡◌, ℕ, List, ◌+◌, ◌≤◌, ◌<◌, ◌*◌, Some, length};
 ghost use Rattle.stored_passes.specs.Cases.{apart, differing, Inside, Placed, parts_of, case_of, case_differs};
-ghost use Rattle.stored_passes.specs.Passes.{pass_differs};
-ghost use Rattle.stored_passes.specs.Tallies.{met_of, tallied_of, case_tally, pass_tally};
+ghost use Rattle.stored_passes.specs.Passes.{pass_differs, all_ones, sheet_in};
+ghost use Rattle.stored_passes.specs.Tallies.{Widened, met_of, tallied_of, case_tally, pass_tally};
+ghost use Rattle.stored_passes.specs.Printed.{entry_text, difference_text};
 
-use bench::Answer;
-use std::io;
+use bench::Passed;
+use layout::Refusal;
+use std::{fmt, io};
 
 // Where the parts of a case lie: the sheet's end, the decisions, the cells, the sweeps and the next case, by byte; and how many idle cars, cells and
 // car records are stored.
@@ -27,30 +29,99 @@ pub struct Stored {
     pub next: usize,
 }
 
-#[derive(Clone, Copy)]
-pub enum Place {
-    Whole(Stored),
-    Cut,
+impl Stored {
+    // The sheet of the case at byte at.
+    pub fn sheet(self, s: &[u8], at: usize) -> &[u8]
+        requires { (at + 2 ≤ self.end) × (self.end ≤ length s.now) }
+        ensures { result.now ≡ sheet_in s.now at self }
+    {
+        &s[at + 2..self.end]
+    }
 }
 
-// How many entries differ, and the first that does: its kind (of `print_kind`), its index, and both values.
+// What of a pass an entry is.
 #[derive(Clone, Copy)]
-pub struct Tally {
-    pub differ: u64,
-    pub kind: u8,
+pub enum Entry {
+    Cars,
+    Stops,
+    Total,
+    Held,
+    Decision,
+    Cell,
+    Sweep,
+    Refusal,
+}
+
+impl fmt::Display for Entry {
+    ghost output = { λ e. Some (entry_text e) };
+
+    fn fmt<W: fmt::Write>(&self, f: &mut fmt::Formatter<W>) -> fmt::Result {
+        match *self {
+            Entry::Cars => write!(f, "cars"),
+            Entry::Stops => write!(f, "stops"),
+            Entry::Total => write!(f, "total"),
+            Entry::Held => write!(f, "held"),
+            Entry::Decision => write!(f, "decision"),
+            Entry::Cell => write!(f, "cell"),
+            Entry::Sweep => write!(f, "sweep"),
+            Entry::Refusal => write!(f, "refusal"),
+        }
+    }
+}
+
+// An entry that differs, by its index among its kind, and both values.
+#[derive(Clone, Copy)]
+pub struct Difference {
+    pub entry: Entry,
     pub index: u64,
     pub ours: u64,
     pub theirs: u64,
 }
 
-fn columns(n: usize, m: usize) -> usize
-    ensures { result ≡ max n m }
-{
-    if n < m { m } else { n }
+impl fmt::Display for Difference {
+    ghost output = { λ d. Some (difference_text d) };
+
+    fn fmt<W: fmt::Write>(&self, f: &mut fmt::Formatter<W>) -> fmt::Result {
+        let Difference {
+            entry,
+            index,
+            ours,
+            theirs,
+        } = *self;
+        write!(f, "{entry} {index}, ours {ours}, theirs {theirs}")
+    }
+}
+
+// How many entries differ, and the first that does.
+#[derive(Clone, Copy)]
+pub struct Tally {
+    pub differ: u64,
+    pub first: Option<Difference>,
+}
+
+// What a pass is lent.
+#[derive(Drop)]
+pub struct Buffers {
+    pub decisions: [u32; 32],
+    pub matrix: [u64; 2048],
+    pub sweeps: [u8; 32],
+}
+
+impl Buffers {
+    // With ones in every bit.
+    pub fn ones() -> Self
+        ensures { result ≡ all_ones }
+    {
+        Buffers {
+            decisions: [u32::MAX; 32],
+            matrix: [u64::MAX; 2048],
+            sweeps: [u8::MAX; 32],
+        }
+    }
 }
 
 // The parts after a sheet that ends at byte end, with n idle cars and w columns.
-fn parts(s: &[u8], end: usize, n: usize, w: usize) -> Place
+fn parts(s: &[u8], end: usize, n: usize, w: usize) -> Option<Stored>
     requires { (end + 12 ≤ length s.now) × (n ≤ 32) × (w ≤ 64) }
     ensures { (result ≡ parts_of s.now end n w) × Placed s.now end result }
 {
@@ -58,16 +129,16 @@ fn parts(s: &[u8], end: usize, n: usize, w: usize) -> Place
     let left = s.len() - end;
     let front = 12 + 4 * n + 8 * size;
     if left <= front {
-        return Place::Cut;
+        return None;
     }
     let records = lists::number(s, end + front, 1) as usize;
     if 32 < records {
-        return Place::Cut;
+        return None;
     }
     if left < front + 2 + records {
-        return Place::Cut;
+        return None;
     }
-    Place::Whole(Stored {
+    Some(Stored {
         end,
         cars: n,
         size,
@@ -79,207 +150,149 @@ fn parts(s: &[u8], end: usize, n: usize, w: usize) -> Place
     })
 }
 
-// The parts of the case at byte at.
-pub fn case_at(s: &[u8], at: usize) -> Place
+// The parts of the case at byte at, where it is whole.
+pub fn case_at(s: &[u8], at: usize) -> Option<Stored>
     requires { at ≤ length s.now }
     ensures { (result ≡ case_of s.now at) × Placed s.now (at + 2) result }
 {
     let left = s.len() - at;
     if left < 2 {
-        return Place::Cut;
+        return None;
     }
     let bytes = lists::number(s, at, 2) as usize;
     if left < bytes + 14 {
-        return Place::Cut;
+        return None;
     }
     let end = at + 2 + bytes;
     let n = lists::number(s, end, 1) as usize;
     let m = lists::number(s, end + 1, 1) as usize;
-    let w = columns(n, m);
+    let w = n.max(m);
     if 32 < n {
-        return Place::Cut;
+        return None;
     }
     if 64 < w {
-        return Place::Cut;
+        return None;
     }
     parts(s, end, n, w)
 }
 
-// One entry more.
-fn met(t: Tally, kind: u8, index: usize, ours: u64, theirs: u64) -> Tally
-    requires { t.differ < 1000000 }
-    ensures { (result ≡ met_of t kind index ours theirs) × (result.differ ≡ t.differ + apart ours theirs) }
-{
-    if ours == theirs {
-        return t;
-    }
-    if 0 < t.differ {
-        return Tally {
-            differ: t.differ + 1,
-            kind: t.kind,
-            index: t.index,
-            ours: t.ours,
-            theirs: t.theirs,
+impl Tally {
+    // One entry more.
+    fn met(self, entry: Entry, index: usize, ours: u64, theirs: u64) -> Self
+        requires { self.differ < 1000000 }
+        ensures { (result ≡ met_of self entry index ours theirs) × (result.differ ≡ self.differ + apart ours theirs) }
+    {
+        if ours == theirs {
+            return self;
+        }
+        let here = Difference {
+            entry,
+            index: index as u64,
+            ours,
+            theirs,
         };
-    }
-    Tally {
-        differ: 1,
-        kind,
-        index: index as u64,
-        ours,
-        theirs,
+        Tally {
+            differ: self.differ + 1,
+            first: self.first.or(Some(here)),
+        }
     }
 }
 
-fn wide32(x: u32) -> u64
-    ensures { result ≡ x }
-{
-    x as u64
-}
-
-fn wide8(x: u8) -> u64
-    ensures { result ≡ x }
-{
-    x as u64
-}
-
-fn decisions_met<'a>(s: &'a [u8], at: usize, ours: &'a [u32], n: usize, t: Tally) -> Tally
-    requires { (at + 4 * n ≤ length s.now) × (n ≤ length ours.now) × (n ≤ 2048) × (t.differ ≤ 9000) }
-    ensures { (result ≡ tallied_of s.now at 4 4 ours.now t n)
-        × (result.differ ≡ t.differ + differing s.now at 4 ours.now n) }
+// The entries of a buffer beside those that are stored from byte at, width bytes each.
+fn entries_met<T: Copy + Into<u64>>(
+    s: &[u8],
+    at: usize,
+    width: usize,
+    ours: &[T],
+    entry: Entry,
+    t: Tally,
+) -> Tally
+    requires { (width ≤ 8) × (at + width * length ours.now ≤ length s.now) × (length ours.now ≤ 2048) × (t.differ ≤ 9000) }
+    ensures is { (xs : List ℕ) → Widened T.converts ours.now xs
+        → (result ≡ tallied_of s.now at width entry xs t (length ours.now))
+        × (result.differ ≡ t.differ + differing s.now at width xs (length ours.now)) }
+    ensures few { result.differ ≤ t.differ + length ours.now }
 {
     let mut d = t;
-    let mut k: usize = 0;
-    while k < n {
-        d = met(d, 4, k, wide32(ours[k]), lists::number(s, at + 4 * k, 4));
-        k += 1;
-    }
-    d
-}
-
-fn cells_met<'a>(s: &'a [u8], at: usize, ours: &'a [u64], n: usize, t: Tally) -> Tally
-    requires { (at + 8 * n ≤ length s.now) × (n ≤ length ours.now) × (n ≤ 2048) × (t.differ ≤ 9000) }
-    ensures { (result ≡ tallied_of s.now at 8 5 ours.now t n)
-        × (result.differ ≡ t.differ + differing s.now at 8 ours.now n) }
-{
-    let mut d = t;
-    let mut k: usize = 0;
-    while k < n {
-        d = met(d, 5, k, ours[k], lists::number(s, at + 8 * k, 8));
-        k += 1;
-    }
-    d
-}
-
-fn sweeps_met<'a>(s: &'a [u8], at: usize, ours: &'a [u8], n: usize, t: Tally) -> Tally
-    requires { (at + 1 * n ≤ length s.now) × (n ≤ length ours.now) × (n ≤ 2048) × (t.differ ≤ 9000) }
-    ensures { (result ≡ tallied_of s.now at 1 6 ours.now t n)
-        × (result.differ ≡ t.differ + differing s.now at 1 ours.now n) }
-{
-    let mut d = t;
-    let mut k: usize = 0;
-    while k < n {
-        d = met(d, 6, k, wide8(ours[k]), lists::number(s, at + 1 * k, 1));
-        k += 1;
+    for k in 0..ours.len() {
+        d = d.met(
+            entry,
+            k,
+            ours[k].into(),
+            lists::number(s, at + width * k, width),
+        );
     }
     d
 }
 
 // A pass beside the case: every entry that is stored is met once.
-fn compared<'a>(
-    s: &'a [u8],
+fn compared(
+    s: &[u8],
     p: Stored,
     cars: u64,
     stops: u64,
     total: u64,
     held: u64,
-    decisions: &'a [u32],
-    matrix: &'a [u64],
-    sweeps: &'a [u8],
+    left: &Buffers,
 ) -> Tally
-    requires { Inside s.now p × (length decisions.now ≡ 32) × (length matrix.now ≡ 2048) × (length sweeps.now ≡ 32) }
-    ensures tally { result ≡ case_tally s.now p cars stops total held decisions.now matrix.now
-        sweeps.now }
-    ensures differ { result.differ ≡ case_differs s.now p cars stops total held decisions.now matrix.now
-        sweeps.now }
+    requires { Inside s.now p }
+    ensures tally { result ≡ case_tally s.now p cars stops total held left.now.decisions left.now.matrix left.now.sweeps }
+    ensures differ { result.differ ≡ case_differs s.now p cars stops total held left.now.decisions
+        left.now.matrix left.now.sweeps }
 {
     let none = Tally {
         differ: 0,
-        kind: 0,
-        index: 0,
-        ours: 0,
-        theirs: 0,
+        first: None,
     };
-    let a = met(none, 0, 0, cars, lists::number(s, p.end, 1));
-    let b = met(a, 1, 0, stops, lists::number(s, p.end + 1, 1));
-    let c = met(b, 2, 0, total, lists::number(s, p.end + 2, 8));
-    let d = met(c, 3, 0, held, lists::number(s, p.end + 10, 2));
-    let e = decisions_met(s, p.decisions, decisions, p.cars, d);
-    let f = cells_met(s, p.cells, matrix, p.size, e);
-    sweeps_met(s, p.sweeps, sweeps, p.records, f)
+    let a = none.met(Entry::Cars, 0, cars, lists::number(s, p.end, 1));
+    let b = a.met(Entry::Stops, 0, stops, lists::number(s, p.end + 1, 1));
+    let c = b.met(Entry::Total, 0, total, lists::number(s, p.end + 2, 8));
+    let d = c.met(Entry::Held, 0, held, lists::number(s, p.end + 10, 2));
+    let e = entries_met(
+        s,
+        p.decisions,
+        4,
+        &left.decisions[..p.cars],
+        Entry::Decision,
+        d,
+    );
+    let f = entries_met(s, p.cells, 8, &left.matrix[..p.size], Entry::Cell, e);
+    entries_met(s, p.sweeps, 1, &left.sweeps[..p.records], Entry::Sweep, f)
 }
 
 // The answer of a pass beside the case; a refusal counts as one difference.
-pub fn answered<'a>(
-    s: &'a [u8],
-    p: Stored,
-    answer: Answer,
-    decisions: &'a [u32],
-    matrix: &'a [u64],
-    sweeps: &'a [u8],
-) -> Tally
-    requires { Inside s.now p × (length decisions.now ≡ 32) × (length matrix.now ≡ 2048) × (length sweeps.now ≡ 32) }
-    ensures tally { result ≡ pass_tally s.now p answer decisions.now matrix.now sweeps.now }
-    ensures differ { result.differ ≡ pass_differs s.now p answer decisions.now matrix.now sweeps.now }
+pub fn answered(s: &[u8], p: Stored, answer: Result<Passed, Refusal>, left: &Buffers) -> Tally
+    requires { Inside s.now p }
+    ensures tally { result ≡ pass_tally s.now p answer left.now.decisions left.now.matrix left.now.sweeps }
+    ensures differ { result.differ ≡ pass_differs s.now p answer left.now.decisions left.now.matrix left.now.sweeps }
 {
     match answer {
-        Answer::Refused { number, offset: _ } => Tally {
+        Err(refusal) => Tally {
             differ: 1,
-            kind: 7,
-            index: 0,
-            ours: number as u64,
-            theirs: 0,
+            first: Some(Difference {
+                entry: Entry::Refusal,
+                index: 0,
+                ours: u64::from(refusal.number),
+                theirs: 0,
+            }),
         },
-        Answer::Passed {
-            cars,
-            stops,
-            total,
-            ranked: _,
-            held,
-        } => compared(s, p, cars, stops, total, held, decisions, matrix, sweeps),
+        Ok(passed) => compared(
+            s,
+            p,
+            passed.cars,
+            passed.stops,
+            passed.total,
+            passed.held,
+            left,
+        ),
     }
 }
 
-fn print_kind(rt: &impl Print, kind: u8) -> io::Result<()> {
-    match kind {
-        0 => print!(rt; "cars"),
-        1 => print!(rt; "stops"),
-        2 => print!(rt; "total"),
-        3 => print!(rt; "held"),
-        4 => print!(rt; "decision"),
-        5 => print!(rt; "cell"),
-        6 => print!(rt; "sweep"),
-        _ => print!(rt; "refusal"),
-    }
-}
-
-// A text, and a number after it.
-pub fn print_number(rt: &impl Print, before: &[u8], n: u64) -> io::Result<()> {
-    rt.write_all(before)?;
-    print!(rt; "{n}")
-}
-
-// The first difference of case number k, at byte at, where it has one.
+// The first difference of case number k, at byte at, where it has one. The name is bytes: a `&str` would ask more of callers.
 pub fn report(rt: &impl Print, name: &[u8], k: u64, at: usize, t: Tally) -> io::Result<()> {
-    if t.differ == 0 {
+    let Some(first) = t.first else {
         return Ok(());
-    }
-    print_number(rt, name, k)?;
-    print_number(rt, b" at byte ", at as u64)?;
-    print!(rt; ": ")?;
-    print_kind(rt, t.kind)?;
-    print_number(rt, b" ", t.index)?;
-    print_number(rt, b", ours ", t.ours)?;
-    print_number(rt, b", theirs ", t.theirs)?;
-    println!(rt; "")
+    };
+    rt.write_all(name)?;
+    println!(rt; "{k} at byte {at}: {first}")
 }

@@ -1,4 +1,5 @@
 -- Sweeps: sweep.rs, and SCAN's prepare_car. Assumes nothing.
+use Rattle.std.specs.Prelude.{None, Option, Some}
 use Rattle.std.specs.Prelude.{ℕ, ◌+◌, ◌*◌, Bool, cond, Float}
 use Rattle.std.specs.Float.Ieee.{lt}
 use Rattle.fp.specs.Num.{plus, minus, epsilon}
@@ -8,8 +9,6 @@ use Rattle.components.specs.declared.Mode.{Mode}
 use Rattle.components.specs.declared.Mode.TheVariants.{Strict, Lenient}
 use Rattle.components.specs.declared.Point.{Point}
 use Rattle.components.specs.declared.Car.{Car}
-use Rattle.components.specs.declared.Rank.{Rank}
-use Rattle.components.specs.declared.Rank.TheVariants.{Cost, Never}
 use Rattle.components.specs.Codes.{direction_code, mode_code}
 use Rattle.components.specs.Points.{distance}
 use Rattle.sweep.specs.declared.Sweep.{Sweep}
@@ -44,8 +43,8 @@ accepts Lenient Up x p = lt (minus x epsilon) p
 accepts Lenient Down x p = lt p (plus x epsilon)
 
 -- rank. F-12: a distance is of both coordinates, and "Directions .. use the first coordinate."
-unfoldable pub sweep_rank : Sweep → Point → Point → Rank
-sweep_rank w x p = cond (accepts w.mode w.direction x.along p.along) (Cost (distance x p)) Never
+unfoldable pub sweep_rank : Sweep → Point → Point → Option Float
+sweep_rank w x p = cond (accepts w.mode w.direction x.along p.along) (Some (distance x p)) None
 
 -- "for each car record 2 × sweep + mode"
 unfoldable pub sweep_code : Sweep → ℕ

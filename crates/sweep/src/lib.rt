@@ -3,24 +3,14 @@
 
 ghost use Rattle.std.specs.Prelude.{◌≡◌};
 ghost use Rattle.components.specs.declared.Mode.TheVariants.{Lenient};
-ghost use Rattle.sweep.specs.Sweeps.{sweep_of, reversed, turned_round, strictly_ahead, prepared, accepts, sweep_rank, sweep_code};
+ghost use Rattle.sweep.specs.Sweeps.{sweep_of, turned_round, strictly_ahead, prepared, accepts, sweep_rank, sweep_code};
 
-use components::{Car, Direction, Mode, Point, Rank};
+use components::{Car, Direction, Mode, Point};
 
 #[derive(Clone, Copy)]
 pub struct Sweep {
     pub direction: Direction,
     pub mode: Mode,
-}
-
-// SweepDirection::reversed.
-fn reversed(direction: Direction) -> Direction
-    ensures { result ≡ reversed direction }
-{
-    match direction {
-        Direction::Up => Direction::Down,
-        Direction::Down => Direction::Up,
-    }
 }
 
 // Whether p lies ahead of a car at x by more than 1e-9.
@@ -58,75 +48,62 @@ impl Sweep {
     pub fn of(car: Car) -> Self
         ensures { result ≡ sweep_of car }
     {
-        let direction = car.direction;
-        let mode = car.mode;
         Sweep {
-            direction: direction,
-            mode: mode,
+            direction: car.direction,
+            mode: car.mode,
         }
     }
 
-    // The same mode, the other way.
+    // The same mode, the other way: SweepDirection::reversed.
     fn reversed(self) -> Self
         ensures { result ≡ turned_round self }
     {
-        let direction = self.direction;
-        let mode = self.mode;
-        let back = reversed(direction);
-        Sweep {
-            direction: back,
-            mode: mode,
-        }
+        let direction = match self.direction {
+            Direction::Up => Direction::Down,
+            Direction::Down => Direction::Up,
+        };
+        Sweep { direction, ..self }
     }
 
     // prepare_car: on, strict, where demand lies strictly ahead; else back, lenient.
+    #[tactic(auto, unfolding(crate::specs::Sweeps::prepared))]
     pub fn prepare(self, ahead: bool) -> Self
         ensures { result ≡ prepared self ahead }
     {
         if ahead {
-            let direction = self.direction;
             Sweep {
-                direction: direction,
                 mode: Mode::Strict,
+                ..self
             }
         } else {
-            let back = self.reversed();
-            let direction = back.direction;
             Sweep {
-                direction: direction,
                 mode: Mode::Lenient,
+                ..self.reversed()
             }
         }
     }
 
     // The cost of a stop at p for a car at x: the distance, where the sweep takes it.
-    pub fn rank(self, x: Point, p: Point) -> Rank
+    pub fn rank(self, x: Point, p: Point) -> Option<f64>
         ensures { result ≡ sweep_rank self x p }
     {
-        let mode = self.mode;
-        let direction = self.direction;
-        if accepts(mode, direction, x.along, p.along) {
-            Rank::Cost(x.distance(p))
+        if accepts(self.mode, self.direction, x.along, p.along) {
+            Some(x.distance(p))
         } else {
-            Rank::Never
+            None
         }
     }
 
     // 2 × sweep + mode, as the sheet codes them.
+    #[tactic(auto, unfolding(crate::specs::Sweeps::sweep_code))]
     pub fn code(self) -> u8
         ensures { result ≡ sweep_code self }
     {
-        let mode = self.mode;
-        let direction = self.direction;
-        match direction {
-            Direction::Up => match mode {
-                Mode::Strict => 0,
-                Mode::Lenient => 1,
-            },
-            Direction::Down => match mode {
-                Mode::Strict => 2,
-                Mode::Lenient => 3,
-            },
+        match (self.direction, self.mode) {
+            (Direction::Up, Mode::Strict) => 0,
+            (Direction::Up, Mode::Lenient) => 1,
+            (Direction::Down, Mode::Strict) => 2,
+            (Direction::Down, Mode::Lenient) => 3,
         }
     }
 }

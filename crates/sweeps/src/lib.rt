@@ -19,8 +19,8 @@ fn sweep_at(s: &[u8], at: u32) -> Sweep
     ensures { (w : ℕ) → result ≡ sweep_of (car_of w (from s.now at)) }
 {
     Sweep {
-        direction: Direction::of_bit(bits::flag(s, at, car::SWEEP)),
-        mode: Mode::of_bit(bits::flag(s, at, car::MODE)),
+        direction: Direction::from(bits::flag(s, at, car::SWEEP)),
+        mode: Mode::from(bits::flag(s, at, car::MODE)),
     }
 }
 
@@ -62,11 +62,9 @@ pub fn fill_sweeps<'a>(s: &'a [u8], c: Counts, masks: StopMasks, xs: &'a [f64], 
     let policy = sheet::policy_at(s);
     let strategy = policy.strategy;
     let n = c.cars;
-    let mut i: u32 = 0;
-    while i < n {
+    for i in 0..n {
         let at = c.car_start(i);
         let sweep = swept_at(s, at, strategy, masks, xs, c.stops as usize);
         out[i as usize] = sweep.code();
-        i += 1;
     }
 }

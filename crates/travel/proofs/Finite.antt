@@ -1,5 +1,5 @@
 -- In the domain the time is finite: it is at most 2^84 in size. Nothing is said of its sign: it can come out below zero. Assumes nothing.
-use Rattle.std.specs.Prelude.{ℕ, ◌^◌, ◌≡◌, refl, ◌⊎◌, Bool, ◌&&◌, ◌||◌, cond, T, Float}
+use Rattle.std.specs.Prelude.{ℕ, ◌^◌, ◌≡◌, refl, ◌⊎◌, Bool, ◌&&◌, ◌||◌, cond, T, Float, Some, None}
 use Rattle.std.proofs.Common.{arith, inl, inr, lit≤, lit<}
 use Rattle.std.proofs.Math.Logic.{⊎_elim}
 use Rattle.std.proofs.Math.Bool.{true, false}
@@ -18,7 +18,6 @@ use Rattle.multiply_add.specs.MulAdd.{mul_add}
 use Rattle.multiply_add.specs.Sizes.{mul_add_size, mul_add_fits}
 use Rattle.square_root.specs.SquareRoot.{square_root}
 use Rattle.square_root.proofs.Sizes.{root_size}
-use Rattle.travel.specs.declared.TravelTime.TheVariants.{Seconds, Refused}
 use Rattle.travel.specs.Ramps.{two, no_run, clamp_speed, brake_distance, brake_time, peak_speed, triangle_time, ramp_distance, cruise_distance}
 use Rattle.travel.specs.Ramps.{trapezoid_time, run_time, seconds}
 use Rattle.travel.specs.Domain.{is_sized, is_rate, in_domain}
@@ -260,10 +259,10 @@ module _ (d v m a b : Float) (inside : in_domain d v m a b ≡ true) where
   time_finite = size_finite (2 ^ 84) (seconds d v m a b) time_size
 
 -- so is every time that is answered
-pub answer_finite : (d v m a b t : Float) → travel_time_of d v m a b ≡ Seconds t → finite t ≡ true
+pub answer_finite : (d v m a b t : Float) → travel_time_of d v m a b ≡ Some t → finite t ≡ true
 unfolding travel_time_of
 answer_finite d v m a b t h = let (inside, s) = time_is (in_domain d v m a b) (seconds d v m a b) h in rw (← s) (time_finite d v m a b inside)
   where
-    time_is : (c : Bool) (s : Float) → cond c (Seconds s) Refused ≡ Seconds t → (c ≡ true) × (s ≡ t)
+    time_is : (c : Bool) (s : Float) → cond c (Some s) None ≡ Some t → (c ≡ true) × (s ≡ t)
     time_is true s h = (refl, cc)
     time_is false s h = absurd (let z : ◌≡◌ {A = ℕ} 0 1 = cc in omega arith)

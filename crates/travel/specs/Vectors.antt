@@ -1,11 +1,10 @@
 -- Worked runs, by computation: distance, starting speed, top speed and the two rates, each by its bits. Assumes nothing.
-use Rattle.std.specs.Prelude.{ℕ, ◌≡◌, refl}
+use Rattle.std.specs.Prelude.{ℕ, ◌≡◌, refl, Some, None}
 use Rattle.std.specs.Int.Count.{count_trailing_zeros}
 use Rattle.std.specs.Float.{binary64}
 use Rattle.std.specs.Float.Ieee.{size, span, climb, units, odd, round, sum, neg, add, sub, mul, div, lt, le, eq, of_fields, of_bits}
 use Rattle.multiply_add.specs.MulAdd.{mul_add}
 use Rattle.square_root.specs.SquareRoot.{square_root, nearest_root, whole_root, whole_in}
-use Rattle.travel.specs.declared.TravelTime.TheVariants.{Seconds, Refused}
 use Rattle.travel.specs.Ramps.{no_run, clamp_speed, brake_distance, brake_time, peak_speed, triangle_time, ramp_distance, cruise_distance}
 use Rattle.travel.specs.Ramps.{trapezoid_time, run_time, seconds}
 use Rattle.travel.specs.Domain.{is_sized, is_rate, in_domain}
@@ -18,10 +17,10 @@ running = 0
 
 abbrev Takes : ℕ → ℕ → ℕ → ℕ → ℕ → ℕ → Type 0
 Takes d v m a b t =
-    travel_time_of (of_bits binary64 d) (of_bits binary64 v) (of_bits binary64 m) (of_bits binary64 a) (of_bits binary64 b) ≡ Seconds (of_bits binary64 t)
+    travel_time_of (of_bits binary64 d) (of_bits binary64 v) (of_bits binary64 m) (of_bits binary64 a) (of_bits binary64 b) ≡ Some (of_bits binary64 t)
 
 abbrev Outside : ℕ → ℕ → ℕ → ℕ → ℕ → Type 0
-Outside d v m a b = travel_time_of (of_bits binary64 d) (of_bits binary64 v) (of_bits binary64 m) (of_bits binary64 a) (of_bits binary64 b) ≡ Refused
+Outside d v m a b = travel_time_of (of_bits binary64 d) (of_bits binary64 v) (of_bits binary64 m) (of_bits binary64 a) (of_bits binary64 b) ≡ None
 
 -- 12 from rest, by 2.5, 1 and 1.2: with a cruise, 7.091666666666667
 cruise : Takes 0x4028_0000_0000_0000 0 0x4004_0000_0000_0000 0x3ff0_0000_0000_0000 0x3ff3_3333_3333_3333 0x401c_5ddd_dddd_ddde

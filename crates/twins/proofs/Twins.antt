@@ -1,5 +1,6 @@
 -- A sheet of edition 2 that is accepted has a twin that is accepted, with the same counts and the same records but for second coordinates. Assumes
 -- nothing.
+use Rattle.std.specs.Prelude.{Ok}
 use Prim.Native.Nat.{ℕ, zero, suc, ◌+◌, ◌-◌, ◌*◌, ◌≤◌, ◌<◌}
 use Rattle.std.specs.Prelude.{◌≡◌, List, ◌++◌}
 use Rattle.std.proofs.Math.Path.{refl, subst}
@@ -11,7 +12,6 @@ use Rattle.laws.specs.Tables.{tab}
 use Rattle.bits.specs.Field.{bit_at, field_at}
 use Rattle.components.specs.Codes.{kind_of}
 use Rattle.layout.specs.declared.Counts.{Counts}
-use Rattle.layout.specs.declared.Reading.TheVariants.{Accepted}
 use Rattle.layout.specs.Offsets.{head_length, across_bits, last_kind, none, next, end_of}
 use Rattle.layout.specs.Records.{limit_of}
 use Rattle.layout.specs.Refusals.{edition, record_count, kind_at, refusal2_head, refusal3, refusal6, refusal6_empty, refusal16, tail_fits}
@@ -40,7 +40,7 @@ zero_field t at h (suc w) = rw (zero_field t at h w, h (at + w) (omega arith)) r
 module _ (s t : List ℕ) where
   -- the counts that t is accepted with, and the same records
   record Follows (n : ℕ) (c d : Counts) : Type 0 where
-    pub counted : records_verdict t n (under 0 c) ≡ Accepted (under 0 d)
+    pub counted : records_verdict t n (under 0 c) ≡ Ok (under 0 d)
     pub second : under 64 d ≡ d
     pub pairs : Each (Pair s t) d
 
@@ -58,7 +58,7 @@ module _ (s t : List ℕ) where
         closures = h.closures;
       }
 
-  tail_follows : (c : Counts) → 0 < record_count t → Ends t (end_of (under 0 c)) → tail_verdict t (under 0 c) ≡ Accepted (under 0 c)
+  tail_follows : (c : Counts) → 0 < record_count t → Ends t (end_of (under 0 c)) → tail_verdict t (under 0 c) ≡ Ok (under 0 c)
   unfolding tail_verdict first_of pick refusal6_empty refusal16 tail_fits
   tail_follows c some e =
       let at = end_of (under 0 c) in
@@ -74,7 +74,7 @@ module _ (s t : List ℕ) where
       ) refl
 
   module _ (some : 0 < record_count t) (e : ℕ) (ends : Ends t e) where
-    follows : (n : ℕ) (c d : Counts) → Each (Pair s t) c → records_verdict s n (under 64 c) ≡ Accepted d
+    follows : (n : ℕ) (c d : Counts) → Each (Pair s t) c → records_verdict s n (under 64 c) ≡ Ok d
         → Holds t (end_of (under 0 c)) (records_of s n (under 64 c)) → end_of (under 0 c) + length (records_of s n (under 64 c)) ≡ e
         → Follows n c d
     unfolding records_verdict records_of refusal6 last_kind
@@ -99,7 +99,7 @@ module _ (s t : List ℕ) where
         subst (λ x. Holds t (end_of (under 0 (next c k))) (records_of s n x)) (under_next 64 c k)
         (subst (λ x. Holds t x (records_of s n (next (under 64 c) k))) then (holds_right t (end_of (under 0 c)) a b held)) in
         let f = follows n (next c k) d (and_next (Pair s t) c m r.in_order h (pair s t c h r here))
-        (subst (λ x. records_verdict s n x ≡ Accepted d) (under_next 64 c k) w) rest
+        (subst (λ x. records_verdict s n x ≡ Ok d) (under_next 64 c k) w) rest
         (subst (λ x. end_of (under 0 (next c k)) + length (records_of s n x) ≡ e) (under_next 64 c k) (omega arith)) in
         record {
           counted = rw (eq-eqb (record_refusal t (under 0 c)) 0 clear, kind_same s t c h r here, under_next 0 c k) f.counted;
@@ -165,7 +165,7 @@ module _ (s : List ℕ) where
         zeros = λ i h. packed_bit (twin_bits s) are_bits i ∙ get_or-eq_default (twin_bits s) 0 (omega arith);
       }
 
-  module _ (c : Counts) (v : verdict s ≡ Accepted c) (two : edition s ≡ 2) where
+  module _ (c : Counts) (v : verdict s ≡ Ok c) (two : edition s ≡ 2) where
     at_first_lem : at_first s ≡ none 64
     at_first_lem = ap (λ e. none (across_bits e)) two
 
@@ -174,12 +174,12 @@ module _ (s : List ℕ) where
         let h = headed s c v in
         follows s (twin s) (subst (λ n. 0 < n) count_same h.some) (head_length + length its_bits) ends (record_count s) (none 64) c
         (subst (Each (Pair s (twin s))) at_first_lem (no_records (Pair s (twin s)) s))
-        (subst (λ x. records_verdict s (record_count s) x ≡ Accepted c) at_first_lem h.rest)
+        (subst (λ x. records_verdict s (record_count s) x ≡ Ok c) at_first_lem h.rest)
         (subst (λ x. Holds (twin s) head_length (records_of s (record_count s) x)) at_first_lem records_held)
         (ap (λ x. head_length + length (records_of s (record_count s) x)) (sym at_first_lem))
 
     -- "With all second coordinates zero, an accepted edition 2 sheet answers as its edition 1 twin": the twin is accepted, with the same counts
-    pub twin_accepted : verdict (twin s) ≡ Accepted (under 0 c)
+    pub twin_accepted : verdict (twin s) ≡ Ok (under 0 c)
     unfolding verdict first_of pick refusal2_head refusal3
     twin_accepted =
         let e = ends.long in

@@ -1,8 +1,10 @@
 -- The numbers that a record's fields stand for, in the order of Table's rows: what Records reads, the other way round. "An optional field is a
 -- present bit and the field, zeros where absent": an id of 0 is none. A double is its 64 bits; every NaN is one NaN, and has the bits of the quiet
 -- one. Assumes nothing.
-use Rattle.std.specs.Prelude.{ℕ, not, List, [], ◌∷◌, eqb, Float}
+use Rattle.std.specs.Prelude.{None, Option, Some}
+use Rattle.std.specs.Prelude.{ℕ, ◌≡◌, refl, Bool, true, false, not, List, [], ◌∷◌, eqb, Float}
 use Rattle.std.specs.Float.{binary64}
+use Rattle.std.specs.Int.{from_bool}
 use Rattle.std.specs.Float.Ieee.{to_bits}
 use Rattle.laws.specs.Bools.{bit}
 use Rattle.components.specs.declared.Policy.{Policy}
@@ -14,13 +16,16 @@ use Rattle.components.specs.declared.Waiting.{Waiting}
 use Rattle.components.specs.declared.Demand.{Demand}
 use Rattle.components.specs.declared.Phase.{Phase}
 use Rattle.components.specs.declared.Phase.TheVariants as phase
-use Rattle.components.specs.declared.Threshold.{Threshold}
-use Rattle.components.specs.declared.Threshold.TheVariants as threshold
 use Rattle.components.specs.Codes.{strategy_code, traffic_code, phase_code, direction_code, mode_code}
 
 -- the 64 bits of a double
 abbrev pub bits_of : Float → ℕ
 bits_of x = to_bits binary64 x
+
+-- what a flag converts to
+pub bit_is : (b : Bool) → from_bool b ≡ bit b
+bit_is true = refl
+bit_is false = refl
 
 -- the present bit of an optional id
 abbrev pub present : ℕ → ℕ
@@ -38,13 +43,13 @@ phase_stop phase.Stopped = 0
 phase_stop phase.Unknown = 0
 
 -- the present bit of a threshold, and its bits
-abbrev pub threshold_present : Threshold → ℕ
-threshold_present threshold.Absent = 0
-threshold_present (threshold.At x) = 1
+abbrev pub threshold_present : Option Float → ℕ
+threshold_present None = 0
+threshold_present (Some x) = 1
 
-abbrev pub threshold_bits : Threshold → ℕ
-threshold_bits threshold.Absent = 0
-threshold_bits (threshold.At x) = bits_of x
+abbrev pub threshold_bits : Option Float → ℕ
+threshold_bits None = 0
+threshold_bits (Some x) = bits_of x
 
 -- kind 1, policy, with the limit beside it
 unfoldable pub policy_values : ℕ → Policy → List ℕ

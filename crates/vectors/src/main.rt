@@ -4,12 +4,12 @@
 // cannot be written.
 #![tactic(auto)]
 
-ghost use Rattle.std.specs.Prelude.{◌≡◌, ◌+◌, ◌≤◌, ◌<◌, length};
-ghost use Rattle.laws.specs.Bools.{bit};
+ghost use Rattle.std.specs.Prelude.{◌≡◌, ◌+◌, ◌^◌, ◌≤◌, ◌<◌, length, Some};
 ghost use Rattle.vectors.specs.declared.Vector.TheVariants.{Scale, Field};
-ghost use Rattle.vectors.specs.Vectors.{Whole, Counted, field_vector, vector_at, scale_case, field_case, agree, step_by, Turned, Replayed};
+ghost use Rattle.vectors.specs.Vectors.{Whole, Counted, one_more, field_vector, vector_at, scale_case, field_case, differ, step_by, turn_of, Replayed};
 
-use std::io;
+use lists::{Replay, Step};
+use std::{fmt, io};
 
 // What the proved function answers, and what Rust gave.
 #[derive(Clone, Copy)]
@@ -24,52 +24,84 @@ enum Vector {
     Scale,
     // A field of width bits in count bytes, 19 bytes and those.
     Field { width: usize, count: usize },
-    Unknown,
 }
 
-#[derive(Clone, Copy)]
+// How many vectors were compared, and how many of them differ.
+#[derive(Clone, Copy, Default)]
+struct Count {
+    compared: u64,
+    differ: u64,
+}
+
+impl fmt::Display for Count {
+    fn fmt<W: fmt::Write>(&self, f: &mut fmt::Formatter<W>) -> fmt::Result {
+        let compared = self.compared;
+        let differ = self.differ;
+        write!(f, "{compared} compared, {differ} differ")
+    }
+}
+
+impl Count {
+    fn one_more(self, differs: bool) -> Count
+        requires { (self.compared + 1 < 2 ^ 64) × (self.differ + 1 < 2 ^ 64) }
+        ensures { result ≡ one_more self differs }
+    {
+        Count {
+            compared: self.compared + 1,
+            differ: self.differ + u64::from(differs),
+        }
+    }
+}
+
+#[derive(Clone, Copy, Default)]
 struct Totals {
-    scales: u64,
-    scales_differ: u64,
-    fields: u64,
-    fields_differ: u64,
+    scale: Count,
+    field: Count,
 }
 
-// Where the next vector starts, and the totals so far.
-#[derive(Clone, Copy)]
-struct Step {
-    next: usize,
-    totals: Totals,
-}
+impl Replay for Totals {
+    ghost turn_of = { turn_of };
 
-fn size(x: u8) -> usize
-    ensures { result ≡ x }
-{
-    x as usize
+    ghost can_turn = { λ s at t. Counted at t };
+
+    // One that is cut short or has another tag ends the run.
+    fn turn(self, rt: &impl Print, s: &[u8], at: usize) -> Step<Self> {
+        match vector_at(s, at) {
+            Some(Vector::Scale) => compare_scale(rt, s, at, self),
+            Some(Vector::Field { width, count }) => compare_field(rt, s, at, width, count, self),
+            None => {
+                let _ = println!(rt; "no vector at byte {at}");
+                Step {
+                    next: s.len(),
+                    totals: self,
+                }
+            }
+        }
+    }
 }
 
 // The field at byte at, where all of it is there.
-fn field_vector(s: &[u8], at: usize) -> Vector
+fn field_vector(s: &[u8], at: usize) -> Option<Vector>
     requires { at < length s.now }
     ensures { (result ≡ field_vector s.now at) × Whole s.now at result }
 {
     let left = s.len() - at;
     if left < 19 {
-        return Vector::Unknown;
+        return None;
     }
-    let width = size(s[at + 9]);
-    let count = size(s[at + 10]);
+    let width = usize::from(s[at + 9]);
+    let count = usize::from(s[at + 10]);
     if 64 < width {
-        return Vector::Unknown;
+        return None;
     }
     if left - 19 < count {
-        return Vector::Unknown;
+        return None;
     }
-    Vector::Field { width, count }
+    Some(Vector::Field { width, count })
 }
 
 // The vector that starts at byte at.
-fn read(s: &[u8], at: usize) -> Vector
+fn vector_at(s: &[u8], at: usize) -> Option<Vector>
     requires { at < length s.now }
     ensures { (result ≡ vector_at s.now at) × Whole s.now at result }
 {
@@ -79,12 +111,12 @@ fn read(s: &[u8], at: usize) -> Vector
         return field_vector(s, at);
     }
     if tag != 1 {
-        return Vector::Unknown;
+        return None;
     }
     if left < 17 {
-        return Vector::Unknown;
+        return None;
     }
-    Vector::Scale
+    Some(Vector::Scale)
 }
 
 fn scale_case(s: &[u8], at: usize) -> Case
@@ -113,106 +145,64 @@ fn field_case(s: &[u8], at: usize, w: usize, n: usize) -> Case
     Case { got, expected }
 }
 
-// Whether the two are equal; where not, both are printed.
-fn agrees(rt: &impl Print, c: Case, at: usize) -> bool
-    ensures { result ≡ agree c }
+// Whether the two differ; where they do, both are printed.
+fn differs(rt: &impl Print, c: Case, at: usize) -> bool
+    ensures { result ≡ differ c }
 {
-    let got = c.got;
-    let expected = c.expected;
+    let Case { got, expected } = c;
     if got == expected {
-        return true;
+        return false;
     }
     let _ = println!(rt; "at byte {at} got {got} expected {expected}");
-    false
-}
-
-fn one_if(b: bool) -> u64
-    ensures { result ≡ bit b }
-{
-    if b { 1 } else { 0 }
+    true
 }
 
 // The cost at byte at, compared.
-fn compare_scale(rt: &impl Print, s: &[u8], at: usize, t: Totals) -> Step
+fn compare_scale(rt: &impl Print, s: &[u8], at: usize, t: Totals) -> Step<Totals>
     requires { (at + 17 ≤ length s.now) × Counted at t }
-    ensures { result ≡ step_by Scale s.now at t }
+    ensures { result ≡ step_by (Some Scale) s.now at t }
 {
-    let agree = agrees(rt, scale_case(s, at), at);
+    let differs = differs(rt, scale_case(s, at), at);
     Step {
         next: at + 17,
         totals: Totals {
-            scales: t.scales + 1,
-            scales_differ: t.scales_differ + one_if(!agree),
-            fields: t.fields,
-            fields_differ: t.fields_differ,
+            scale: t.scale.one_more(differs),
+            ..t
         },
     }
 }
 
 // The field at byte at, of w bits in n bytes, compared.
-fn compare_field(rt: &impl Print, s: &[u8], at: usize, w: usize, n: usize, t: Totals) -> Step
+fn compare_field(
+    rt: &impl Print,
+    s: &[u8],
+    at: usize,
+    w: usize,
+    n: usize,
+    t: Totals,
+) -> Step<Totals>
     requires { (w ≤ 64) × (at + 19 + n ≤ length s.now) × Counted at t }
-    ensures { result ≡ step_by (Field w n) s.now at t }
+    ensures { result ≡ step_by (Some (Field w n)) s.now at t }
 {
-    let agree = agrees(rt, field_case(s, at, w, n), at);
+    let differs = differs(rt, field_case(s, at, w, n), at);
     Step {
         next: at + 19 + n,
         totals: Totals {
-            scales: t.scales,
-            scales_differ: t.scales_differ,
-            fields: t.fields + 1,
-            fields_differ: t.fields_differ + one_if(!agree),
+            field: t.field.one_more(differs),
+            ..t
         },
-    }
-}
-
-// The vector at byte at, compared. One that is cut short or has another tag ends the run.
-fn turn(rt: &impl Print, s: &[u8], at: usize, t: Totals) -> Step
-    requires { (at < length s.now) × Counted at t }
-    ensures { Turned s.now at t result }
-{
-    match read(s, at) {
-        Vector::Scale => compare_scale(rt, s, at, t),
-        Vector::Field { width, count } => compare_field(rt, s, at, width, count, t),
-        Vector::Unknown => {
-            let _ = println!(rt; "no vector at byte {at}");
-            Step {
-                next: s.len(),
-                totals: t,
-            }
-        }
     }
 }
 
 fn run(rt: &impl Print, s: &[u8]) -> Totals
     ensures { Replayed s.now result }
 {
-    let mut t = Totals {
-        scales: 0,
-        scales_differ: 0,
-        fields: 0,
-        fields_differ: 0,
-    };
-    let mut at: usize = 0;
-    while at < s.len() {
-        let next = turn(rt, s, at, t);
-        t = next.totals;
-        at = next.next;
-    }
-    t
-}
-
-// A line of the report.
-fn report(rt: &impl Print, name: &[u8], compared: u64, differ: u64) -> io::Result<()> {
-    rt.write_all(name)?;
-    println!(rt; "{compared} compared, {differ} differ")
+    lists::replay_all(rt, s, Totals::default())
 }
 
 fn main(rt: HostRuntime) -> io::Result<()> {
-    let mut buffer = [0u8; 65536];
-    let mut input = rt.reader();
-    let n = lists::read_full(&mut input, &mut buffer)?;
-    let t = run(&rt, &buffer[..n]);
-    report(&rt, b"scale ", t.scales, t.scales_differ)?;
-    report(&rt, b"field ", t.fields, t.fields_differ)
+    let list = lists::read_list(rt.alloc(), &mut rt.reader(), 65536)?;
+    let t = run(&rt, &list);
+    println!(rt; "scale {}", t.scale)?;
+    println!(rt; "field {}", t.field)
 }

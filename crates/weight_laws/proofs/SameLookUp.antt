@@ -1,4 +1,5 @@
 -- The look-up over the same records is the same (Same). Assumes nothing.
+use Rattle.std.specs.Prelude.{Ok}
 use Rattle.std.specs.Prelude.{ℕ, ◌^◌, ◌≤◌, ◌<◌, ◌≡◌, true, false, ◌⊎◌, eqb, leb}
 use Rattle.std.proofs.Math.Path.{sym, ap}
 use Rattle.std.proofs.Common.{◌∙◌, inl, inr, ⊎_elim, arith}
@@ -8,7 +9,6 @@ use borrow.Author.Tests.{eqb-true, not-false}
 use Rattle.laws.specs.Bools.{which, same_test, both_left}
 use Rattle.laws.specs.Folds.{any, any_none}
 use Rattle.weight_store.specs.Entries.{Entry}
-use Rattle.weights.specs.declared.answer.Weights.TheVariants.{Found}
 use Rattle.laws.specs.First.{first_index, first_cong, first_none, none_first}
 use Rattle.weights.proofs.Leads.{takes, taken_started, taken_top}
 use Rattle.weights.specs.LookUp.{started, missing, first_taken, slot_weight, first_missing}
@@ -80,5 +80,5 @@ module _ (n m : ℕ) (e f : ℕ → Entry) (there : Among n e m f) (back : Among
           (rw (first_cong (missing n e day) (missing m f day) 6 (λ k l. missing_same k))
           (⊎_elim
           (λ (t : ltb (first_index (missing m f day) 6) 6 ≡ true). rw t)
-          (λ (t : ltb (first_index (missing m f day) 6) 6 ≡ false). rw t (ap Found (six_same (first_none (missing m f day) 6 t))))
+          (λ (t : ltb (first_index (missing m f day) 6) 6 ≡ false). rw t (ap Ok (six_same (first_none (missing m f day) 6 t))))
           (which (ltb (first_index (missing m f day) 6) 6))))

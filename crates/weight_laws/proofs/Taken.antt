@@ -1,4 +1,5 @@
 -- The record that a slot takes, and that its weight is in range (Answered). Assumes nothing.
+use Rattle.std.specs.Prelude.{Ok}
 use Rattle.std.specs.Prelude.{ℕ, ◌<◌, ◌≡◌, List, eqb, leb}
 use Rattle.std.specs.Float.Ieee.{binary64}
 use Rattle.std.specs.Float.Ieee.Bits.{of_bits-fits}
@@ -6,7 +7,6 @@ use borrow.Author.Tests.{eqb-true, eq-eqb, leb-true, le-leb, not-false}
 use Rattle.laws.specs.Bools.{both, both_left, both_right}
 use Rattle.laws.specs.Folds.{any_none}
 use Rattle.weights.specs.declared.answer.SixWeights.{SixWeights}
-use Rattle.weights.specs.declared.answer.Weights.TheVariants.{Found}
 use Rattle.weight_store.specs.Entries.{entry_count, entry_of, issue_lt}
 use Rattle.weights.proofs.Leads.{takes, taken_started, taken_top}
 use Rattle.weights.specs.LookUp.{started, missing, first_taken, slot_weight}
@@ -16,7 +16,7 @@ use Rattle.weight_store.specs.Values.{weight_back}
 use Rattle.weights.specs.Answers.{weights_of}
 use Rattle.weight_laws.specs.Answered.{answered, in_slot, six_slot, TakenEntry, InRange}
 
-module _ (s : List ℕ) (day : ℕ) (x : SixWeights) (h : weights_of s day ≡ Found x) (slot : ℕ) (l : slot < 6) where
+module _ (s : List ℕ) (day : ℕ) (x : SixWeights) (h : weights_of s day ≡ Ok x) (slot : ℕ) (l : slot < 6) where
   pub taken_entry : (i : ℕ) × TakenEntry s day slot (in_slot x slot) i
   unfolding started missing slot_weight weight_back
   taken_entry =

@@ -1,5 +1,6 @@
 -- "for a policy record's weights (those its strategy leaves unused stay zero there)": a policy record that takes a store's answer is not refused for
 -- it, by layout's own conditions: not by 8, for its unused weights are zero, nor by 11, for its weights are in their range. Assumes nothing.
+use Rattle.std.specs.Prelude.{Ok}
 use Rattle.std.specs.Prelude.{ℕ, ◌≡◌, refl, true, false, List, ◌≢◌, Float}
 use Rattle.std.proofs.Common.{arith, ne_eqb}
 use Rattle.std.specs.Float.Ieee.{of_bits, to_bits, fits, lt, le, eq}
@@ -14,7 +15,6 @@ use Rattle.layout.specs.Table.{policy_rate_field, policy_w0_field, policy_w1_fie
 use Rattle.layout.specs.Records.{Fields, read, double}
 use Rattle.layout.specs.Refusals.{strategy_at, unused_weights, refusal8_policy, refusal11_policy}
 use Rattle.weights.specs.declared.answer.SixWeights.{SixWeights}
-use Rattle.weights.specs.declared.answer.Weights.TheVariants.{Found}
 use Rattle.weights.specs.Answers.{weights_of, used_by}
 use Rattle.weight_laws.specs.Answered.{InRange}
 use Rattle.weight_laws.proofs.Taken.{slot_inside}
@@ -85,7 +85,7 @@ unused_zero Unknown f x t = refl
 
 -- ---- a policy record that takes the answer under its own strategy
 
-module _ (s : List ℕ) (day : ℕ) (x : SixWeights) (found : weights_of s day ≡ Found x) (f : Fields) (t : TakesSix f (used_by (strategy_at f) x)) where
+module _ (s : List ℕ) (day : ℕ) (x : SixWeights) (found : weights_of s day ≡ Ok x) (f : Fields) (t : TakesSix f (used_by (strategy_at f) x)) where
   pub policy_inside : is_tick_rate (double f policy_rate_field) ≡ true → refusal11_policy f ≡ false
   policy_inside =
       six_inside f (used_by (strategy_at f) x) t

@@ -1,5 +1,7 @@
 -- What a store that answers is: every record passes, no two disagree, and each slot's weight is that of a started record of the slot such that no
 -- started record of the slot is later, or as late with a higher issue. Assumes nothing.
+use Rattle.std.specs.Prelude.{Ok}
+use Rattle.layout.specs.Refused.{refused}
 use Rattle.std.specs.Prelude.{ℕ, zero, suc, ◌≤◌, ◌<◌, ◌≡◌, refl, Bool, true, false, not, cond, List, ◌⊎◌, T, Float}
 use Rattle.std.proofs.Common.{arith}
 use Rattle.std.specs.Float.{nan, inf, fin}
@@ -13,7 +15,6 @@ use Rattle.fp.specs.Ranges.{is_mass}
 use Rattle.bits.specs.Field.{field_lt}
 use Rattle.weight_store.specs.Entries.{Entry}
 use Rattle.weights.specs.declared.answer.SixWeights.{SixWeights}
-use Rattle.weights.specs.declared.answer.Weights.TheVariants.{Found, Refused}
 use Rattle.weight_store.specs.Entries.{entry_count, entry_of}
 use Rattle.laws.specs.First.{first_none}
 use Rattle.weights.specs.LookUp.{missing, slot_weight, first_missing}
@@ -31,14 +32,14 @@ pub record AnsweredStore (s : List ℕ) (day : ℕ) (x : SixWeights) : Type 0 wh
   pub complete : any (missing (entry_count s) (entry_of s) day) 6 ≡ false
   pub six : six_of (entry_count s) (entry_of s) day ≡ x
 
-three : (a b c : Bool) (m n p q r t : ℕ) (y x : SixWeights) → cond a (Refused m n) (cond b (Refused p q) (cond c (Refused r t) (Found y))) ≡ Found x
+three : (a b c : Bool) (m n p q r t : ℕ) (y x : SixWeights) → cond a (refused m n) (cond b (refused p q) (cond c (refused r t) (Ok y))) ≡ Ok x
     → (a ≡ false) × (b ≡ false) × (c ≡ false) × (y ≡ x)
 three true b c m n p q r t y x h = absurd (let z : ◌≡◌ {A = ℕ} 0 1 = cc in omega arith)
 three false true c m n p q r t y x h = absurd (let z : ◌≡◌ {A = ℕ} 0 1 = cc in omega arith)
 three false false true m n p q r t y x h = absurd (let z : ◌≡◌ {A = ℕ} 0 1 = cc in omega arith)
 three false false false m n p q r t y x h = (refl, refl, refl, cc)
 
-pub answered : (s : List ℕ) (day : ℕ) (x : SixWeights) → weights_of s day ≡ Found x → AnsweredStore s day x
+pub answered : (s : List ℕ) (day : ℕ) (x : SixWeights) → weights_of s day ≡ Ok x → AnsweredStore s day x
 unfolding weights_of passed_answer look_up first_refused first_disagreeing first_missing
 answered s day x h =
     let (a, b, c, y) = three _ _ _ _ _ _ _ _ _ _ x h in

@@ -1,4 +1,6 @@
 -- Worked stores, computed by the prover. Assumes nothing.
+use Rattle.std.specs.Prelude.{Ok}
+use Rattle.layout.specs.Refused.{refused}
 use Rattle.std.specs.Prelude.{ℕ, ◌≡◌, refl, List, [], ◌∷◌, Float}
 use Rattle.std.specs.Float.Ieee.{of_bits, lt, le, eq}
 use Rattle.std.specs.Float.{binary64}
@@ -7,7 +9,6 @@ use Rattle.fp.specs.Ranges.{is_mass}
 use Rattle.bits.specs.Field.{bit_at, field_at}
 use Rattle.layout.specs.Verdict.{pick, first_of}
 use Rattle.weights.specs.declared.answer.SixWeights.{SixWeights}
-use Rattle.weights.specs.declared.answer.Weights.TheVariants.{Found, Refused}
 use Rattle.laws.specs.First.{first_index}
 use Rattle.weight_store.specs.Entries.{entry_count, entry_of}
 use Rattle.weight_store.specs.Values.{same_value, weight_back}
@@ -25,51 +26,51 @@ storing = 0
 abbrev line : ℕ → ℕ → ℕ → ℕ → ℕ → List ℕ → List ℕ
 line slot start issue v w rest = slot ∷ 0 ∷ 0 ∷ 0 ∷ start ∷ 0 ∷ issue ∷ v ∷ w ∷ 0 ∷ 0 ∷ 0 ∷ 0 ∷ 0 ∷ 0 ∷ rest
 
-empty : weights_of [] 7 ≡ Refused 18 0
+empty : weights_of [] 7 ≡ refused 18 0
 unfolding storing
 empty = refl
 
 -- record by record: the first record's setting before the second's end
-setting_nine : weights_of (line 9 0 0 0 0 (0 ∷ [])) 7 ≡ Refused 8 0
+setting_nine : weights_of (line 9 0 0 0 0 (0 ∷ [])) 7 ≡ refused 8 0
 unfolding storing
 setting_nine = refl
 
 -- the second record has one byte
-short_second : weights_of (line 0 0 0 0 0 (9 ∷ [])) 7 ≡ Refused 2 120
+short_second : weights_of (line 0 0 0 0 0 (9 ∷ [])) 7 ≡ refused 2 120
 unfolding storing
 short_second = refl
 
 -- a value above 1,000,000,000, and a NaN
-above : weights_of (line 0 0 0 65 222 []) 7 ≡ Refused 11 0
+above : weights_of (line 0 0 0 65 222 []) 7 ≡ refused 11 0
 unfolding storing
 above = refl
 
-not_a_number : weights_of (line 0 0 0 127 248 []) 7 ≡ Refused 11 0
+not_a_number : weights_of (line 0 0 0 127 248 []) 7 ≡ refused 11 0
 unfolding storing
 not_a_number = refl
 
 -- 1.0 and 2.0 under one setting, day and issue
-unlike : weights_of (line 0 5 1 63 240 (line 0 5 1 64 0 [])) 7 ≡ Refused 17 120
+unlike : weights_of (line 0 5 1 63 240 (line 0 5 1 64 0 [])) 7 ≡ refused 17 120
 unfolding storing
 unlike = refl
 
 -- every record is tested by itself first
-unlike_and_above : weights_of (line 0 5 1 63 240 (line 0 5 1 64 0 (line 0 0 0 65 222 []))) 7 ≡ Refused 11 240
+unlike_and_above : weights_of (line 0 5 1 63 240 (line 0 5 1 64 0 (line 0 0 0 65 222 []))) 7 ≡ refused 11 240
 unfolding storing
 unlike_and_above = refl
 
 -- the first that disagrees with an earlier one is the third, with the second
-unlike_later : weights_of (line 1 5 1 63 240 (line 0 5 1 63 240 (line 0 5 1 64 0 (line 1 5 1 64 0 [])))) 7 ≡ Refused 17 240
+unlike_later : weights_of (line 1 5 1 63 240 (line 0 5 1 63 240 (line 0 5 1 64 0 (line 1 5 1 64 0 [])))) 7 ≡ refused 17 240
 unfolding storing
 unlike_later = refl
 
 -- zero and minus zero are two values
-zeros : weights_of (line 0 5 1 0 0 (line 0 5 1 128 0 [])) 7 ≡ Refused 17 120
+zeros : weights_of (line 0 5 1 0 0 (line 0 5 1 128 0 [])) 7 ≡ refused 17 120
 unfolding storing
 zeros = refl
 
 -- minus zero twice is one: what is missing is slot 1
-minus_zeros : weights_of (line 0 5 1 128 0 (line 0 5 1 128 0 [])) 7 ≡ Refused 18 1
+minus_zeros : weights_of (line 0 5 1 128 0 (line 0 5 1 128 0 [])) 7 ≡ refused 18 1
 unfolding storing
 minus_zeros = refl
 
@@ -93,19 +94,19 @@ minus_zero = of_bits binary64 0x8000_0000_0000_0000
 six : ℕ → SixWeights
 six b = record { w0 = of_bits binary64 b; w1 = minus_zero; w2 = minus_zero; w3 = minus_zero; w4 = minus_zero; w5 = minus_zero }
 
-before_all : weights_of corrected 4 ≡ Refused 18 0
+before_all : weights_of corrected 4 ≡ refused 18 0
 unfolding storing corrected
 before_all = refl
 
-highest_issue : weights_of corrected 8 ≡ Found (six 0x4000_0000_0000_0000)
+highest_issue : weights_of corrected 8 ≡ Ok (six 0x4000_0000_0000_0000)
 unfolding storing corrected six
 highest_issue = refl
 
-latest_start : weights_of corrected 9 ≡ Found (six 0x3fe0_0000_0000_0000)
+latest_start : weights_of corrected 9 ≡ Ok (six 0x3fe0_0000_0000_0000)
 unfolding storing corrected six
 latest_start = refl
 
 -- a host that lends five places
-five_places : lent_weights corrected 9 5 ≡ Refused 1 0
+five_places : lent_weights corrected 9 5 ≡ refused 1 0
 unfolding lent_weights
 five_places = refl

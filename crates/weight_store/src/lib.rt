@@ -27,28 +27,28 @@ const PAST_SLOTS: u64 = 0x0006_0000_0000_0000;
 fn key_at(s: &[u8], i: u16) -> u64
     ensures { result ≡ key_of s.now i }
 {
-    bits::field(s, BITS * (i as u32), 0, 56)
+    bits::field(s, BITS * u32::from(i), 0, 56)
 }
 
 // The 64 bits of its value.
 fn value_at(s: &[u8], i: u16) -> u64
     ensures { result ≡ value_of s.now i }
 {
-    bits::field(s, BITS * (i as u32), VALUE, 64)
+    bits::field(s, BITS * u32::from(i), VALUE, 64)
 }
 
 // Whether a bit of record i stands in the store.
 pub fn is_there(s: &[u8], i: u16) -> bool
     ensures { result ≡ ltb i (entry_count s.now) }
 {
-    BYTES * (i as usize) < s.len()
+    BYTES * usize::from(i) < s.len()
 }
 
 // 2: record i is cut short.
 fn is_short(s: &[u8], i: u16) -> bool
     ensures { result ≡ refusal2_store s.now i }
 {
-    s.len() < BYTES * (i as usize) + BYTES
+    s.len() < BYTES * usize::from(i) + BYTES
 }
 
 // Whether two values are the same, bit for bit.
@@ -92,7 +92,7 @@ pub fn entry_refusal(s: &[u8], i: u16) -> u32
     refusal_of(s, i, key_at(s, i), value_at(s, i))
 }
 
-// The first record that is refused, the number of records where none is. Keys and values of the records before it are written.
+// The first record that is refused, the number of records where none is; how many there are is not known before. Keys and values of the records before it are written.
 pub fn read_entries(s: &[u8], keys: &mut [u64], values: &mut [u64]) -> u16
     requires { (first_refused s.now ≤ length keys.old) × (first_refused s.now ≤ length values.old) }
     ensures first { result ≡ first_refused s.now }
@@ -108,52 +108,56 @@ pub fn read_entries(s: &[u8], keys: &mut [u64], values: &mut [u64]) -> u16
         if refusal_of(s, i, key, value) != 0 {
             return i;
         }
-        keys[i as usize] = key;
-        values[i as usize] = value;
+        let at = usize::from(i);
+        keys[at] = key;
+        values[at] = value;
         i += 1;
     }
     i
 }
 
-// Whether record i of the columns agrees with a key but not with its value.
-fn disagrees_at<'a>(keys: &'a [u64], values: &'a [u64], i: usize, key: u64, value: u64) -> bool
-    requires { (i < length keys.now) × (i < length values.now) }
-    ensures { result ≡ disagree (held_entry keys.now values.now i) (unpacked key value) }
-{
-    if keys[i] == key {
-        return !same_value(values[i], value);
-    }
-    false
+// Records as two columns: the key of each, and its value.
+#[derive(Clone, Copy)]
+pub struct Columns<'a> {
+    pub keys: &'a [u64],
+    pub values: &'a [u64],
+    ghost pairs: { length keys.now ≤ length values.now },
 }
 
-// Whether record j of the columns disagrees with an earlier one.
-fn disagrees_earlier<'a>(keys: &'a [u64], values: &'a [u64], j: usize) -> bool
-    requires { (j < length keys.now) × (j < length values.now) }
-    ensures { result ≡ disagrees_earlier (held_entry keys.now values.now) j }
-{
-    let key = keys[j];
-    let value = values[j];
-    let mut i: usize = 0;
-    while i < j {
-        if disagrees_at(keys, values, i, key, value) {
-            return true;
-        }
-        i += 1;
+impl Columns<'_> {
+    // Whether record i agrees with a key but not with its value.
+    fn disagrees_at(&self, i: usize, key: u64, value: u64) -> bool
+        requires { i < length self.now.keys.now }
+        ensures { result ≡ disagree (held_entry self.now.keys.now self.now.values.now i) (unpacked key value) }
+    {
+        self.keys[i] == key && !same_value(self.values[i], value)
     }
-    false
-}
 
-// The first of n records of the columns that disagrees with an earlier one; n where none does.
-pub fn first_disagreeing<'a>(keys: &'a [u64], values: &'a [u64], n: usize) -> usize
-    requires { (n ≤ length keys.now) × (n ≤ length values.now) }
-    ensures { result ≡ first_disagreeing n (held_entry keys.now values.now) }
-{
-    let mut j: usize = 0;
-    while j < n {
-        if disagrees_earlier(keys, values, j) {
-            return j;
+    // Whether record j disagrees with an earlier one.
+    fn disagrees_earlier(&self, j: usize) -> bool
+        requires { j < length self.now.keys.now }
+        ensures { result ≡ disagrees_earlier (held_entry self.now.keys.now self.now.values.now) j }
+    {
+        let key = self.keys[j];
+        let value = self.values[j];
+        for i in 0..j {
+            if self.disagrees_at(i, key, value) {
+                return true;
+            }
         }
-        j += 1;
+        false
     }
-    n
+
+    // The first record that disagrees with an earlier one; as many as there are where none does.
+    pub fn first_disagreeing(&self) -> usize
+        ensures { result ≡ first_disagreeing (length self.now.keys.now) (held_entry self.now.keys.now self.now.values.now) }
+    {
+        let n = self.keys.len();
+        for j in 0..n {
+            if self.disagrees_earlier(j) {
+                return j;
+            }
+        }
+        n
+    }
 }

@@ -1,15 +1,17 @@
 -- The six in lent places. Assumes nothing.
+use Rattle.std.specs.Prelude.{Result}
+use Rattle.weights.specs.declared.answer.SixWeights.{SixWeights}
+use Rattle.layout.specs.declared.Refusal.{Refusal}
+use Rattle.layout.specs.Refused.{refused}
 use Rattle.std.specs.Prelude.{ℕ, ◌≤◌, ◌<◌, ◌≡◌, refl, List, [], ◌∷◌, Float, length, drop, set}
 use Rattle.std.proofs.Common.{arith, lt-ltb, le-ltb}
-use Rattle.weights.specs.declared.answer.Weights.{Weights}
-use Rattle.weights.specs.declared.answer.Weights.TheVariants.{Refused}
 use Rattle.weights.specs.Answers.{weights_of, lent_weights}
 
-pub few_places : (s : List ℕ) (day places : ℕ) → places < 6 → Refused 1 0 ≡ lent_weights s day places
+pub few_places : (s : List ℕ) (day places : ℕ) → places < 6 → refused 1 0 ≡ lent_weights s day places
 unfolding lent_weights
 few_places s day places l = rw (lt-ltb places 6 l)
 
-pub enough_places : (s : List ℕ) (day places : ℕ) {v : Weights} → 6 ≤ places → v ≡ weights_of s day → v ≡ lent_weights s day places
+pub enough_places : (s : List ℕ) (day places : ℕ) {v : Result SixWeights Refusal} → 6 ≤ places → v ≡ weights_of s day → v ≡ lent_weights s day places
 unfolding lent_weights
 enough_places s day places l e = rw (le-ltb places 6 l) e
 

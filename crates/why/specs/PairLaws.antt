@@ -1,32 +1,27 @@
 -- Reasons and terms from what is held are the sheet's. Assumes nothing.
-use Rattle.std.specs.Prelude.{ℕ, ◌≤◌, ◌<◌, ◌≡◌, refl, Bool, true, false, cond, List, eqb, get_or, Float}
+use Rattle.std.specs.Prelude.{Ok}
+use Rattle.std.specs.Prelude.{ℕ, ◌≤◌, ◌<◌, ◌≡◌, refl, Bool, false, List, eqb, get_or, Float}
 use Rattle.std.proofs.Common.{◌∙◌, arith}
 use Rattle.std.proofs.Math.Path.{ap, ap₂}
-use Rattle.std.specs.Float.Ieee.{le}
 use Rattle.laws.specs.Folds.{lookup_cong}
 use Rattle.fp.specs.Num.{zero}
 use Rattle.mask.specs.Mask.{has, built}
 use Rattle.mask.specs.MaskLaws.{has_built}
 use Rattle.components.specs.declared.Car.{Car}
-use Rattle.components.specs.declared.Place.{Place}
 use Rattle.components.specs.declared.Policy.{Policy}
 use Rattle.components.specs.declared.Strategy.{Strategy}
 use Rattle.components.specs.Points.{distance}
-use Rattle.components.specs.Cars.{remaining}
 use Rattle.components.specs.Sheet.{Sheet}
 use Rattle.layout.specs.declared.Counts.{Counts}
-use Rattle.layout.specs.declared.Reading.TheVariants.{Accepted}
 use Rattle.layout.specs.Records.{sheet_of, limit_of}
 use Rattle.layout.specs.Verdict.{verdict}
 use Rattle.accepted.specs.Accepted.{accepted}
 use Rattle.manifest.specs.declared.Waiters.{Waiters}
 use Rattle.manifest.specs.World.{stop_id, stop_at}
 use Rattle.manifest.specs.Stops.{HoldsStops, stop_index, point_in, point_is}
-use Rattle.riders.specs.declared.Riders.{Riders}
 use Rattle.dispatch.specs.WaitersLaws.{HoldsWaiters, Weighed}
 use Rattle.dispatch.proofs.RidersLaws.{obstacle_is}
-use Rattle.dispatch.specs.Pairs.{servable_by, path_allows, obstacle_by}
-use Rattle.dispatch.specs.Useful.{bypass, obstacle}
+use Rattle.dispatch.specs.Useful.{obstacle}
 use Rattle.etd.specs.Pairs.{terms_by as etdBy}
 use Rattle.etd.specs.Etd.{etd_terms}
 use Rattle.etd.specs.EtdLaws.{terms_are as etd-are}
@@ -39,26 +34,11 @@ use Rattle.pending.specs.Masks.{stop_mask, line_stop, pending_are}
 use Rattle.rows.specs.HeldLaws.{below_has}
 use Rattle.rows.specs.Gathered.{waiters_at, Gathered, gathered_held}
 use Rattle.cells.specs.Survey.{SeenStops, weighed_of}
-use Rattle.ranking.specs.declared.Row.{Row}
+use Rattle.dispatch.specs.declared.Row.{Row}
 use Rattle.ranking.specs.Ranking.{halts_by}
 use Rattle.ranking.specs.RankingLaws.{by_parts, HoldsRow, rank_is}
 use Rattle.why.specs.Why.{asks_path, etd_slots, rsr_slots, scan_slots, terms_of, stop_record, reason_of, why_by, why_at}
 use Rattle.why.specs.Pairs.{terms_by, against, reason_by}
-
--- what stands against a trip has one of these numbers
-pub against_small : (c : Car) (g : Place) (r : Riders) (dests : List Float) (w : Waiters) (here : Bool)
-    (p : Float) (path : Bool) → obstacle_by c g r dests w here p path ≤ 4
-unfolding obstacle_by
-against_small c g r dests w here p path =
-    by here (bypass c g p) (le (remaining c) zero) (servable_by w c) (path_allows c r dests p path)
-  where
-    by : (a b d e f : Bool) → cond a 0 (cond b 1 (cond d 2 (cond e (cond f 0 4) 3))) ≤ 4
-    by true b d e f = omega arith
-    by false true d e f = omega arith
-    by false false true e f = omega arith
-    by false false false true true = omega arith
-    by false false false true false = omega arith
-    by false false false false f = omega arith
 
 -- a car's line serves a stop, by the mask of its stops
 pub serves_is : (s : Sheet) (car : Car) (m j : ℕ) → j < 64 → m ≡ built (line_stop s false car.line s.lines) 64
@@ -116,7 +96,7 @@ module _ (s : Sheet) (ids : List ℕ) (xs : List Float) (hs : HoldsStops s ids x
       terms_are
 
 -- of an accepted sheet, where its stops were seen
-module _ (bytes : List ℕ) (c : Counts) (e : verdict bytes ≡ Accepted c) (ids : List ℕ) (xs : List Float) (masks : StopMasks)
+module _ (bytes : List ℕ) (c : Counts) (e : verdict bytes ≡ Ok c) (ids : List ℕ) (xs : List Float) (masks : StopMasks)
     (seen : SeenStops (sheet_of bytes c) ids xs masks) where
   pub told : (i j : ℕ) → i < (sheet_of bytes c).cars → j < (sheet_of bytes c).stops → (row : Row) {dests sides : List Float} {limit : ℕ}
       → limit ≡ limit_of bytes → HoldsRow (sheet_of bytes c) i limit row dests sides → (someone : ℕ) (entry sums : List Float) {v : Waiters}

@@ -1,11 +1,11 @@
 -- Reasons and terms from what the code holds. Assumes nothing.
+use Rattle.std.specs.Prelude.{Option}
 use Rattle.std.specs.Prelude.{ℕ, ◌≡◌, Bool, List, Float}
 use Rattle.std.proofs.Math.Path.{ap, ap₂}
 use Rattle.std.proofs.Common.{◌∙◌}
 use Rattle.fp.specs.Num.{zero}
 use Rattle.mask.specs.Mask.{has}
 use Rattle.components.specs.declared.Point.{Point}
-use Rattle.components.specs.declared.Rank.{Rank}
 use Rattle.components.specs.declared.Strategy.TheVariants.{Etd, Rsr, Scan, Unknown}
 use Rattle.components.specs.Points.{distance}
 use Rattle.manifest.specs.declared.Waiters.{Waiters}
@@ -16,7 +16,7 @@ use Rattle.etd.specs.Pairs.{intervening_in, halts_of, terms_by as etdBy}
 use Rattle.rsr.specs.declared.Terms as rsr
 use Rattle.rsr.specs.Rsr.{rsr_terms_of}
 use Rattle.assignment.specs.Cells.{by_strategy}
-use Rattle.ranking.specs.declared.Row.{Row}
+use Rattle.dispatch.specs.declared.Row.{Row}
 use Rattle.ranking.specs.Ranking.{halts_by, rank_by}
 use Rattle.ranking.specs.RankingLaws.{by_etd, by_rsr}
 use Rattle.why.specs.declared.Terms.{Terms}
@@ -72,7 +72,7 @@ module _ (row : Row) (dests sides : List Float) (v : Waiters) (xs : List Float) 
   no_terms e r-is = rw e r-is
 
 module _ (row : Row) (dests sides : List Float) (v : Waiters) (xs : List Float) (n j : ℕ) where
-  pub reason_by_lem : (waits served : Bool) {p : Point} {here path shut near : Bool} {o rest r : ℕ} {given : Rank} → p ≡ point_in xs j
+  pub reason_by_lem : (waits served : Bool) {p : Point} {here path shut near : Bool} {o rest r : ℕ} {given : Option Float} → p ≡ point_in xs j
       → here ≡ has row.riders.exits j → path ≡ asks_path row.policy.strategy
       → o ≡ obstacle_by row.car row.goal row.riders dests v here p.along path → given ≡ rank_by row dests sides v xs n j
       → shut ≡ has row.car.restricted j → near ≡ has row.kept j → rest ≡ rank_reason o given

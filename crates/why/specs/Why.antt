@@ -1,4 +1,7 @@
 -- Why a pair of a car and a stop costs what it does, or has no rank. Assumes nothing.
+use Rattle.std.specs.Prelude.{Err, Ok, Result}
+use Rattle.layout.specs.declared.Refusal.{Refusal}
+use Rattle.std.specs.Prelude.{None, Option, Some}
 use Rattle.std.specs.Prelude.{ℕ, ◌+◌, ◌≤◌, ◌<◌, ◌≡◌, Bool, true, false, cond, ◌≢◌, List, eqb, ltb, Float}
 use Rattle.std.proofs.Common.{sym, ◌∙◌}
 use Rattle.std.proofs.Math.Path.{ap}
@@ -6,13 +9,9 @@ use borrow.Author.Tests.{eq-eqb, ne_eqb, lt-ltb, le-ltb}
 use Rattle.laws.specs.Folds.{lookup}
 use Rattle.fp.specs.Num.{zero}
 use Rattle.components.specs.declared.Strategy.{Strategy}
-use Rattle.components.specs.declared.Rank.{Rank}
-use Rattle.components.specs.declared.Rank.TheVariants.{Cost, Never}
 use Rattle.components.specs.Points.{distance}
 use Rattle.components.specs.Sheet.{Sheet}
 use Rattle.layout.specs.declared.Counts.{Counts}
-use Rattle.layout.specs.declared.Reading.{Reading}
-use Rattle.layout.specs.declared.Reading.TheVariants as reading
 use Rattle.layout.specs.Records.{sheet_of, limit_of}
 use Rattle.layout.specs.Verdict.{verdict}
 use Rattle.manifest.specs.World.{stop_id, stop_at}
@@ -26,7 +25,7 @@ use Rattle.assignment.specs.Candidates.{line_serves, barred, kept}
 use Rattle.assignment.specs.Cells.{by_strategy, rank}
 use Rattle.why.specs.declared.Terms.{Terms}
 use Rattle.why.specs.declared.Why.{Why}
-use Rattle.why.specs.declared.Why.TheVariants.{Ranked, Unranked, Refused}
+use Rattle.why.specs.declared.Why.TheVariants.{Ranked, Unranked}
 
 -- ---- the reasons, by number, in the order in which a pass asks
 
@@ -37,9 +36,9 @@ first_reason listed waits served shut near rest = cond listed (cond waits (cond 
 
 -- 8 to 11 by the first test of use that fails: the car passes the stop by, it is full, nobody boards, it is off the path of those aboard; 12 no rank all
 -- the same, since under ETD and RSR the car's speed is 0, under SCAN the stop is behind the sweep; 0 a rank
-abbrev pub rank_reason : ℕ → Rank → ℕ
-rank_reason o Never = cond (eqb o 0) 12 (7 + o)
-rank_reason o (Cost x) = cond (eqb o 0) 0 (7 + o)
+abbrev pub rank_reason : ℕ → Option Float → ℕ
+rank_reason o None = cond (eqb o 0) 12 (7 + o)
+rank_reason o (Some x) = cond (eqb o 0) 0 (7 + o)
 
 -- "the aboard-path test for RSR only"
 abbrev pub asks_path : Strategy → Bool
@@ -98,11 +97,11 @@ module _ (s : Sheet) (limit : ℕ) where
 
 -- ---- over bytes
 
-unfoldable pub why_read : Reading → List ℕ → ℕ → ℕ → Why
-why_read (reading.Refused number offset) s car stop = Refused number offset
-why_read (reading.Accepted c) s car stop = why_in (sheet_of s c) (limit_of s) car stop
+unfoldable pub why_read : Result Counts Refusal → List ℕ → ℕ → ℕ → Result Why Refusal
+why_read (Err r) s car stop = Err r
+why_read (Ok c) s car stop = Ok (why_in (sheet_of s c) (limit_of s) car stop)
 
-unfoldable pub why_of : List ℕ → ℕ → ℕ → Why
+unfoldable pub why_of : List ℕ → ℕ → ℕ → Result Why Refusal
 why_of s car stop = why_read (verdict s) s car stop
 
 -- ---- laws
@@ -112,19 +111,6 @@ why_ranked reason t e = rw (eq-eqb reason 0 e)
 
 pub why_unranked : (reason : ℕ) (t : Terms) → reason ≢ 0 → Unranked reason ≡ why_by reason t
 why_unranked reason t e = rw (ne_eqb reason 0 e)
-
-module _ (o : ℕ) {r : Rank} where
-  pub never_zero : r ≡ Never → o ≡ 0 → 12 ≡ rank_reason o r
-  never_zero e z = rw (e, eq-eqb o 0 z)
-
-  pub never_more : r ≡ Never → o ≢ 0 → 7 + o ≡ rank_reason o r
-  never_more e z = rw (e, ne_eqb o 0 z)
-
-  pub cost_zero : {x : Float} → r ≡ Cost x → o ≡ 0 → 0 ≡ rank_reason o r
-  cost_zero e z = rw (e, eq-eqb o 0 z)
-
-  pub cost_more : {x : Float} → r ≡ Cost x → o ≢ 0 → 7 + o ≡ rank_reason o r
-  cost_more e z = rw (e, ne_eqb o 0 z)
 
 module _ (s : Sheet) (limit car stop : ℕ) {i : ℕ} (ei : i ≡ car_record s car) where
   pub no_car : s.cars ≤ i → Unranked 1 ≡ why_in s limit car stop
@@ -140,11 +126,11 @@ module _ (s : Sheet) (limit car stop : ℕ) {i : ℕ} (ei : i ≡ car_record s c
     unfolding why_in
     both_found l e = rw (← ei, lt-ltb i s.cars li, ← ej, lt-ltb j s.stops l) e
 
-module _ (s : List ℕ) (car stop : ℕ) {v : Reading} (ev : v ≡ verdict s) where
-  pub read_refused : {n o : ℕ} → v ≡ reading.Refused n o → Refused n o ≡ why_of s car stop
+module _ (s : List ℕ) (car stop : ℕ) {v : Result Counts Refusal} (ev : v ≡ verdict s) where
+  pub read_refused : {r : Refusal} → v ≡ Err r → Err r ≡ why_of s car stop
   unfolding why_of why_read
-  read_refused e = ap (λ (r : Reading). why_read r s car stop) (sym e ∙ ev)
+  read_refused e = ap (λ (r : Result Counts Refusal). why_read r s car stop) (sym e ∙ ev)
 
-  pub read_accepted : {c : Counts} {r : Why} → v ≡ reading.Accepted c → r ≡ why_in (sheet_of s c) (limit_of s) car stop → r ≡ why_of s car stop
+  pub read_accepted : {c : Counts} {r : Why} → v ≡ Ok c → r ≡ why_in (sheet_of s c) (limit_of s) car stop → Ok r ≡ why_of s car stop
   unfolding why_of why_read
-  read_accepted e q = q ∙ ap (λ (r : Reading). why_read r s car stop) (sym e ∙ ev)
+  read_accepted e q = ap Ok q ∙ ap (λ (r : Result Counts Refusal). why_read r s car stop) (sym e ∙ ev)

@@ -1,25 +1,24 @@
 // Why a pair of a car and a stop costs what it does, or has no rank: the terms of its cost, or the reason, by the functions that fill the matrix.
 #![tactic(auto)]
 
-ghost use Rattle.std.specs.Prelude.{◌≡◌, cond, ◌+◌, ◌≤◌, ◌<◌, length};
-ghost use Rattle.layout.specs.declared.Reading.TheVariants.{Accepted};
+ghost use Rattle.std.specs.Prelude.{◌≡◌, cond, ◌+◌, ◌≤◌, ◌<◌, length, Ok};
 ghost use Rattle.layout.specs.Records.{sheet_of, limit_of};
 ghost use Rattle.layout.specs.Verdict.{verdict};
 ghost use Rattle.layout.specs.Offsets.{Small};
+ghost use Rattle.dispatch.specs.Pairs.{obstacle_number};
+ghost use Rattle.ranking.specs.Ranking.{Ranks};
 ghost use Rattle.cells.specs.Survey.{SeenStops};
 ghost use Rattle.why.specs.Why.{first_reason, rank_reason, asks_path, etd_slots, rsr_slots, scan_slots, car_record, why_by, why_at, why_in, why_of};
 ghost use Rattle.why.specs.Pairs.{terms_by, reason_by};
 ghost use Rattle.why.specs.Answers.{lent_why, terms_left};
 ghost use Rattle.why.specs.declared.Why.TheVariants.{Ranked};
 
-use components::{Rank, Strategy};
-use layout::{Counts, Reading};
-use manifest::Waiters;
+use components::Strategy;
+use dispatch::{Obstacle, Row};
+use layout::{Counts, Refusal, SHORT_BUFFER};
+use manifest::{Stops, Waiters};
 use pending::StopMasks;
-use ranking::Row;
-
-// "1", the host program's: a lent buffer is too short.
-const SHORT_BUFFER: u32 = 1;
+use riders::Destinations;
 
 // The terms of a cost by slots; the last is the cost.
 //   ETD: travel, delay, doors, bonus, their weighted sum, the ticks waited squared, the ticks waited
@@ -37,11 +36,11 @@ pub struct Terms {
     pub t7: f64,
 }
 
+// A pair has a rank, with its terms, or none, with the reason's number.
 #[derive(Clone, Copy)]
 pub enum Why {
     Ranked(Terms),
     Unranked(u32),
-    Refused { number: u32, offset: u64 },
 }
 
 fn etd_slots(t: etd::Terms) -> Terms
@@ -90,33 +89,19 @@ fn scan_slots(d: f64) -> Terms
 }
 
 // The terms of stop j, by the strategy.
-fn terms_of<'a>(
-    row: Row,
-    dests: &'a [f64],
-    sides: &'a [f64],
-    v: Waiters,
-    xs: &'a [f64],
-    n: usize,
-    j: usize,
-) -> Terms
-    requires { (row.riders.count ≤ length dests.now) × (row.riders.count ≤ length sides.now) × (n ≤ 64)
-        × (64 + n ≤ length xs.now) × (j < n) }
-    ensures { result ≡ terms_by row dests.now sides.now v xs.now n j }
+fn terms_of(row: &Row, dests: &Destinations, v: Waiters, stops: &Stops, j: usize) -> Terms
+    requires { Ranks row.now.riders.count dests.now.along.now dests.now.across.now stops.now.points.now stops.now.count × (j < stops.now.count) }
+    ensures { result ≡ terms_by row.now dests.now.along.now dests.now.across.now v stops.now.points.now stops.now.count j }
 {
-    let policy = row.policy;
-    let car = row.car;
-    let goal = row.goal;
-    let count = row.riders.count;
-    let x = car.position;
-    let p = manifest::point(xs, j);
-    let call = mask::has(car.calls, j);
-    let strategy = policy.strategy;
-    match strategy {
+    let x = row.car.position;
+    let p = stops.point(j);
+    let call = mask::has(row.car.calls, j);
+    match row.policy.strategy {
         Strategy::Etd => {
-            let halts = etd::intervening_stops(x.along, p.along, row.demand, xs, n);
-            etd_slots(etd::cost_terms(policy, car, goal, count, dests, sides, v, halts, p))
+            let halts = etd::intervening_stops(x.along, p.along, row.demand, stops);
+            etd_slots(etd::cost_terms(row, dests, v, halts, p))
         }
-        Strategy::Rsr => rsr_slots(rsr::cost_terms(policy, car, goal, v, call, p)),
+        Strategy::Rsr => rsr_slots(rsr::cost_terms(row, v, call, p)),
         Strategy::Scan => scan_slots(x.distance(p)),
         Strategy::Unknown => scan_slots(0.0),
     }
@@ -125,22 +110,16 @@ fn terms_of<'a>(
 fn asks_path(strategy: Strategy) -> bool
     ensures { result ≡ asks_path strategy }
 {
-    match strategy {
-        Strategy::Etd => false,
-        Strategy::Rsr => true,
-        Strategy::Scan => false,
-        Strategy::Unknown => false,
-    }
+    matches!(strategy, Strategy::Rsr)
 }
 
-// What stands against a rank.
-fn rank_reason(obstacle: u32, rank: Rank) -> u32
-    requires { obstacle ≤ 4 }
-    ensures { result ≡ rank_reason obstacle rank }
+// What stands against a rank, by its number.
+fn rank_reason(obstacle: Option<Obstacle>, rank: Option<f64>) -> u32
+    ensures { result ≡ rank_reason (obstacle_number obstacle) rank }
 {
-    match rank {
-        Rank::Never => { if obstacle == 0 { 12 } else { 7 + obstacle } }
-        Rank::Cost(_) => { if obstacle == 0 { 0 } else { 7 + obstacle } }
+    match obstacle {
+        Some(against) => 7 + against.number(),
+        None => { if rank.is_some() { 0 } else { 12 } }
     }
 }
 
@@ -164,32 +143,25 @@ fn first_reason(listed: bool, waits: bool, served: bool, shut: bool, near: bool,
 }
 
 // Why a row has no rank for stop j, which waits for a car and is served by the car's line, or not; 0 where it has one.
-fn reason_of<'a>(
-    row: Row,
-    dests: &'a [f64],
-    sides: &'a [f64],
+fn reason_of(
+    row: &Row,
+    dests: &Destinations,
     v: Waiters,
-    xs: &'a [f64],
-    n: usize,
+    stops: &Stops,
     j: usize,
     waits: bool,
     served: bool,
 ) -> u32
-    requires { (row.riders.count ≤ length dests.now) × (row.riders.count ≤ length sides.now) × (n ≤ 64)
-        × (64 + n ≤ length xs.now) × (j < n) }
-    ensures { result ≡ reason_by row dests.now sides.now v xs.now n j waits served }
+    requires { Ranks row.now.riders.count dests.now.along.now dests.now.across.now stops.now.points.now stops.now.count × (j < stops.now.count) }
+    ensures { result ≡ reason_by row.now dests.now.along.now dests.now.across.now v stops.now.points.now stops.now.count j waits served }
 {
-    let car = row.car;
-    let goal = row.goal;
-    let riders = row.riders;
-    let p = manifest::point(xs, j);
-    let here = mask::has(riders.exits, j);
-    let policy = row.policy;
-    let strategy = policy.strategy;
-    let path = asks_path(strategy);
-    let obstacle = dispatch::obstacle(car, goal, riders, dests, v, here, p.along, path);
-    let halts = etd::intervening_stops(car.position.along, p.along, row.demand, xs, n);
-    let rank = ranking::rank(row, dests, sides, v, xs, halts, n, j);
+    let car = &row.car;
+    let p = stops.point(j);
+    let here = mask::has(row.riders.exits, j);
+    let path = asks_path(row.policy.strategy);
+    let obstacle = row.obstacle(dests.along, v, here, p.along, path);
+    let halts = etd::intervening_stops(car.position.along, p.along, row.demand, stops);
+    let rank = ranking::rank(row, dests, v, stops, halts, j);
     let shut = mask::has(car.restricted, j);
     let near = mask::has(row.kept, j);
     first_reason(
@@ -214,24 +186,21 @@ fn answer(reason: u32, terms: Terms) -> Why
 }
 
 // Why, of a row and stop j.
-fn of_row<'a>(
-    row: Row,
-    dests: &'a [f64],
-    sides: &'a [f64],
+fn of_row(
+    row: &Row,
+    dests: &Destinations,
     v: Waiters,
-    xs: &'a [f64],
-    n: usize,
+    stops: &Stops,
     j: usize,
     waits: bool,
     served: bool,
 ) -> Why
-    requires { (row.riders.count ≤ length dests.now) × (row.riders.count ≤ length sides.now) × (n ≤ 64)
-        × (64 + n ≤ length xs.now) × (j < n) }
-    ensures { result ≡ why_by (reason_by row dests.now sides.now v xs.now n j waits served)
-        (terms_by row dests.now sides.now v xs.now n j) }
+    requires { Ranks row.now.riders.count dests.now.along.now dests.now.across.now stops.now.points.now stops.now.count × (j < stops.now.count) }
+    ensures { result ≡ why_by (reason_by row.now dests.now.along.now dests.now.across.now v stops.now.points.now stops.now.count j waits served)
+        (terms_by row.now dests.now.along.now dests.now.across.now v stops.now.points.now stops.now.count j) }
 {
-    let reason = reason_of(row, dests, sides, v, xs, n, j, waits, served);
-    answer(reason, terms_of(row, dests, sides, v, xs, n, j))
+    let reason = reason_of(row, dests, v, stops, j, waits, served);
+    answer(reason, terms_of(row, dests, v, stops, j))
 }
 
 // Why, of car record i and stop record j, where the stops and their masks are at hand.
@@ -244,13 +213,12 @@ fn of_records<'a>(
     xs: &'a [f64],
     masks: StopMasks,
 ) -> Why
-    requires s_value { (verdict s.now ≡ Accepted c) × (i < c.cars) × (j < c.stops) × (length ids.now ≡ 64) × (length xs.now ≡ 128) }
+    requires s_value { (verdict s.now ≡ Ok c) × (i < c.cars) × (j < c.stops) × (length ids.now ≡ 64) × (length xs.now ≡ 128) }
     requires seen_stops { SeenStops (sheet_of s.now c) ids.now xs.now masks }
     ensures { result ≡ why_at (sheet_of s.now c) (limit_of s.now) i j }
 {
     let mut dests = [0.0f64; 512];
     let mut sides = [0.0f64; 512];
-    let n = c.stops as usize;
     let most = sheet::limit(s) as u32;
     let row = cells::row_of(s, c, i, most, ids, xs, masks, &mut dests, &mut sides);
     let mut sums = [0.0f64; 320];
@@ -259,7 +227,16 @@ fn of_records<'a>(
     let line = row.car.line;
     let served = mask::has(pending::line_stops(s, c, false, line), j);
     let waits = mask::has(masks.pending, j);
-    of_row(row, &dests, &sides, v, xs, n, j, waits, served)
+    let bound = Destinations {
+        along: &dests,
+        across: &sides,
+    };
+    let stops = Stops {
+        ids,
+        points: xs,
+        count: c.stops as usize,
+    };
+    of_row(&row, &bound, v, &stops, j, waits, served)
 }
 
 fn either(first: bool, x: u32, y: u32) -> u32
@@ -274,18 +251,16 @@ fn car_record(s: &[u8], c: Counts, id: u32) -> u32
     ensures { result ≡ car_record (sheet_of s.now c) id }
 {
     let mut found = c.cars;
-    let mut i: u32 = 0;
-    while i < c.cars {
+    for i in 0..c.cars {
         let car = sheet::car_at(s, c, i);
         found = either(car.id == id, i, found);
-        i += 1;
     }
     found
 }
 
 // Why, of two ids of an accepted sheet.
 fn of_ids(s: &[u8], c: Counts, car: u32, stop: u32) -> Why
-    requires { verdict s.now ≡ Accepted c }
+    requires { verdict s.now ≡ Ok c }
     ensures { result ≡ why_in (sheet_of s.now c) (limit_of s.now) car stop }
 {
     let mut ids = [0u32; 64];
@@ -303,19 +278,17 @@ fn of_ids(s: &[u8], c: Counts, car: u32, stop: u32) -> Why
 }
 
 // Why the car with one id costs what it does for the stop with another, or has no rank.
-fn ask(s: &[u8], car: u32, stop: u32) -> Why
+fn ask(s: &[u8], car: u32, stop: u32) -> Result<Why, Refusal>
     ensures { result ≡ why_of s.now car stop }
 {
-    match sheet::read(s) {
-        Reading::Refused { number, offset } => Why::Refused { number, offset },
-        Reading::Accepted(c) => of_ids(s, c, car, stop),
-    }
+    let c = sheet::read(s)?;
+    Ok(of_ids(s, c, car, stop))
 }
 
 // The eight, first in the places.
 fn write_terms(t: Terms, places: &mut [f64])
     requires { 8 ≤ length places.old }
-    ensures { places.new ≡ terms_left (Ranked t) places.old }
+    ensures { places.new ≡ terms_left (Ok (Ranked t)) places.old }
 {
     places[0] = t.t0;
     places[1] = t.t1;
@@ -328,23 +301,20 @@ fn write_terms(t: Terms, places: &mut [f64])
 }
 
 // The same, with the terms first in the places. Fewer than eight are refused in front of the sheet; without a rank they are left.
-pub fn fill_terms(s: &[u8], car: u32, stop: u32, places: &mut [f64]) -> Why
+pub fn fill_terms(s: &[u8], car: u32, stop: u32, places: &mut [f64]) -> Result<Why, Refusal>
     ensures answer { result ≡ lent_why s.now car stop (length places.old) }
     ensures places { places.new ≡ terms_left (lent_why s.now car stop (length places.old))
         places.old }
 {
     if places.len() < 8 {
-        return Why::Refused {
-            number: SHORT_BUFFER,
-            offset: 0,
-        };
+        return Err(SHORT_BUFFER);
     }
-    match ask(s, car, stop) {
+    let why = ask(s, car, stop)?;
+    match why {
         Why::Ranked(t) => {
             write_terms(t, places);
-            Why::Ranked(t)
+            Ok(why)
         }
-        Why::Unranked(reason) => Why::Unranked(reason),
-        Why::Refused { number, offset } => Why::Refused { number, offset },
+        Why::Unranked(_) => Ok(why),
     }
 }

@@ -2,7 +2,7 @@
 -- record that is to be put what the reader would refuse there by 2, 6 and 7, in this order: the buffer ends before the record does, kinds out of
 -- order, more records than the table allows or than the head can count. Raw bits that no record of components holds, a NaN's other patterns for one,
 -- are not written by it: the crate put serves those. Assumes nothing.
-use Rattle.std.specs.Prelude.{ℕ, ◌+◌, ◌-◌, ◌/◌, ◌%◌, Bool, true, false, cond, List, [], ◌∷◌, ltb, leb}
+use Rattle.std.specs.Prelude.{Result, Ok, Err, ℕ, ◌+◌, ◌-◌, ◌/◌, ◌%◌, Bool, true, false, cond, List, [], ◌∷◌, ltb, leb}
 use Rattle.put.specs.Put.{put_at}
 use Rattle.components.specs.declared.Kind.{Kind}
 use Rattle.components.specs.declared.Kind.TheVariants.{Policy, Stop, Line, Car, Aboard, Waiting, Demand, Closed}
@@ -15,8 +15,8 @@ use Rattle.layout.specs.PlaceLaws.{all}
 use Rattle.encoder.specs.Encoded.{fields_put}
 use Rattle.writer.specs.declared.Edition.{Edition}
 use Rattle.writer.specs.declared.Edition.TheVariants.{First, Second}
-use Rattle.writer.specs.declared.Put.{Put}
-use Rattle.writer.specs.declared.Put.TheVariants.{Written, NoRoom, OutOfOrder, Full}
+use Rattle.writer.specs.declared.PutError.{PutError}
+use Rattle.writer.specs.declared.PutError.TheVariants.{NoRoom, OutOfOrder, Full}
 
 -- how many bytes n bits reach into
 abbrev pub bytes_for : ℕ → ℕ
@@ -28,14 +28,18 @@ most_records = 65535
 
 -- ---- answers
 
+-- the counts from then on, or why nothing was written
+abbrev pub Put : Type 0
+Put = Result Counts PutError
+
 -- of a record of a kind after those counted, in a buffer of n bytes
 unfoldable pub answer_of : ℕ → Counts → Kind → Put
 answer_of n c k =
-    cond (ltb n (bytes_for (end_of c + record_length c.across k))) NoRoom
-    (cond (refusal6 c (kind_code k)) OutOfOrder
-    (cond (refusal7 c k) Full
-    (cond (leb most_records (all c)) Full
-    (Written (next c k)))))
+    cond (ltb n (bytes_for (end_of c + record_length c.across k))) (Err NoRoom)
+    (cond (refusal6 c (kind_code k)) (Err OutOfOrder)
+    (cond (refusal7 c k) (Err Full)
+    (cond (leb most_records (all c)) (Err Full)
+    (Ok (next c k)))))
 
 module _ (n : ℕ) (c : Counts) where
   abbrev pub policy_answer : Put
@@ -63,26 +67,25 @@ module _ (n : ℕ) (c : Counts) where
   closed_answer = answer_of n c Closed
 
 -- the number of each case: the reader's refusal that is spared, 0 where the record was written
+abbrev pub error_number : PutError → ℕ
+error_number NoRoom = 2
+error_number OutOfOrder = 6
+error_number Full = 7
+
 abbrev pub put_number : Put → ℕ
-put_number (Written c) = 0
-put_number NoRoom = 2
-put_number OutOfOrder = 6
-put_number Full = 7
+put_number (Ok c) = 0
+put_number (Err e) = error_number e
 
 -- the counts from then on
 abbrev pub counts_after : Put → Counts → Counts
-counts_after (Written d) c = d
-counts_after NoRoom c = c
-counts_after OutOfOrder c = c
-counts_after Full c = c
+counts_after (Ok d) c = d
+counts_after (Err e) c = c
 
 -- ---- the buffer
 
 abbrev pub is_written : Put → Bool
-is_written (Written c) = true
-is_written NoRoom = false
-is_written OutOfOrder = false
-is_written Full = false
+is_written (Ok c) = true
+is_written (Err e) = false
 
 -- what was put where it was written, else what the buffer held
 abbrev pub left_of : Put → List ℕ → List ℕ → List ℕ
@@ -98,7 +101,7 @@ head_put s e = fields_put s 0 (head_edition_field ∷ head_count_field ∷ []) (
 
 -- of a head, in a buffer of n bytes
 unfoldable pub start_of : ℕ → Edition → Put
-start_of n e = cond (ltb n (bytes_for head_length)) NoRoom (Written (none (across_bits (edition_code e))))
+start_of n e = cond (ltb n (bytes_for head_length)) (Err NoRoom) (Ok (none (across_bits (edition_code e))))
 
 -- "After the last record come 0 to 7 zero bits up to the byte's end, then nothing."
 abbrev pub padding : ℕ → ℕ

@@ -1,4 +1,5 @@
 -- The records that a host gives by their fields. A code is a number, a flag is 1 for true; an id of 0 is none. Assumes nothing.
+use Rattle.std.specs.Prelude.{None, Option, Some}
 use Rattle.std.specs.Prelude.{ℕ, Bool, not, ◌&&◌, cond, eqb, leb, Float}
 use Rattle.components.specs.declared.Policy.{Policy}
 use Rattle.components.specs.declared.Stop.{Stop}
@@ -7,8 +8,6 @@ use Rattle.components.specs.declared.Car.{Car}
 use Rattle.components.specs.declared.Aboard.{Aboard}
 use Rattle.components.specs.declared.Waiting.{Waiting}
 use Rattle.components.specs.declared.Demand.{Demand}
-use Rattle.components.specs.declared.Threshold.{Threshold}
-use Rattle.components.specs.declared.Threshold.TheVariants as threshold
 use Rattle.components.specs.Codes.{strategy_of, traffic_of, phase_of, direction_of, mode_of}
 
 abbrev pub is_set : ℕ → Bool
@@ -48,8 +47,8 @@ unfoldable pub demand_of : ℕ → ℕ → ℕ → Demand
 demand_of stop riding call = record { stop = stop; riding = riding; call = is_set call }
 
 -- an optional double
-unfoldable pub threshold_of : ℕ → Float → Threshold
-threshold_of has x = cond (is_set has) (threshold.At x) threshold.Absent
+unfoldable pub threshold_of : ℕ → Float → Option Float
+threshold_of has x = cond (is_set has) (Some x) None
 
 -- the stop is that of phases 1 and 2
 unfoldable pub car_of : ℕ → ℕ → ℕ → ℕ → ℕ → ℕ → ℕ → ℕ → ℕ → ℕ → Float → Float → Float → Float → Float → ℕ → Float → ℕ → Float → ℕ → ℕ → ℕ → ℕ → Car

@@ -1,22 +1,23 @@
 -- The writer for a host that is not Rattle: its state is nine numbers in a lent slice, and nothing is required of it. What a function answers, and
 -- what it leaves in the sheet and in the state. Assumes nothing.
-use Rattle.std.specs.Prelude.{ℕ, ◌+◌, ◌*◌, ◌/◌, ◌^◌, ◌<◌, ◌≤◌, refl, Bool, true, false, ◌&&◌, ◌||◌, cond, List, [], ◌∷◌, ◌≢◌, eqb, leb, length, get_or, set, drop}
+use Rattle.std.specs.Prelude.{Result, Ok, Err, ℕ, ◌+◌, ◌*◌, ◌/◌, ◌^◌, ◌<◌, ◌≤◌, refl, Bool, true, false, ◌&&◌, ◌||◌, cond, List, [], ◌∷◌, ◌≢◌, eqb, leb, length, get_or, set, drop}
 use Rattle.std.proofs.Math.Path.{◌≡◌, subst}
 use Rattle.std.proofs.Math.Logic.{⊎_elim}
 use Rattle.std.proofs.Common.{mul-le-mul, div-lt_iff_lt-mul, arith, pow_pos}
 use Rattle.std.proofs.Math.Dec.{ltb}
-use borrow.Author.Tests.{leb-true, eqb-true, ltb-false}
+use borrow.Author.Tests.{ne_eqb, leb-true, eqb-true, ltb-false}
 use Rattle.bits.specs.Field.{field_at}
 use Rattle.put.specs.Put.{put_at}
 use Rattle.put.proofs.PutLaws.{put_back}
-use Rattle.laws.specs.Bools.{both_left, both_right, either, which}
+use Rattle.laws.specs.Bools.{both_left, both_right, either, never, which}
 use Rattle.layout.specs.declared.Counts.{Counts}
 use Rattle.layout.specs.Offsets.{Small}
 use Rattle.writer.specs.declared.Edition.{Edition}
 use Rattle.writer.specs.declared.Edition.TheVariants.{First, Second}
-use Rattle.writer.specs.Puts.{sheet_bytes}
-use Rattle.writer.specs.declared.Put.{Put}
-use Rattle.writer.specs.declared.Put.TheVariants.{Written, NoRoom, OutOfOrder, Full}
+use Rattle.writer.specs.Puts.{Put, error_number, sheet_bytes}
+use Rattle.writer.specs.declared.PutError.TheVariants.{NoRoom, OutOfOrder, Full}
+use Rattle.writer_host.specs.declared.answer.Refused.{Refused}
+use Rattle.writer_host.specs.declared.answer.Refused.TheVariants as refused
 
 -- ---- the state
 
@@ -58,10 +59,8 @@ state_with c l =
 
 -- the state after an answer
 abbrev pub state_left : Put → List ℕ → List ℕ
-state_left (Written c) l = state_with c l
-state_left NoRoom l = l
-state_left OutOfOrder l = l
-state_left Full l = l
+state_left (Ok c) l = state_with c l
+state_left (Err e) l = l
 
 -- ---- what a host is answered: 1 where it lent no state, 8 where a code stands for nothing, and nothing is written then
 
@@ -71,12 +70,30 @@ host_refusal l known = cond (is_state l) (cond known 0 8) 1
 abbrev pub host_number : ℕ → ℕ → ℕ
 host_number refused n = cond (eqb refused 0) n refused
 
+abbrev pub refused_number : Refused → ℕ
+refused_number refused.NoState = 1
+refused_number refused.Edition = 3
+refused_number refused.Value = 8
+refused_number (refused.Put e) = error_number e
+
+-- 0 where what was asked for was done
+abbrev pub answered : {A : Type 0} → Result A Refused → ℕ
+answered (Ok x) = 0
+answered (Err e) = refused_number e
+
+-- the counts, or why the state has none
+unfoldable pub counts_or : List ℕ → Bool → Result Counts Refused
+counts_or l known = cond (is_state l) (cond known (Ok (counts_in l)) (Err refused.Value)) (Err refused.NoState)
+
 -- at the start the state may hold anything, and an edition that is none is 3
 unfoldable pub start_refusal : List ℕ → ℕ → ℕ
 start_refusal l edition = cond (ltb (length l) 9) 1 (cond (eqb edition 1 || eqb edition 2) 0 3)
 
 abbrev pub edition_of : ℕ → Edition
 edition_of n = cond (eqb n 2) Second First
+
+abbrev pub edition_or : ℕ → Result Edition Refused
+edition_or n = cond (eqb n 1 || eqb n 2) (Ok (edition_of n)) (Err refused.Edition)
 
 -- 2 where the sheet that was lent ends before the last record
 unfoldable pub finish_refusal : List ℕ → ℕ → ℕ
@@ -168,6 +185,56 @@ not_refused l known h =
     ⊎_elim (λ (e : is_state l ≡ true). e)
     (λ (e : is_state l ≡ false). absurd (let q : ◌≡◌ {A = ℕ} 1 0 = subst (λ b. ◌≡◌ {A = ℕ} (cond b (cond known 0 8) 1) 0) e h in omega arith))
     (which (is_state l))
+
+-- no refusal is 0
+pub refused_some : (e : Refused) → refused_number e ≢ 0
+refused_some refused.NoState h = omega arith
+refused_some refused.Edition h = omega arith
+refused_some refused.Value h = omega arith
+refused_some (refused.Put NoRoom) h = omega arith
+refused_some (refused.Put OutOfOrder) h = omega arith
+refused_some (refused.Put Full) h = omega arith
+
+-- the counts that a state gives, and why there are none
+pub counts_ok : (l : List ℕ) (known : Bool) {c : Counts} → Ok c ≡ counts_or l known → (host_refusal l known ≡ 0) × (c ≡ counts_in l)
+unfolding counts_or host_refusal
+counts_ok l known {c} h = by (is_state l) known (counts_in l) h
+  where
+    by : (b k : Bool) (d : Counts) → ◌≡◌ {A = Result Counts Refused} (Ok c) (cond b (cond k (Ok d) (Err refused.Value)) (Err refused.NoState))
+        → ◌≡◌ {A = ℕ} (cond b (cond k 0 8) 1) 0 × (c ≡ d)
+    by true true d e = (refl, cc)
+    by true false d e = never cc
+    by false k d e = never cc
+
+pub counts_err : (l : List ℕ) (known : Bool) {r : Refused} → Err r ≡ counts_or l known → host_refusal l known ≡ refused_number r
+unfolding counts_or host_refusal
+counts_err l known {r} h = by (is_state l) known (counts_in l) h
+  where
+    by : (b k : Bool) (d : Counts) → ◌≡◌ {A = Result Counts Refused} (Err r) (cond b (cond k (Ok d) (Err refused.Value)) (Err refused.NoState))
+        → ◌≡◌ {A = ℕ} (cond b (cond k 0 8) 1) (refused_number r)
+    by true true d e = never cc
+    by true false d e = let q : r ≡ refused.Value = cc in rw q
+    by false k d e = let q : r ≡ refused.NoState = cc in rw q
+
+-- the edition of a code, and why there is none
+pub edition_ok : (n : ℕ) {e : Edition} → Ok e ≡ edition_or n → ((eqb n 1 || eqb n 2) ≡ true) × (e ≡ edition_of n)
+edition_ok n {e} h = by (eqb n 1 || eqb n 2) (edition_of n) h
+  where
+    by : (b : Bool) (d : Edition) → ◌≡◌ {A = Result Edition Refused} (Ok e) (cond b (Ok d) (Err refused.Edition)) → (b ≡ true) × (e ≡ d)
+    by true d q = (refl, cc)
+    by false d q = never cc
+
+pub edition_err : (n : ℕ) {r : Refused} → Err r ≡ edition_or n → ((eqb n 1 || eqb n 2) ≡ false) × (r ≡ refused.Edition)
+edition_err n {r} h = by (eqb n 1 || eqb n 2) (edition_of n) h
+  where
+    by : (b : Bool) (d : Edition) → ◌≡◌ {A = Result Edition Refused} (Err r) (cond b (Ok d) (Err refused.Edition)) → (b ≡ false) × (r ≡ refused.Edition)
+    by true d q = never cc
+    by false d q = (refl, cc)
+
+-- where the state is refused, all is left as it was
+pub refused_left : (e : Refused) (f n : ℕ) (s t l m : List ℕ) → f ≡ refused_number e
+    → (refused_number e ≡ host_number f n) × (s ≡ host_left f t s) × (l ≡ host_left f m l)
+refused_left e f n s t l m h = rw (h, ne_eqb (refused_number e) 0 (refused_some e)) (refl, refl, refl)
 
 -- where the state is refused, so is the finish
 pub finish_refused : (l : List ℕ) (n : ℕ) → host_refusal l true ≢ 0 → finish_refusal l n ≡ host_refusal l true

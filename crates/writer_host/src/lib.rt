@@ -3,38 +3,90 @@
 // written then. A field alone is put without a state.
 #![tactic(auto)]
 
+mod answer;
 mod field;
 mod state;
 
-ghost use Rattle.std.specs.Prelude.{◌≡◌, true, length, cond, eqb};
+ghost use Rattle.std.specs.Prelude.{◌≡◌, true, length, cond, eqb, IfOk};
 ghost use Rattle.layout.specs.Offsets.{end_of};
-ghost use Rattle.encoder.specs.Encoded.{policy_at, stop_at, line_at, car_at, aboard_at, waiting_at, demand_at, closed_at};
+ghost use Rattle.encoder.specs.Encoded.{record_at, policy_at, stop_at, line_at, car_at, aboard_at, waiting_at, demand_at, closed_at};
 ghost use Rattle.writer.specs.Puts.{start_of, head_put, sheet_bytes, finished};
-ghost use Rattle.writer.specs.Puts.{put_number, left_of, policy_answer, stop_answer, line_answer, car_answer, aboard_answer, waiting_answer};
+ghost use Rattle.writer.specs.Puts.{put_number, left_of, answer_of, policy_answer, stop_answer, line_answer, car_answer, aboard_answer, waiting_answer};
 ghost use Rattle.writer.specs.Puts.{demand_answer, closed_answer};
-ghost use Rattle.writer_host.specs.Host.{counts_in, host_refusal, start_refusal, edition_of, finish_refusal, host_number, host_left, state_left};
+ghost use Rattle.writer_host.specs.Host.{counts_in, host_refusal, start_refusal, edition_of, edition_or, finish_refusal, host_number, host_left, state_left, answered};
 ghost use Rattle.writer_host.specs.Host.{field_refusal};
 ghost use Rattle.put.specs.Put.{put_at};
-ghost use Rattle.writer_host.specs.Given.{policy_of, policy_known, stop_of, line_of, threshold_of, car_of, phase_known, aboard_of, waiting_of, demand_of};
+ghost use Rattle.writer_host.specs.Given.{policy_of, policy_known, stop_of, line_of, car_of, phase_known, aboard_of, waiting_of, demand_of};
 ghost use Rattle.values.specs.Values.{bits_of};
 ghost use Rattle.store_writer.specs.Stored.{entry, entry_put, stored_of, stored_number, stored_count, stored_left};
 
+use answer::Refused;
 use components::{
-    Aboard, Car, Demand, Direction, Line, Mode, Phase, Point, Policy, Stop, Strategy, Threshold,
-    Traffic, Waiting,
+    Aboard, Car, Demand, Direction, Line, Mode, Phase, Point, Policy, Stop, Strategy, Traffic,
+    Waiting,
 };
-use store_writer::Stored;
-use writer::Edition;
+use writer::record::{Closed, Limited, Record};
+use writer::{Edition, PutError};
 
-// The edition of a code, the first for any but 2.
-fn edition_of(code: u32) -> Edition
-    ensures { result ≡ edition_of code }
+// The edition of a code.
+fn edition_of(code: u32) -> Result<Edition, Refused>
+    ensures { result ≡ edition_or code }
 {
-    if code == 2 {
-        Edition::Second
-    } else {
-        Edition::First
+    match code {
+        1 => Ok(Edition::First),
+        2 => Ok(Edition::Second),
+        _ => Err(Refused::Edition),
     }
+}
+
+// Starts a sheet of an edition, and fills the state.
+fn start(sheet: &mut [u8], state: &mut [u32], edition: u32) -> Result<(), Refused>
+    ensures { let l = state.old in let s = sheet.old in
+        let f = start_refusal l edition in let p = start_of (length s) (edition_of edition) in
+        (answered result ≡ host_number f (put_number p))
+        × (sheet.new ≡ host_left f (left_of p s (head_put s (edition_of edition))) s)
+        × (state.new ≡ host_left f (state_left p l) l) }
+{
+    if state.len() < 9 {
+        return Err(Refused::NoState);
+    }
+    let edition = edition_of(edition)?;
+    let c = writer::start(sheet, edition)?;
+    state::store(state, c);
+    Ok(())
+}
+
+// Puts a record after those that the state counts, and counts it there.
+fn put_record<R: Record>(
+    sheet: &mut [u8],
+    state: &mut [u32],
+    known: bool,
+    x: R,
+) -> Result<(), Refused>
+    ensures { let l = state.old in let s = sheet.old in let c = counts_in l in
+        let f = host_refusal l known in let p = answer_of (length s) c R.KIND in
+        (answered result ≡ host_number f (put_number p))
+        × (sheet.new ≡ host_left f (left_of p s (record_at s (end_of c) c.across R.KIND (R.values x))) s)
+        × (state.new ≡ host_left f (state_left p l) l) }
+{
+    let c = state::counts(state, known)?;
+    let next = writer::put(sheet, c, x)?;
+    state::store(state, next);
+    Ok(())
+}
+
+// Finishes a sheet, and answers how many bytes it has.
+fn finish(sheet: &mut [u8], state: &[u32]) -> Result<usize, Refused>
+    ensures { let l = state.now in let s = sheet.old in let f = finish_refusal l (length s) in
+        (answered result ≡ f)
+        × (sheet.new ≡ host_left f (finished s (counts_in l)) s)
+        × IfOk result (λ n. n ≡ sheet_bytes (counts_in l)) }
+{
+    let c = state::counts(state, true)?;
+    if sheet.len() < bits::bytes_for(c.end_of()) {
+        return Err(Refused::Put(PutError::NoRoom));
+    }
+    Ok(writer::finish(sheet, c))
 }
 
 // Starts a sheet of an edition, 1 or 2, and fills the state. 1 where the state has no room for nine numbers, 3 for any other edition.
@@ -46,14 +98,7 @@ pub extern "C" fn dispatch_bench_start(sheet: &mut [u8], state: &mut [u32], edit
         × (sheet.new ≡ host_left f (left_of p s (head_put s (edition_of edition))) s)
         × (state.new ≡ host_left f (state_left p l) l) }
 {
-    if state.len() < 9 {
-        return 1;
-    }
-    if (edition == 1) | (edition == 2) {
-        let r = writer::start(sheet, edition_of(edition));
-        return state::keep(state, r);
-    }
-    3
+    answer::number(start(sheet, state, edition))
 }
 
 // The policy, with the candidate limit. 8 for a strategy above 2 or traffic above 3.
@@ -78,24 +123,20 @@ pub extern "C" fn dispatch_bench_put_policy(
         × (sheet.new ≡ host_left f (left_of p s (policy_at s (end_of c) c.across limit (policy_of strategy rate traffic w0 w1 w2 w3 w4 w5))) s)
         × (state.new ≡ host_left f (state_left p l) l) }
 {
-    let refused = state::refusal(state, (strategy <= 2) & (traffic <= 3));
-    if refused != 0 {
-        return refused;
-    }
-    let c = state::counts_in(state);
-    let x = Policy {
-        strategy: Strategy::of_code(strategy as u64),
-        rate: rate,
-        traffic: Traffic::of_code(traffic as u64),
-        w0: w0,
-        w1: w1,
-        w2: w2,
-        w3: w3,
-        w4: w4,
-        w5: w5,
+    let policy = Policy {
+        strategy: Strategy::from(u64::from(strategy)),
+        rate,
+        traffic: Traffic::from(u64::from(traffic)),
+        w0,
+        w1,
+        w2,
+        w3,
+        w4,
+        w5,
     };
-    let r = writer::put_policy(sheet, c, limit, x);
-    state::keep(state, r)
+    let known = (strategy <= 2) & (traffic <= 3);
+    let x = Limited { limit, policy };
+    answer::number(put_record(sheet, state, known, x))
 }
 
 // A stop; across is written in edition 2 alone.
@@ -113,21 +154,14 @@ pub extern "C" fn dispatch_bench_put_stop(
         × (sheet.new ≡ host_left f (left_of p s (stop_at s (end_of c) c.across (stop_of id position across))) s)
         × (state.new ≡ host_left f (state_left p l) l) }
 {
-    let refused = state::refusal(state, true);
-    if refused != 0 {
-        return refused;
-    }
-    let c = state::counts_in(state);
-    let place = Point {
-        along: position,
-        across: across,
-    };
     let x = Stop {
-        id: id,
-        position: place,
+        id,
+        position: Point {
+            along: position,
+            across,
+        },
     };
-    let r = writer::put_stop(sheet, c, x);
-    state::keep(state, r)
+    answer::number(put_record(sheet, state, true, x))
 }
 
 // A line; the highest bit of serves is the first stop.
@@ -144,17 +178,7 @@ pub extern "C" fn dispatch_bench_put_line(
         × (sheet.new ≡ host_left f (left_of p s (line_at s (end_of c) c.across (line_of id serves))) s)
         × (state.new ≡ host_left f (state_left p l) l) }
 {
-    let refused = state::refusal(state, true);
-    if refused != 0 {
-        return refused;
-    }
-    let c = state::counts_in(state);
-    let x = Line {
-        id: id,
-        serves: serves,
-    };
-    let r = writer::put_line(sheet, c, x);
-    state::keep(state, r)
+    answer::number(put_record(sheet, state, true, Line { id, serves }))
 }
 
 // A rider in a car; a destination of 0 is none.
@@ -171,17 +195,7 @@ pub extern "C" fn dispatch_bench_put_aboard(
         × (sheet.new ≡ host_left f (left_of p s (aboard_at s (end_of c) c.across (aboard_of car destination))) s)
         × (state.new ≡ host_left f (state_left p l) l) }
 {
-    let refused = state::refusal(state, true);
-    if refused != 0 {
-        return refused;
-    }
-    let c = state::counts_in(state);
-    let x = Aboard {
-        car: car,
-        destination: destination,
-    };
-    let r = writer::put_aboard(sheet, c, x);
-    state::keep(state, r)
+    answer::number(put_record(sheet, state, true, Aboard { car, destination }))
 }
 
 // A rider at a stop; a line or a destination of 0 is none.
@@ -201,20 +215,14 @@ pub extern "C" fn dispatch_bench_put_waiting(
         × (sheet.new ≡ host_left f (left_of p s (waiting_at s (end_of c) c.across (waiting_of stop line destination weight wait))) s)
         × (state.new ≡ host_left f (state_left p l) l) }
 {
-    let refused = state::refusal(state, true);
-    if refused != 0 {
-        return refused;
-    }
-    let c = state::counts_in(state);
     let x = Waiting {
-        stop: stop,
-        line: line,
-        destination: destination,
-        weight: weight,
-        wait: wait,
+        stop,
+        line,
+        destination,
+        weight,
+        wait,
     };
-    let r = writer::put_waiting(sheet, c, x);
-    state::keep(state, r)
+    answer::number(put_record(sheet, state, true, x))
 }
 
 // A stop's demand; call is 1 where a hall call there has no pending rider.
@@ -232,18 +240,12 @@ pub extern "C" fn dispatch_bench_put_demand(
         × (sheet.new ≡ host_left f (left_of p s (demand_at s (end_of c) c.across (demand_of stop riding call))) s)
         × (state.new ≡ host_left f (state_left p l) l) }
 {
-    let refused = state::refusal(state, true);
-    if refused != 0 {
-        return refused;
-    }
-    let c = state::counts_in(state);
     let x = Demand {
-        stop: stop,
-        riding: riding,
+        stop,
+        riding,
         call: call != 0,
     };
-    let r = writer::put_demand(sheet, c, x);
-    state::keep(state, r)
+    answer::number(put_record(sheet, state, true, x))
 }
 
 // A closed landing.
@@ -255,79 +257,7 @@ pub extern "C" fn dispatch_bench_put_closed(sheet: &mut [u8], state: &mut [u32],
         × (sheet.new ≡ host_left f (left_of p s (closed_at s (end_of c) c.across stop)) s)
         × (state.new ≡ host_left f (state_left p l) l) }
 {
-    let refused = state::refusal(state, true);
-    if refused != 0 {
-        return refused;
-    }
-    let c = state::counts_in(state);
-    let r = writer::put_closed(sheet, c, stop);
-    state::keep(state, r)
-}
-
-fn threshold_of(has: u32, x: f64) -> Threshold
-    ensures { result ≡ threshold_of has x }
-{
-    if has != 0 {
-        Threshold::At(x)
-    } else {
-        Threshold::Absent
-    }
-}
-
-// The car with these fields.
-fn car_of(
-    id: u32,
-    line: u32,
-    phase: u32,
-    stop: u32,
-    target: u32,
-    listed: u32,
-    up: u32,
-    down: u32,
-    sweep: u32,
-    mode: u32,
-    position: f64,
-    across: f64,
-    speed: f64,
-    capacity: f64,
-    load: f64,
-    hasbypassup: u32,
-    bypassup: f64,
-    hasbypassdown: u32,
-    bypassdown: f64,
-    transition: u32,
-    dwell: u32,
-    restricted: u64,
-    calls: u64,
-) -> Car
-    ensures { result ≡ car_of id line phase stop target listed up down sweep mode position across speed capacity load
-        hasbypassup bypassup hasbypassdown bypassdown transition dwell restricted calls }
-{
-    let place = Point {
-        along: position,
-        across: across,
-    };
-    Car {
-        id: id,
-        line: line,
-        phase: Phase::of_code(phase as u64, stop),
-        target: target,
-        listed: listed != 0,
-        up: up != 0,
-        down: down != 0,
-        direction: Direction::of_bit(sweep != 0),
-        mode: Mode::of_bit(mode != 0),
-        position: place,
-        speed: speed,
-        capacity: capacity,
-        load: load,
-        bypassup: threshold_of(hasbypassup, bypassup),
-        bypassdown: threshold_of(hasbypassdown, bypassdown),
-        transition: transition,
-        dwell: dwell,
-        restricted: restricted,
-        calls: calls,
-    }
+    answer::number(put_record(sheet, state, true, Closed { stop }))
 }
 
 // A car; the stop is that of phases 1 and 2, a target of 0 is none, across is written in edition 2 alone. 8 for a phase above 6.
@@ -367,38 +297,31 @@ pub extern "C" fn dispatch_bench_put_car(
         × (sheet.new ≡ host_left f (left_of p s (car_at s (end_of c) c.across x)) s)
         × (state.new ≡ host_left f (state_left p l) l) }
 {
-    let refused = state::refusal(state, phase <= 6);
-    if refused != 0 {
-        return refused;
-    }
-    let c = state::counts_in(state);
-    let x = car_of(
+    let x = Car {
         id,
         line,
-        phase,
-        stop,
+        phase: Phase::of_code(u64::from(phase), stop),
         target,
-        listed,
-        up,
-        down,
-        sweep,
-        mode,
-        position,
-        across,
+        listed: listed != 0,
+        up: up != 0,
+        down: down != 0,
+        direction: Direction::from(sweep != 0),
+        mode: Mode::from(mode != 0),
+        position: Point {
+            along: position,
+            across,
+        },
         speed,
         capacity,
         load,
-        hasbypassup,
-        bypassup,
-        hasbypassdown,
-        bypassdown,
+        bypassup: (hasbypassup != 0).then_some(bypassup),
+        bypassdown: (hasbypassdown != 0).then_some(bypassdown),
         transition,
         dwell,
         restricted,
         calls,
-    );
-    let r = writer::put_car(sheet, c, x);
-    state::keep(state, r)
+    };
+    answer::number(put_record(sheet, state, phase <= 6, x))
 }
 
 // Finishes a sheet, and gives its bytes: the first so many of what was lent are the sheet. 2 where it ends before the last record.
@@ -409,16 +332,13 @@ pub extern "C" fn dispatch_bench_finish(sheet: &mut [u8], state: &[u32], bytes: 
         × (sheet.new ≡ host_left f (finished s (counts_in l)) s)
         × (bytes.new ≡ cond (eqb f 0) (sheet_bytes (counts_in l)) bytes.old) }
 {
-    let refused = state::refusal(state, true);
-    if refused != 0 {
-        return refused;
+    match finish(sheet, state) {
+        Ok(n) => {
+            *bytes = n as u64;
+            0
+        }
+        Err(refused) => refused.number(),
     }
-    let c = state::counts_in(state);
-    if sheet.len() < bits::bytes_for(c.end_of()) {
-        return 2;
-    }
-    *bytes = writer::finish(sheet, c) as u64;
-    0
 }
 
 // A record of a store of weights, after count others: a weight slot, the day from which it holds, the issue and the weight. 0, and count is one more;
@@ -438,12 +358,11 @@ pub extern "C" fn dispatch_bench_put_weight(
         × (count.new ≡ stored_count a n) }
 {
     match store_writer::put_weight(store, *count, setting, start, issue, weight) {
-        Stored::Written(n) => {
+        Ok(n) => {
             *count = n;
             0
         }
-        Stored::NoRoom => 2,
-        Stored::Full => 7,
+        Err(error) => error.number(),
     }
 }
 
@@ -453,10 +372,11 @@ pub extern "C" fn dispatch_bench_put_field(sheet: &mut [u8], at: u32, width: u32
     ensures { let s = sheet.old in let f = field_refusal (length s) at width value in
         (result ≡ f) × (sheet.new ≡ host_left f (put_at s at width value) s) }
 {
-    let refused = field::refusal(sheet.len(), at, width, value);
-    if refused != 0 {
-        return refused;
+    match field::check(sheet.len(), at, width, value) {
+        Ok(()) => {
+            put::put(sheet, at, 0, width as usize, value);
+            0
+        }
+        Err(refused) => refused.number(),
     }
-    put::put(sheet, at, 0, width as usize, value);
-    0
 }

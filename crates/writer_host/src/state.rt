@@ -1,13 +1,12 @@
 // The state that a host lends: nine numbers, the bits of a second coordinate and how many records there are of each kind.
 ghost use Rattle.std.specs.Prelude.{◌≡◌, ◌≤◌, length};
-ghost use Rattle.writer.specs.Puts.{put_number};
-ghost use Rattle.writer_host.specs.Host.{counts_in, is_within, is_state, host_refusal, state_with, state_left};
+ghost use Rattle.writer_host.specs.Host.{counts_in, is_within, is_state, counts_or, state_with};
 
+use crate::answer::Refused;
 use layout::Counts;
-use writer::Put;
 
 // The counts that the numbers are.
-pub fn counts_in(state: &[u32]) -> Counts
+fn counts_in(state: &[u32]) -> Counts
     requires { 9 ≤ length state.now }
     ensures { result ≡ counts_in state.now }
 {
@@ -48,19 +47,21 @@ fn is_state(state: &[u32]) -> bool
     is_within(counts_in(state))
 }
 
-// 1 where the numbers are no state, 8 where the codes are not known, else 0.
-pub fn refusal(state: &[u32], known: bool) -> u32
-    ensures { result ≡ host_refusal state.now known }
+// The counts; 1 where the numbers are no state, 8 where the codes are not known.
+pub fn counts(state: &[u32], known: bool) -> Result<Counts, Refused>
+    ensures { result ≡ counts_or state.now known }
 {
-    if is_state(state) {
-        if known { 0 } else { 8 }
-    } else {
-        1
+    if !is_state(state) {
+        return Err(Refused::NoState);
     }
+    if !known {
+        return Err(Refused::Value);
+    }
+    Ok(counts_in(state))
 }
 
 // Stores counts.
-fn store(state: &mut [u32], c: Counts)
+pub fn store(state: &mut [u32], c: Counts)
     requires { 9 ≤ length state.old }
     ensures { state.new ≡ state_with c state.old }
 {
@@ -73,20 +74,4 @@ fn store(state: &mut [u32], c: Counts)
     state[6] = c.waits;
     state[7] = c.demands;
     state[8] = c.closures;
-}
-
-// The number of an answer; where a record was written the state has its counts.
-pub fn keep(state: &mut [u32], r: Put) -> u32
-    requires { 9 ≤ length state.old }
-    ensures { (result ≡ put_number r) × (state.new ≡ state_left r state.old) }
-{
-    match r {
-        Put::Written(c) => {
-            store(state, c);
-            0
-        }
-        Put::NoRoom => 2,
-        Put::OutOfOrder => 6,
-        Put::Full => 7,
-    }
 }

@@ -1,4 +1,5 @@
 -- Fields that were put are decoded as the item (Decoded). Assumes nothing.
+use Rattle.std.specs.Prelude.{None, Option, Some}
 use Rattle.std.specs.Prelude.{ℕ, ◌%◌, ◌^◌, ◌<◌, ◌≡◌, Bool, true, false, cond, List, eqb, Float}
 use Rattle.std.proofs.Common.{ap, ap₂, ◌∙◌, mod-eq_of_lt}
 use Rattle.std.proofs.Math.Nat.{mod-one}
@@ -17,8 +18,6 @@ use Rattle.components.specs.declared.Direction.{Direction}
 use Rattle.components.specs.declared.Direction.TheVariants as direction
 use Rattle.components.specs.declared.Mode.{Mode}
 use Rattle.components.specs.declared.Mode.TheVariants as mode
-use Rattle.components.specs.declared.Threshold.{Threshold}
-use Rattle.components.specs.declared.Threshold.TheVariants as threshold
 use Rattle.components.specs.Codes.{strategy_of, strategy_code, traffic_of, traffic_code, phase_of, phase_code, direction_of, direction_code, mode_of, mode_code}
 use Rattle.layout.specs.Records.{policy_of, stop_of, line_of, car_of, aboard_of, waiting_of, demand_of}
 use Rattle.values.specs.Values.{bits_of, phase_stop, threshold_present, threshold_bits, policy_values, stop_values, line_values, car_values}
@@ -82,11 +81,11 @@ phase_back v u phase.DoorClosing h k l = ap₂ phase_of h k
 phase_back v u phase.Stopped h k l = ap₂ phase_of h k
 phase_back v u phase.Unknown h k l = ap₂ phase_of h k
 
-threshold_back : (v u : ℕ) (x : Threshold) → v ≡ threshold_present x % 2 ^ 1 → u ≡ threshold_bits x % 2 ^ 64 → ThresholdFits x
-    → cond (eqb v 1) (threshold.At (of_bits binary64 u)) threshold.Absent ≡ x
-threshold_back v u threshold.Absent h k d = ap (λ (y : ℕ). cond (eqb y 1) (threshold.At (of_bits binary64 u)) threshold.Absent) h
-threshold_back v u (threshold.At x) h k d =
-    ap (λ (y : ℕ). cond (eqb y 1) (threshold.At (of_bits binary64 u)) threshold.Absent) h ∙ ap threshold.At (double u x k d)
+threshold_back : (v u : ℕ) (x : Option Float) → v ≡ threshold_present x % 2 ^ 1 → u ≡ threshold_bits x % 2 ^ 64 → ThresholdFits x
+    → cond (eqb v 1) (Some (of_bits binary64 u)) None ≡ x
+threshold_back v u None h k d = ap (λ (y : ℕ). cond (eqb y 1) (Some (of_bits binary64 u)) None) h
+threshold_back v u (Some x) h k d =
+    ap (λ (y : ℕ). cond (eqb y 1) (Some (of_bits binary64 u)) None) h ∙ ap Some (double u x k d)
 
 -- ---- each record
 

@@ -1,5 +1,7 @@
 -- What is absent or unused is written as zeros, and what is present is not 0: of a car, an aboard and a waiting rider that were put, condition 8
 -- holds only of a car in phase 7, and condition 9 not by an optional id. Assumes nothing.
+use Rattle.std.specs.Prelude.{None, Option, Some}
+use Rattle.std.specs.Float.{Float}
 use Rattle.std.specs.Prelude.{ℕ, ◌+◌, ◌%◌, ◌^◌, ◌<◌, ◌≡◌, Bool, not, ◌&&◌, List, eqb}
 use Rattle.std.proofs.Math.Path.{refl, ap₂}
 use Rattle.std.proofs.Common.{ap, ◌∙◌, mod-eq_of_lt}
@@ -11,8 +13,6 @@ use Rattle.components.specs.declared.Aboard.{Aboard}
 use Rattle.components.specs.declared.Waiting.{Waiting}
 use Rattle.components.specs.declared.Phase.{Phase}
 use Rattle.components.specs.declared.Phase.TheVariants as phase
-use Rattle.components.specs.declared.Threshold.{Threshold}
-use Rattle.components.specs.declared.Threshold.TheVariants as threshold
 use Rattle.components.specs.Codes.{phase_of, phase_code}
 use Rattle.layout.specs.declared.Counts.{Counts}
 use Rattle.layout.specs.Records.{from}
@@ -56,9 +56,9 @@ module _ (v u id : ℕ) (h : v ≡ present id % 2 ^ 1) (k : u ≡ id % 2 ^ 32) (
       by true = refl
       by false = refl
 
-threshold_clear : (v u : ℕ) (x : Threshold) → v ≡ threshold_present x % 2 ^ 1 → u ≡ threshold_bits x % 2 ^ 64 → (not (eqb v 1) && not (eqb u 0)) ≡ false
-threshold_clear v u threshold.Absent h k = rw (h, k)
-threshold_clear v u (threshold.At x) h k = rw h
+threshold_clear : (v u : ℕ) (x : Option Float) → v ≡ threshold_present x % 2 ^ 1 → u ≡ threshold_bits x % 2 ^ 64 → (not (eqb v 1) && not (eqb u 0)) ≡ false
+threshold_clear v u None h k = rw (h, k)
+threshold_clear v u (Some x) h k = rw h
 
 stop_clear : (u : ℕ) (p : Phase) → u ≡ phase_stop p % 2 ^ 32 → unused_stop p (not (eqb u 0)) ≡ false
 stop_clear u phase.Idle k = rw k

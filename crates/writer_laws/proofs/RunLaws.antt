@@ -1,7 +1,7 @@
 -- What stands in the sheet that is finished: every item as it was put, the edition and the number of records in the head, and zero bits after the
 -- last record. Assumes nothing.
 use Prim.Native.Nat.{ℕ, zero, suc, ◌+◌, ◌*◌, ◌%◌, ◌^◌, ◌≤◌, ◌<◌}
-use Rattle.std.specs.Prelude.{◌≡◌, Bool, true, false, cond, List, [], ◌∷◌, ◌⊎◌, ltb, leb}
+use Rattle.std.specs.Prelude.{Err, ◌≡◌, Bool, true, false, cond, List, [], ◌∷◌, ◌⊎◌, ltb, leb}
 use Rattle.std.proofs.Math.Path.{refl, ap}
 use Rattle.std.proofs.Common.{sym, ◌∙◌, subst, inl, inr}
 use Rattle.std.proofs.Math.Logic.{⊎_elim}
@@ -29,9 +29,8 @@ use Rattle.encoder.specs.EncodedLaws.{Reads, fields_length, reads_same}
 use Rattle.encoder.proofs.FieldLaws.{fields_elsewhere, fields_read}
 use Rattle.writer.specs.declared.Edition.{Edition}
 use Rattle.writer.specs.declared.Edition.TheVariants.{First, Second}
-use Rattle.writer.specs.declared.Put.{Put}
-use Rattle.writer.specs.declared.Put.TheVariants.{NoRoom, OutOfOrder, Full}
-use Rattle.writer.specs.Puts.{bytes_for, most_records, answer_of, start_of, is_written, head_put, edition_code, finished, padding, sheet_bytes}
+use Rattle.writer.specs.declared.PutError.TheVariants.{NoRoom, OutOfOrder, Full}
+use Rattle.writer.specs.Puts.{Put, bytes_for, most_records, answer_of, start_of, is_written, head_put, edition_code, finished, padding, sheet_bytes}
 use Rattle.writer_laws.specs.Run.{Item, policy, stop, line, car, aboard, waiting, demand, closed, item_kind, item_values, across_of}
 use Rattle.writer_laws.specs.Run.{counts_at, buffer_at, AllWritten, sheet_at}
 
@@ -51,10 +50,10 @@ pub record Taken (n : ℕ) (c : Counts) (k : Kind) : Type 0 where
 pub taken : (n : ℕ) (c : Counts) (k : Kind) → is_written (answer_of n c k) ≡ true → Taken n c k
 unfolding answer_of
 taken n c k h =
-    let a = peel (ltb n (bytes_for (end_of c + record_length c.across k))) NoRoom _ refl h in
-    let b = peel (refusal6 c (kind_code k)) OutOfOrder _ refl a.1 in
-    let d = peel (refusal7 c k) Full _ refl b.1 in
-    let f = peel (leb most_records (all c)) Full _ refl d.1 in
+    let a = peel (ltb n (bytes_for (end_of c + record_length c.across k))) (Err NoRoom) _ refl h in
+    let b = peel (refusal6 c (kind_code k)) (Err OutOfOrder) _ refl a.1 in
+    let d = peel (refusal7 c k) (Err Full) _ refl b.1 in
+    let f = peel (leb most_records (all c)) (Err Full) _ refl d.1 in
     record { room = ltb-false _ _ a.0; in_order = b.0; not_full = d.0; countable = leb-false _ _ f.0 }
 
 -- ---- one record more
@@ -162,7 +161,7 @@ module _ (s : List ℕ) (e : Edition) (r : ℕ → Item) where
 
     head_room : 3 ≤ length s
     unfolding start_of
-    head_room = ltb-false (length s) 3 (peel (ltb (length s) 3) NoRoom _ refl w.started).0
+    head_room = ltb-false (length s) 3 (peel (ltb (length s) 3) (Err NoRoom) _ refl w.started).0
 
     pub room : bytes_for (end_of (counts_at s e r n)) ≤ length s
     unfolding counts_at

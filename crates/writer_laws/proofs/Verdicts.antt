@@ -1,6 +1,9 @@
 -- How the reader reads what a writer finished. Of each record kind and length are right, it is in order and not one too many, and the tail is as it
 -- must be: so of document 01's numbers only those of a record's body, 8 to 14, can be given, and the sheet is accepted exactly where no condition of
 -- these holds. Assumes nothing.
+use Rattle.std.specs.Prelude.{Ok, Result}
+use Rattle.layout.specs.declared.Refusal.{Refusal}
+use Rattle.layout.specs.Refused.{refused}
 use Prim.Native.Nat.{ℕ, zero, suc, ◌+◌, ◌-◌, ◌*◌, ◌%◌, ◌^◌, ◌≤◌, ◌<◌}
 use Rattle.std.proofs.Math.Path.{◌≡◌, refl, ap, subst}
 use Rattle.std.proofs.Common.{sym, ◌∙◌}
@@ -16,8 +19,6 @@ use Rattle.components.specs.declared.Kind.{Kind}
 use Rattle.components.specs.declared.Kind.TheVariants.{Policy, Stop, Line, Car, Aboard, Waiting, Demand, Closed, Unknown}
 use Rattle.components.specs.Codes.{kind_of, kind_code}
 use Rattle.layout.specs.declared.Counts.{Counts}
-use Rattle.layout.specs.declared.Reading.{Reading}
-use Rattle.layout.specs.declared.Reading.TheVariants.{Refused, Accepted}
 use Rattle.layout.specs.Offsets.{none, end_of, body_length, across_in}
 use Rattle.layout.specs.Records.{from}
 use Rattle.layout.specs.Refusals.{edition, record_count, kind_at, length_at, refusal2_head, refusal3, refusal6_empty, refusal2, refusal5}
@@ -146,15 +147,15 @@ module _ (s : List ℕ) (e : Edition) (r : ℕ → Item) (n : ℕ) (w : AllWritt
       let p : 8 * length t - end_of c ≡ padding (end_of c) = omega arith in
       rw (le-ltb (8 * length t) (end_of c) (omega arith), p, lt-ltb (padding (end_of c)) 8 (omega arith), add-zero (end_of c), tail_read s e r n w)
 
-  tail_accepts : 0 < n → tail_verdict (sheet_at s e r n) (counts_at s e r n) ≡ Accepted (counts_at s e r n)
+  tail_accepts : 0 < n → tail_verdict (sheet_at s e r n) (counts_at s e r n) ≡ Ok (counts_at s e r n)
   unfolding tail_verdict first_of pick refusal6_empty refusal16
   tail_accepts h = rw (count_is, ne_eqb n 0 (λ z. omega arith), tail_clean)
 
   -- ---- the verdict
 
   -- what the bodies of the m records after i others say: the first number found, at the bit where its record starts
-  unfoldable pub bodies_verdict : ℕ → ℕ → Reading
-  bodies_verdict zero i = Accepted (counts_at s e r i)
+  unfoldable pub bodies_verdict : ℕ → ℕ → Result Counts Refusal
+  bodies_verdict zero i = Ok (counts_at s e r i)
   bodies_verdict (suc m) i =
       given (body_refusal (sheet_at s e r n) (counts_at s e r i) (item_kind (r i)) (from (sheet_at s e r n) (end_of (counts_at s e r i))))
       (end_of (counts_at s e r i)) (bodies_verdict m (suc i))
@@ -176,14 +177,14 @@ module _ (s : List ℕ) (e : Edition) (r : ℕ → Item) (n : ℕ) (w : AllWritt
     pub none : (i : ℕ) → i < n
         → body_refusal (sheet_at s e r n) (counts_at s e r i) (item_kind (r i)) (from (sheet_at s e r n) (end_of (counts_at s e r i))) ≡ 0
 
-  given_none : (m at : ℕ) (rest : Reading) (c : Counts) → given m at rest ≡ Accepted c → (m ≡ 0) × (rest ≡ Accepted c)
+  given_none : (m at : ℕ) (rest : Result Counts Refusal) (c : Counts) → given m at rest ≡ Ok c → (m ≡ 0) × (rest ≡ Ok c)
   given_none m at rest c h =
       ⊎_elim
-      (λ (z : m ≡ 0). (z, subst (λ b. cond b rest (Refused m at) ≡ Accepted c) (eq-eqb m 0 z) h))
-      (λ z. absurd (refused≢accepted (subst (λ b. cond b rest (Refused m at) ≡ Accepted c) (ne_eqb m 0 z) h)))
+      (λ (z : m ≡ 0). (z, subst (λ b. cond b rest (refused m at) ≡ Ok c) (eq-eqb m 0 z) h))
+      (λ z. absurd (refused≢accepted (subst (λ b. cond b rest (refused m at) ≡ Ok c) (ne_eqb m 0 z) h)))
       (same? m 0)
 
-  all_none : (c : Counts) (m i : ℕ) → i + m ≡ n → bodies_verdict m i ≡ Accepted c → (j : ℕ) → i ≤ j → j < n
+  all_none : (c : Counts) (m i : ℕ) → i + m ≡ n → bodies_verdict m i ≡ Ok c → (j : ℕ) → i ≤ j → j < n
       → body_refusal (sheet_at s e r n) (counts_at s e r j) (item_kind (r j)) (from (sheet_at s e r n) (end_of (counts_at s e r j))) ≡ 0
   unfolding bodies_verdict
   all_none c zero i q h j a b = absurd (omega arith)
@@ -195,23 +196,23 @@ module _ (s : List ℕ) (e : Edition) (r : ℕ → Item) (n : ℕ) (w : AllWritt
       (λ z. all_none c m (suc i) (omega arith) g.1 j (omega arith) b)
       (same? i j)
 
-  none_all : NoBody → (m i : ℕ) → i + m ≡ n → bodies_verdict m i ≡ Accepted (counts_at s e r n)
+  none_all : NoBody → (m i : ℕ) → i + m ≡ n → bodies_verdict m i ≡ Ok (counts_at s e r n)
   unfolding bodies_verdict
   none_all h zero i q = let z : i ≡ n = omega arith in rw z
   none_all h (suc m) i q = rw (h.none i (omega arith)) (none_all h m (suc i) (omega arith))
 
   -- it is accepted, with the counts of what was put, exactly where no condition of a body holds
-  pub accepted_is : 0 < n → (verdict (sheet_at s e r n) ≡ Accepted (counts_at s e r n)) ↔ NoBody
+  pub accepted_is : 0 < n → (verdict (sheet_at s e r n) ≡ Ok (counts_at s e r n)) ↔ NoBody
   accepted_is h = (
     λ v. record { none = λ i l. all_none (counts_at s e r n) n 0 (omega arith) (sym (verdict_is h) ∙ v) i (omega arith) l },
     λ x. verdict_is h ∙ none_all x n 0 (omega arith),
   )
 
 -- without a record: "24 for an empty count"
-pub empty_is : (s : List ℕ) (e : Edition) (r : ℕ → Item) (w : AllWritten s e r 0) → verdict (sheet_at s e r 0) ≡ Refused 6 24
+pub empty_is : (s : List ℕ) (e : Edition) (r : ℕ → Item) (w : AllWritten s e r 0) → verdict (sheet_at s e r 0) ≡ refused 6 24
 unfolding verdict counts_at records_verdict tail_verdict first_of pick refusal6_empty
 empty_is s e r w = rw (head_clean s e r 0 w, count_is s e r 0 w, edition_is s e r 0 w) (by e)
   where
-    by : (d : Edition) → records_verdict (sheet_at s e r 0) 0 (none (across_of d)) ≡ Refused 6 24
+    by : (d : Edition) → records_verdict (sheet_at s e r 0) 0 (none (across_of d)) ≡ refused 6 24
     by First = rw (count_is s e r 0 w)
     by Second = rw (count_is s e r 0 w)

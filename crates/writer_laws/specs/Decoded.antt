@@ -1,6 +1,7 @@
 -- A record that was put is decoded as that record. A number below its field's bound comes back, as every number of its type is; a double comes back
 -- that the format holds, as every double is, a NaN as the one NaN. In edition 1 a second coordinate is not written, and is read as 0. Assumes
 -- nothing.
+use Rattle.std.specs.Prelude.{None, Option, Some}
 use Rattle.std.specs.Prelude.{ℕ, ◌^◌, ◌<◌, ◌≡◌, List, T, Float}
 use Rattle.std.specs.Float.{binary64}
 use Rattle.std.specs.Float.Ieee.{fits, of_bits}
@@ -12,8 +13,6 @@ use Rattle.components.specs.declared.Car.{Car}
 use Rattle.components.specs.declared.Aboard.{Aboard}
 use Rattle.components.specs.declared.Waiting.{Waiting}
 use Rattle.components.specs.declared.Demand.{Demand}
-use Rattle.components.specs.declared.Threshold.{Threshold}
-use Rattle.components.specs.declared.Threshold.TheVariants as threshold
 use Rattle.layout.specs.Table.{policy_limit_field, closed_stop_field}
 use Rattle.layout.specs.Records.{from, read, policy_of, stop_of, line_of, car_of, aboard_of, waiting_of, demand_of}
 use Rattle.values.specs.Values.{phase_stop}
@@ -30,9 +29,9 @@ Double x = T (fits binary64 x)
 abbrev pub PointFits : Point → Type 0
 PointFits p = Double p.along × Double p.across
 
-abbrev pub ThresholdFits : Threshold → Type 0
-ThresholdFits threshold.Absent = Unit
-ThresholdFits (threshold.At x) = Double x
+abbrev pub ThresholdFits : Option Float → Type 0
+ThresholdFits None = Unit
+ThresholdFits (Some x) = Double x
 
 pub record PolicyFits (l : ℕ) (x : Policy) : Type 0 where
   pub limit : l < 2 ^ 16

@@ -1,5 +1,5 @@
 -- bench::list_pending meets its contract.
-use Rattle.bench.specs.declared.PendingIds.TheVariants.{Found}
+use Rattle.std.specs.Prelude.{Ok}
 use Rattle.bench.specs.Passing.{small_of}
 use Rattle.bench.specs.PendingStops.{same_pending, found, most, below, ids_are}
 use Rattle.cells.specs.Begun.{stops_seen}
@@ -39,6 +39,6 @@ returns c =
     let known = stops_seen s _ _ seen.ids.1 seen.points.1 seen.masks few refl in
     let ones = c.list_ones-listed.ensures in
     let named = c.name_stops.ensures in record {
-      done = same_pending (ap Found (found s few _ _ _ known _ ones)) (ids_are s few _ _ _ known _ ones a.stops.now named.1);
+      done = same_pending (ap Ok (found s few _ _ _ known _ ones)) (ids_are s few _ _ _ known _ ones a.stops.now named.1);
       length = named.0;
     }

@@ -31,9 +31,6 @@ offset_bounds-stops-k c = omega (arith, c.requires.1, c.loop-k-test.true)
 pub bounds-stops-k : goal.bounds-stops-k
 bounds-stops-k c = omega (arith, c.requires.1, c.requires.3, c.loop-k-test.true, c.loop-k.invariant.1)
 
-pub overflow_add-k : goal.overflow_add-k
-overflow_add-k c = omega (arith, c.requires.1, c.loop-k-test.true)
-
 pub loop-k-preserved : goal.loop-k-preserved
 unfolding listed_id
 loop-k-preserved c =

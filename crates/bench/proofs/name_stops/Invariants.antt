@@ -10,6 +10,3 @@ use Rattle.bench.proofs.name_stops.Given as goal
 abbrev pub invariant-loop-k : goal.invariant-loop-k
 invariant-loop-k l =
     (l.k ≤ l.listed.count) × (length l.stops ≡ length l.initial.stops) × (l.stops ≡ tab (listed_id l.listed l.ids) l.k ++ drop l.k l.initial.stops)
-
-abbrev pub decreases-loop-k : goal.decreases-loop-k
-decreases-loop-k l = l.listed.count - l.k

@@ -103,7 +103,7 @@ returns c =
     let ranked = kept_are s (limit_of b) small a.ids.now a.xs.now a.masks m.result n.result seen w.result w.ensures a.matrix.now _ f.result rows ∙ ranked_kept b a.c p.0 (limit_of b) in
     let held = held_is s (limit_of b) small a.ids.now a.xs.now a.masks m.result n.result seen w.result w.ensures a.matrix.now _ f.result rows in
     let total = total_is s (limit_of b) small a.ids.now a.xs.now a.masks m.result n.result seen w.result w.ensures a.matrix.now _ f.result rows _ refl d.result d.ensures.0 in record {
-      answer = answered s (limit_of b) n.result.count m.result.count d.result f.result.ranked f.result.held c.passed.ensures (car_number s (limit_of b) small a.ids.now a.xs.now a.masks m.result n.result seen w.result w.ensures) (stop_number s (limit_of b) small a.ids.now a.xs.now a.masks m.result n.result seen w.result w.ensures) total ranked held;
+      answer = answered s (limit_of b) n.result.count m.result.count d.result f.result.ranked f.result.held refl (car_number s (limit_of b) small a.ids.now a.xs.now a.masks m.result n.result seen w.result w.ensures) (stop_number s (limit_of b) small a.ids.now a.xs.now a.masks m.result n.result seen w.result w.ensures) total ranked held;
       decisions = (d.ensures.1, decisions_are s (limit_of b) small a.ids.now a.xs.now a.masks m.result n.result seen w.result w.ensures a.matrix.now _ f.result rows _ refl a.decisions.now _ d.ensures.2);
       matrix = (f.ensures.size, cells_are s (limit_of b) small a.ids.now a.xs.now a.masks m.result n.result seen w.result w.ensures a.matrix.now _ f.result rows);
     }

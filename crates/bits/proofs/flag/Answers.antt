@@ -8,7 +8,7 @@ use Rattle.bits.proofs.flag.Goals as goal
 
 pub returns : goal.returns
 returns c =
-    let p = c.place-p in
+    let p = c.place-k in
     let a = c.args in
     rw (bit_is a.s.now _, ← p.ensures.0, ← p.ensures.1, ← c.byte.ensures.0)
     (ap (λ (n : ℕ). eqb n 1) (and_mask (c.byte.result / 2 ^ (7 - p.result.bit)) 1))

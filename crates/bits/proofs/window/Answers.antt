@@ -1,4 +1,5 @@
 -- bits::window meets its contract.
+use Prim.Native.Nat.{◌+◌, ◌/◌}
 use native.Mathlib.Omega.{arith}
 use Rattle.bits.specs.Field.{field_64}
 use Rattle.bits.proofs.NineBytes.{window_is, window_ends}
@@ -7,9 +8,9 @@ use Rattle.bits.proofs.window.Goals as goal
 pub returns-then-k-s : goal.returns-then-k-s
 returns-then-k-s c =
     let a = c.args in
-    let p = c.place-p.ensures in
-    rw (c.word_inside.ensures, c.wide.ensures.0, p.0, p.1)
-    (window_is a.s.now a.at (rw (c.wide.ensures.0, p.0) at c.wide.ensures.1))
+    let p = c.place-k.ensures in
+    rw (c.word_inside.ensures, c.from.ensures, p.0, p.1)
+    (window_is a.s.now a.at (c.type_inv.s (a.at / 8 + 8)).fits)
 
 pub overflow_add-result : goal.overflow_add-result
 overflow_add-result c = record { fits = rw (returns-then-k-s c) (field_64 _ _ _ (omega arith)) }
@@ -17,5 +18,5 @@ overflow_add-result c = record { fits = rw (returns-then-k-s c) (field_64 _ _ _ 
 pub returns : goal.returns
 returns c =
     let a = c.args in
-    let p = c.place-p.ensures in
+    let p = c.place-k.ensures in
     rw (c.word_past.ensures, p.0, p.1) (window_ends a.s.now a.at (omega arith))

@@ -1,5 +1,5 @@
 -- candidates::count_before meets its contract.
-use Prim.Native.Nat.{ℕ, ◌-◌, ◌+◌}
+use Prim.Native.Nat.{ℕ, ◌+◌}
 use Rattle.candidates.specs.Cut.{comes_before}
 use Rattle.laws.specs.Bools.{bit-lt}
 use Rattle.laws.specs.Folds.{count, count_step, count-le, ended}

@@ -1,5 +1,4 @@
 -- candidates::cut_stops meets its contract.
-use Prim.Native.Nat.{◌-◌}
 use Rattle.candidates.specs.Cut.{cut}
 use Rattle.mask.specs.MaskLaws.{past_some, past_none}
 use Rattle.mask.specs.UpTo.{none_yet, one_more, up_to}

@@ -1,5 +1,5 @@
 -- candidates::fill_distances meets its contract.
-use Prim.Native.Nat.{ℕ, ◌-◌}
+use Prim.Native.Nat.{ℕ}
 use Rattle.components.specs.Points.{distance}
 use Rattle.manifest.specs.Stops.{point_in}
 use Rattle.laws.specs.Tables.{tab, tab_next, tab_full}

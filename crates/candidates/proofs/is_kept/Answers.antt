@@ -9,11 +9,11 @@ pub returns-then-not-has : goal.returns-then-not-has
 unfolding cut
 returns-then-not-has c = simp (sym c.has.ensures ∙ c.if-not-has.true)
 
-pub returns-then-limit-eq65535 : goal.returns-then-limit-eq65535
+pub returns-then-limit-eq-NO_LIMIT : goal.returns-then-limit-eq-NO_LIMIT
 unfolding cut keeps
-returns-then-limit-eq65535 c = simp (sym c.has.ensures ∙ c.if-not-has.false, eq-eqb _ _ c.if-limit-eq65535.true)
+returns-then-limit-eq-NO_LIMIT c = simp (sym c.has.ensures ∙ c.if-not-has.false, eq-eqb _ _ c.if-limit-eq-NO_LIMIT.true)
 
-pub returns : goal.returns
+pub returns-else-limit-eq-NO_LIMIT : goal.returns-else-limit-eq-NO_LIMIT
 unfolding cut keeps
-returns c =
-    simp (sym c.has.ensures ∙ c.if-not-has.false, ne_eqb _ _ c.if-limit-eq65535.false, sym c.count_before.ensures) refl
+returns-else-limit-eq-NO_LIMIT c =
+    simp (sym c.has.ensures ∙ c.if-not-has.false, ne_eqb _ _ c.if-limit-eq-NO_LIMIT.false, sym c.count_before.ensures) refl

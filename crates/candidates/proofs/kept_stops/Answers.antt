@@ -15,8 +15,8 @@ use Rattle.candidates.proofs.kept_stops.Goals as goal
 abbrev distances : List Float → Point → List Float
 distances xs x = tab (λ j. distance x (point_in xs j)) 64
 
-pub returns-then-limit-eq65535 : goal.returns-then-limit-eq65535
-returns-then-limit-eq65535 c = let s = c in let a = s.args in none_cut a.viable (distances a.xs.now a.x) a.limit c.if-limit-eq65535.true s.ranges.viable.fits
+pub returns-then-limit-eq-NO_LIMIT : goal.returns-then-limit-eq-NO_LIMIT
+returns-then-limit-eq-NO_LIMIT c = let s = c in let a = s.args in none_cut a.viable (distances a.xs.now a.x) a.limit c.if-limit-eq-NO_LIMIT.true s.ranges.viable.fits
 
 pub returns-then-size-limit : goal.returns-then-size-limit
 returns-then-size-limit c =

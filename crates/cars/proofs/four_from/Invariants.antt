@@ -11,6 +11,3 @@ use Rattle.cars.proofs.four_from.Given as goal
 abbrev pub invariant-loop-k : goal.invariant-loop-k
 invariant-loop-k l =
     (l.k ≤ l.n) × (length l.cars ≡ 4) × (l.cars ≡ tab (λ i. (sheet_of l.s l.c).car (get_or l.idle.at (l.first + i) 0)) l.k ++ drop l.k (replicate 4 blank))
-
-abbrev pub decreases-loop-k : goal.decreases-loop-k
-decreases-loop-k l = l.n - l.k

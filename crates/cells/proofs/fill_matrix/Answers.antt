@@ -38,6 +38,7 @@ fill_rows-requires c =
         fits = p.s_value.3;
         ready = ready b a.c p.s_value.0 a.ids.now a.xs.now a.masks a.stops a.idle p.survey _ _ held _ _ _ c.waiting-someone.ensures;
       };
+      known = (c.policy_at.ensures, refl, refl);
       rows = (p.survey.rows, p.s_value.4, p.s_value.5);
     }
 

@@ -14,9 +14,6 @@ loop-i-init c = let a = c.args in (omega arith, none_yet (idle (sheet_of a.s.now
 pub with_if-m-requires : goal.with_if-m-requires
 with_if-m-requires c = omega (arith, c.requires.cars, c.loop-i-test.true)
 
-pub overflow_add-i : goal.overflow_add-i
-overflow_add-i c = omega (arith, c.requires.cars, c.loop-i-test.true)
-
 pub loop-i-preserved : goal.loop-i-preserved
 unfolding sheet_of car_of idle
 loop-i-preserved c =

@@ -29,7 +29,8 @@ row_for-requires c =
     let seated = holds_aboard (sheet_of b a.c) _ _ _ _ aboard.cars.1 aboard.destinations.1 in
     let small = (accepted b a.c p.s_value.0).small in record {
       small = (small, p.s_value.2, p.s_value.3, aboard.cars.0, aboard.destinations.0, omega (arith, small.aboards, p.s_value.4), omega (arith, small.aboards, p.s_value.5));
-      policy_value = (c.policy_at-policy.ensures, held_of b a.c p.s_value.0 a.ids.now a.xs.now a.masks p.seen_stops _ _ seated);
+      counted = (refl, refl);
+      policy_value = (c.policy_at.ensures, held_of b a.c p.s_value.0 a.ids.now a.xs.now a.masks p.seen_stops _ _ seated);
     }
 
 pub returns : goal.returns

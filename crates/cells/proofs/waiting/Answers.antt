@@ -20,12 +20,12 @@ loop-w-init c =
     let a = c.args in
     (omega arith, met_start (sheet_of a.s.now a.c) a.ids.now a.xs.now a.calls a.sums.now _ c.clear_waiters.ensures)
 
-pub stop_index-j-requires : goal.stop_index-j-requires
+pub index-j-requires : goal.index-j-requires
 unfolding sheet_of
-stop_index-j-requires c =
+index-j-requires c =
     let a = c.args in
     let p = c.requires in
-    (omega (arith, p.0.stops, p.1), ascending (sheet_of a.s.now a.c) a.ids.now a.xs.now a.c.stops p.3 p.4)
+    (omega (arith, p.0.stops, p.1), ascending (sheet_of a.s.now a.c) a.ids.now a.xs.now a.c.stops p.3 p.4, omega (arith, p.0.stops, p.2))
 
 pub waiters_at-v-requires : goal.waiters_at-v-requires
 waiters_at-v-requires c = (omega (arith, c.requires.0.stops, c.if-j-n.true), c.loop-w.invariant.1.size ∙ c.clear_waiters.ensures.size ∙ c.requires.6)
@@ -35,9 +35,7 @@ unfolding sheet_of
 met-requires c =
     let a = c.args in
     let p = c.requires in (
-      omega (arith, p.0.stops, p.1),
-      ascending (sheet_of a.s.now a.c) a.ids.now a.xs.now a.c.stops p.3 p.4,
-      omega (arith, p.0.stops, p.2),
+      (omega (arith, p.0.stops, p.1), ascending (sheet_of a.s.now a.c) a.ids.now a.xs.now a.c.stops p.3 p.4, omega (arith, p.0.stops, p.2)),
       c.if-j-n.true,
     )
 
@@ -63,7 +61,7 @@ loop-w-preserved c =
     let bytes = a.s.now in
     let s = sheet_of bytes a.c in
     let first = c.waits_from-first in
-    let index = c.stop_index-j in
+    let index = c.index-j in
     let up = ascending s a.ids.now a.xs.now a.c.stops p.3 p.4 in
     let name : c.field32.result ≡ read (from bytes (first.result + record_length 0 Waiting * l.w)) waiting_stop_field = c.field32.ensures in
     let stop : c.field32.result ≡ (s.waiting l.w).stop =

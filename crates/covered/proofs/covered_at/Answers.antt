@@ -2,8 +2,8 @@
 use mathlib.Core.Path.{sym, ◌∙◌}
 use Rattle.covered.proofs.covered_at.Goals as goal
 
-pub returns-then-not-has : goal.returns-then-not-has
-returns-then-not-has c = rw (sym c.has.ensures ∙ c.if-not-has.true)
+pub returns-then-has : goal.returns-then-has
+returns-then-has c = rw (sym c.has.ensures ∙ c.if-has.true) c.is_covered.ensures
 
-pub returns : goal.returns
-returns c = rw (sym c.has.ensures ∙ c.if-not-has.false) c.is_covered.ensures
+pub returns-else-has : goal.returns-else-has
+returns-else-has c = rw (sym c.has.ensures ∙ c.if-has.false) c.if-has.false

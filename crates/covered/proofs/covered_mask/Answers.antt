@@ -15,15 +15,10 @@ offset_bounds-names-j c = omega (arith, c.loop-covered.invariant.0)
 
 pub bounds-names-j : goal.bounds-names-j
 bounds-names-j c =
-    let here = past_some c.args.asked c.loop-covered.j c.past_stops.ensures c.loop-covered-test.true in omega (arith, c.requires.nw_in_bounds.3)
+    let here = past_some c.args.asked c.loop-covered.j c.past_stops.ensures c.loop-covered-test.true in omega (arith, c.requires)
 
 pub covered_at-covered-requires : goal.covered_at-covered-requires
-covered_at-covered-requires c =
-    let p = c.requires in
-    let here = past_some c.args.asked c.loop-covered.j c.past_stops.ensures c.loop-covered-test.true in record {
-      n_in_bounds = p.n_in_bounds;
-      nw_in_bounds = (p.nw_in_bounds.0, p.nw_in_bounds.1, p.nw_in_bounds.2, here);
-    }
+covered_at-covered-requires c = past_some c.args.asked c.loop-covered.j c.past_stops.ensures c.loop-covered-test.true
 
 pub with_if-m-requires : goal.with_if-m-requires
 with_if-m-requires c = past_some c.args.asked c.loop-covered.j c.past_stops.ensures c.loop-covered-test.true

@@ -1,32 +1,18 @@
 -- covered::fill_rooms meets its contract.
-use Prim.Native.Nat.{ℕ, ◌-◌}
+use Prim.Native.Nat.{ℕ, ◌+◌, ◌*◌}
 use Rattle.components.specs.Cars.{remaining}
-use Rattle.laws.specs.Tables.{tab, tab_next}
 use Rattle.layout.specs.Records.{sheet_of, from, car_of}
-use lib.ListN.{drop, length-set}
-use mathlib.Core.List.{◌++◌}
-use mathlib.Core.Path.{◌≡◌, refl, ap, ◌∙◌}
-use native.Mathlib.Omega.{arith}
+use borrow.Author.Rules.{rules}
+use mathlib.Core.Path.{◌≡◌, ap₂, ◌∙◌}
 use Rattle.covered.proofs.fill_rooms.Goals as goal
 
-pub loop-i-init : goal.loop-i-init
-unfolding tab
-loop-i-init c = (omega arith, refl, refl)
-
-pub loop-i-preserved : goal.loop-i-preserved
-unfolding sheet_of
-loop-i-preserved c =
-    let l = c.loop-i in
-    let a = c.args in (
-      omega arith,
-      simp length-set l.invariant.1,
-      tab_next (λ j. remaining ((sheet_of a.s.now a.c).car j)) a.out.now l.out l.i c.room_at.result (omega arith) l.invariant.2
-          (c.room_at.ensures ∙ ap (λ (x : ℕ). remaining (car_of a.c.across (from a.s.now x))) c.car_start.ensures),
-    )
-
 pub returns : goal.returns
+unfolding sheet_of
 returns c =
-    let l = c.loop-i in
-    let a = c.args in
-    let e : l.i ≡ a.c.cars = omega arith in
-    (l.invariant.1, l.invariant.2 ∙ ap (λ (m : ℕ). tab (λ j. remaining ((sheet_of a.s.now a.c).car j)) m ++ drop m a.out.now) e)
+    let a = c.args in (
+      c.fill.ensures.0,
+      c.fill.ensures.1 (λ i. remaining ((sheet_of a.s.now a.c).car i))
+          (λ i x l p.
+          let e : x ≡ remaining (car_of a.c.across (from a.s.now (c.cars_from.result + c.car_bits.result * i))) = search rules in
+          e ∙ ap₂ (λ (n k : ℕ). remaining (car_of a.c.across (from a.s.now (n + k * i)))) c.cars_from.ensures c.car_bits.ensures),
+    )

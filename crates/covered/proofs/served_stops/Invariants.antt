@@ -8,6 +8,3 @@ use Rattle.covered.proofs.served_stops.Given as goal
 
 abbrev pub invariant-loop-i : goal.invariant-loop-i
 invariant-loop-i l = (l.i ≤ l.c.cars) × (l.m ≡ named_by (serves (sheet_of l.s l.c)) l.c.stops l.i)
-
-abbrev pub decreases-loop-i : goal.decreases-loop-i
-decreases-loop-i l = l.c.cars - l.i

@@ -9,18 +9,14 @@ write-requires c =
     let a = c.args in
     let p = c.requires in (
       p,
-      c.assign-answer.auto.places,
       placed_below a.cells.now a.n a.columns a.stops a.ids.now (length a.decisions.now) p (replicate 32 0) c.assign-answer.new.places (omega (arith, p.few)) c.assign-answer.ensures.1,
     )
-
-pub shape_of-decisions : goal.shape_of-decisions
-shape_of-decisions c = c.write.ensures.0
 
 pub returns : goal.returns
 returns c =
     let a = c.args in
     let p = c.requires in (
-      least_told a.cells.now a.n a.columns a.stops a.ids.now (length a.decisions.now) p 32 (omega (arith, p.few)) c.assign-answer.ensures.0 c.total.ensures,
+      least_told a.cells.now a.n a.columns a.stops a.ids.now (length a.decisions.now) p 32 (omega (arith, p.few)) c.assign-answer.ensures.0 c.unwrap_or.ensures,
       c.write.ensures.0,
       all_told a.cells.now a.n a.columns a.stops a.ids.now (length a.decisions.now) p (replicate 32 0) c.assign-answer.new.places (omega (arith, p.few)) c.assign-answer.ensures.1 (drop a.n a.decisions.now) c.write.ensures.1,
     )

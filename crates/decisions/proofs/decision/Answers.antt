@@ -14,12 +14,6 @@ pub returns-then-cell-ge-SENTINEL : goal.returns-then-cell-ge-SENTINEL
 unfolding told
 returns-then-cell-ge-SENTINEL c = let a = c.args in rw (lt-ltb a.place a.stops.count (omega (arith, c.if-stops-place.false)), le-ltb a.cell sentinel (omega (arith, c.if-cell-ge-SENTINEL.true)))
 
-pub offset_bounds-ids-j : goal.offset_bounds-ids-j
-offset_bounds-ids-j c = omega (arith, c.requires.2 c.args.place c.if-stops-place.false)
-
-pub bounds-ids-j : goal.bounds-ids-j
-bounds-ids-j c = let p = c.requires in omega (arith, p.0, p.2 c.args.place c.if-stops-place.false)
-
 pub returns : goal.returns
 unfolding told
 returns c = let a = c.args in rw (lt-ltb a.place a.stops.count (omega (arith, c.if-stops-place.false)), lt-ltb a.cell sentinel (omega (arith, c.if-cell-ge-SENTINEL.false))) refl

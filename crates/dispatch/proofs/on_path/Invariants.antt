@@ -7,6 +7,3 @@ use Rattle.dispatch.proofs.on_path.Given as goal
 
 abbrev pub invariant-loop-k : goal.invariant-loop-k
 invariant-loop-k l = (l.k ≤ l.n) × (false ≡ on_path_in l.x l.p l.dests l.k)
-
-abbrev pub decreases-loop-k : goal.decreases-loop-k
-decreases-loop-k l = l.n - l.k

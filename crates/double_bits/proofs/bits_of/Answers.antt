@@ -1,15 +1,10 @@
 -- double_bits::bits_of meets its contract.
-use Rattle.fp.specs.Fields.{not_nan}
-use Rattle.fp.specs.Fields.{not_nan}
-use denote.Floats.{passes}
-use lib.Ieee.{binary64, to_bits}
-use lib.Ieee.Compare.{differs_from_itself}
-use mathlib.Core.Path.{sym, ap}
+use Rattle.std.specs.Float.{binary64}
+use Rattle.std.specs.Float.Ieee.{to_bits}
+use Rattle.std.proofs.Common.{sym, ap}
+use Rattle.fp.specs.Fields.{nan_only}
 use Rattle.double_bits.proofs.bits_of.Goals as goal
 
-pub returns-then-x : goal.returns-then-x
+pub returns-then-is_nan : goal.returns-then-is_nan
 unfolding to_bits
-returns-then-x c = sym (ap (to_bits binary64) (differs_from_itself c.args.x (passes _ c.if-x.true)))
-
-pub float_to_bits-result : goal.float_to_bits-result
-float_to_bits-result c = not_nan c.args.x c.if-x.false
+returns-then-is_nan c = sym (ap (to_bits binary64) (nan_only c.args.x (sym c.if-is_nan.ensures.value)))

@@ -1,6 +1,6 @@
 -- encoder::put_demand meets its contract.
 use Rattle.encoder.specs.Encoded.{fields_put, record_at}
-use Rattle.values.specs.Values.{demand_values}
+use Rattle.values.specs.Values.{demand_values, bit_is}
 use Rattle.encoder.proofs.put_demand.Goals as goal
 
 pub returns : goal.returns
@@ -8,7 +8,8 @@ unfolding fields_put record_at demand_values
 returns c =
     rw (
       c.put-3.ensures,
-      c.bit_of.ensures,
+      c.from.ensures,
+      bit_is,
       c.put-2.ensures,
       c.put.ensures,
       c.put_front.ensures,

@@ -10,7 +10,7 @@ returns c =
       c.put-4.ensures,
       c.phase_stop.ensures,
       c.put-3.ensures,
-      c.phase_code.ensures,
+      c.from.ensures,
       c.put-2.ensures,
       c.put.ensures,
     )

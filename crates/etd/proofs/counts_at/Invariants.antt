@@ -7,6 +7,3 @@ use Rattle.etd.proofs.counts_at.Given as goal
 abbrev pub invariant-loop-k : goal.invariant-loop-k
 invariant-loop-k l =
     (l.k ≤ l.n) × (l.short ≤ l.k) × (l.reached ≤ l.k) × (l.short ≡ short_of l.places l.k l.x) × (l.reached ≡ up_to l.places l.k l.x)
-
-abbrev pub decreases-loop-k : goal.decreases-loop-k
-decreases-loop-k l = l.n - l.k

@@ -15,6 +15,3 @@ place demand xs k = place_of (has demand k) (get_or xs k nan)
 
 abbrev pub invariant-loop-k : goal.invariant-loop-k
 invariant-loop-k l = (l.k ≤ l.n) × (length l.places ≡ 64) × (l.places ≡ tab (place l.demand l.xs) l.k ++ drop l.k (replicate 64 infinity))
-
-abbrev pub decreases-loop-k : goal.decreases-loop-k
-decreases-loop-k l = l.n - l.k

@@ -12,7 +12,7 @@ loop-k-init c = (omega arith, refl)
 
 pub loop-k-preserved : goal.loop-k-preserved
 unfolding delay_in
-loop-k-preserved c = (omega arith, fold_step _ _ _ c.loop-k.invariant.1 (ap (add binary64 _) c.extra_delay-delay.ensures))
+loop-k-preserved c = (omega arith, fold_step _ _ _ c.loop-k.invariant.1 (ap (add binary64 _) (rw c.point.ensures at c.extra_delay-delay.ensures)))
 
 pub returns : goal.returns
 returns c = ended (delay_in _ _ _ _ _) c.loop-k.invariant.0 c.loop-k-test.false c.loop-k.invariant.1

@@ -5,7 +5,4 @@ use mathlib.Core.Path.{◌≡◌}
 use Rattle.etd.proofs.existing_rider_delay.Given as goal
 
 abbrev pub invariant-loop-k : goal.invariant-loop-k
-invariant-loop-k l = (l.k ≤ l.n) × (l.delay ≡ delay_in l.x l.p l.speed l.dests l.sides l.k)
-
-abbrev pub decreases-loop-k : goal.decreases-loop-k
-decreases-loop-k l = l.n - l.k
+invariant-loop-k l = (l.k ≤ l.n) × (l.delay ≡ delay_in l.x l.p l.speed l.dests.along.now l.dests.across.now l.k)

@@ -20,9 +20,9 @@ loop-j-preserved c =
     let l = c.loop-j in (
       omega arith,
       simp length-set l.invariant.1,
-      tab_next (halts_at a.x a.demand a.xs.now a.n) a.out.now l.out l.j c.halts_between.result (omega arith) l.invariant.2
+      tab_next (halts_at a.x a.demand a.stops.now.points.now a.stops.now.count) a.out.now l.out l.j c.halts_between.result (omega arith) l.invariant.2
           (c.halts_between.ensures
-          ∙ halts_at_lem a.demand a.xs.now a.n s.requires.0 a.x a.table.now s.requires.3
+          ∙ halts_at_lem a.demand a.stops.now.points.now a.stops.now.count s.requires.0 a.x a.table.now s.requires.3
           c.demand_places-places.ensures c.counts_at-car.ensures
           l.j (omega arith)),
     )
@@ -30,5 +30,5 @@ loop-j-preserved c =
 pub returns : goal.returns
 returns c =
     let a = c.args in
-    ended (λ j. tab (halts_at a.x a.demand a.xs.now a.n) j ++ drop j a.out.now) c.loop-j.invariant.0 c.loop-j-test.false
+    ended (λ j. tab (halts_at a.x a.demand a.stops.now.points.now a.stops.now.count) j ++ drop j a.out.now) c.loop-j.invariant.0 c.loop-j-test.false
     c.loop-j.invariant.2

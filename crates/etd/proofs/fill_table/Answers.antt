@@ -21,13 +21,13 @@ loop-j-preserved c =
     let l = c.loop-j in (
       omega arith,
       simp length-set l.invariant.1,
-      tab_next (stop_counts a.demand a.xs.now a.n) a.out.now l.out l.j c.counts_at.result (omega arith) l.invariant.2
+      tab_next (stop_counts a.demand a.stops.now.points.now a.stops.now.count) a.out.now l.out l.j c.counts_at.result (omega arith) l.invariant.2
           (c.counts_at.ensures
-          ∙ ap (λ (ps : List Float). counts_at ps a.n (get_or a.xs.now l.j nan)) c.demand_places-places.ensures),
+          ∙ ap (λ (ps : List Float). counts_at ps a.stops.now.count (get_or a.stops.now.points.now l.j nan)) c.demand_places-places.ensures),
     )
 
 pub returns : goal.returns
 returns c =
     let a = c.args in
-    ended (λ j. tab (stop_counts a.demand a.xs.now a.n) j ++ drop j a.out.now) c.loop-j.invariant.0 c.loop-j-test.false
+    ended (λ j. tab (stop_counts a.demand a.stops.now.points.now a.stops.now.count) j ++ drop j a.out.now) c.loop-j.invariant.0 c.loop-j-test.false
     c.loop-j.invariant.2

@@ -8,7 +8,4 @@ use Rattle.etd.specs.Halts.{stop_counts}
 use Rattle.etd.proofs.fill_table.Given as goal
 
 abbrev pub invariant-loop-j : goal.invariant-loop-j
-invariant-loop-j l = (l.j ≤ l.n) × (length l.out ≡ length l.initial.out) × (l.out ≡ tab (stop_counts l.demand l.xs l.n) l.j ++ drop l.j l.initial.out)
-
-abbrev pub decreases-loop-j : goal.decreases-loop-j
-decreases-loop-j l = l.n - l.j
+invariant-loop-j l = (l.j ≤ l.stops.count) × (length l.out ≡ length l.initial.out) × (l.out ≡ tab (stop_counts l.demand l.stops.points.now l.stops.count) l.j ++ drop l.j l.initial.out)

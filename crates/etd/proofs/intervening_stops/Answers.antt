@@ -16,11 +16,11 @@ pub loop-k-init : goal.loop-k-init
 unfolding intervening_in count
 loop-k-init c = (omega arith, omega arith, refl)
 
-pub overflow_add-stops : goal.overflow_add-stops
-overflow_add-stops c =
+pub overflow_add-between : goal.overflow_add-between
+overflow_add-between c =
     let a = c.args in
     let l = c.loop-k in
-    omega (arith, bit-lt (c.has.result && intervenes a.x a.p (get_or a.xs.now l.k nan)), c.is_between-stops.ensures)
+    omega (arith, bit-lt (c.has.result && intervenes a.x a.p (get_or a.stops.now.points.now l.k nan)), c.is_between-between.ensures)
 
 pub loop-k-preserved : goal.loop-k-preserved
 unfolding intervening_in
@@ -29,10 +29,10 @@ loop-k-preserved c =
     let l = c.loop-k in
     let h = c.has.ensures in (
       omega arith,
-      omega (arith, bit-lt (c.has.result && intervenes a.x a.p (get_or a.xs.now l.k nan)), c.is_between-stops.ensures),
-      ap (λ (z : ℕ). l.stops + z) c.is_between-stops.ensures
-          ∙ count_step (λ k. has a.demand k && intervenes a.x a.p (get_or a.xs.now k nan)) l.k l.invariant.2
-          (ap (λ (b : Bool). b && intervenes a.x a.p (get_or a.xs.now l.k nan)) h),
+      omega (arith, bit-lt (c.has.result && intervenes a.x a.p (get_or a.stops.now.points.now l.k nan)), c.is_between-between.ensures),
+      ap (λ (z : ℕ). l.between + z) c.is_between-between.ensures
+          ∙ count_step (λ k. has a.demand k && intervenes a.x a.p (get_or a.stops.now.points.now k nan)) l.k l.invariant.2
+          (ap (λ (b : Bool). b && intervenes a.x a.p (get_or a.stops.now.points.now l.k nan)) h),
     )
 
 pub returns : goal.returns

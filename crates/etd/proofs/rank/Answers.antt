@@ -1,11 +1,9 @@
 -- etd::rank meets its contract.
+use Rattle.std.specs.Prelude.{None, Option}
 use Prim.Native.Nat.{ℕ}
 use Rattle.components.specs.declared.Car.{Car}
-use Rattle.components.specs.declared.Place.{Place}
 use Rattle.components.specs.declared.Point.{Point}
 use Rattle.components.specs.declared.Policy.{Policy}
-use Rattle.components.specs.declared.Rank.{Rank}
-use Rattle.components.specs.declared.Rank.TheVariants.{Never}
 use Rattle.dispatch.specs.Pairs.{useful_by}
 use Rattle.dispatch.specs.FiniteRank.{finite_rank}
 use Rattle.etd.specs.Pairs.{fair_cost_by, rank_by, cost_by_lem}
@@ -19,11 +17,12 @@ use mathlib.Core.Bool.{Bool, true, false}
 use mathlib.Core.List.{List}
 use mathlib.Core.Path.{◌≡◌}
 use Rattle.etd.proofs.rank.Goals as goal
+use Rattle.etd.proofs.rank.Goals.{else-pair_is_useful-via-then-pair_is_useful+else-row, else-pair_is_useful-via-else-pair_is_useful}
 
 -- etd::rank meets its contract.
-module _ (y : Policy) (car : Car) (goal : Place) (r : Riders) (dests sides : List Float) (w : Waiters) (halts : ℕ) (xs : List Float) (j : ℕ)
+module _ (y : Policy) (car : Car) (goal : Option Point) (r : Riders) (dests sides : List Float) (w : Waiters) (halts : ℕ) (xs : List Float) (j : ℕ)
   where
-    moves : {p : Point} {here useful : Bool} {cost : Float} {rank : Rank} →
+    moves : {p : Point} {here useful : Bool} {cost : Float} {rank : Option Float} →
         p ≡ point_in xs j →
         here ≡ has r.exits j →
         useful ≡ useful_by car goal r dests w here p.along false →
@@ -41,7 +40,7 @@ module _ (y : Policy) (car : Car) (goal : Place) (r : Riders) (dests sides : Lis
         useful ≡ useful_by car goal r dests w here p.along false →
         useful ≡ true →
         lt zero car.speed ≡ false →
-        Never ≡ rank_by y car goal r dests sides w halts xs j
+        None ≡ rank_by y car goal r dests sides w halts xs j
     unfolding rank_by
     stands p-is here-is useful_is useful slow = rw (← p-is, ← here-is, ← useful_is, useful, slow)
 
@@ -50,29 +49,28 @@ module _ (y : Policy) (car : Car) (goal : Place) (r : Riders) (dests sides : Lis
         here ≡ has r.exits j →
         useful ≡ useful_by car goal r dests w here p.along false →
         useful ≡ false →
-        Never ≡ rank_by y car goal r dests sides w halts xs j
+        None ≡ rank_by y car goal r dests sides w halts xs j
     unfolding rank_by
     useless p-is here-is useful_is not-useful = rw (← p-is, ← here-is, ← useful_is, not-useful)
 
-pub returns-then-car : goal.returns-then-car
-returns-then-car c =
-    let asked = c in
-    let a = asked.args in
-    moves a.policy a.car a.goal a.riders a.dests.now a.sides.now a.waiters a.halts a.xs.now a.j
-    asked.point-p.ensures asked.has-here.ensures asked.pair_is_useful.ensures
-    c.if-pair_is_useful.true c.if-car.true (cost_by_lem a.policy a.car a.goal a.riders.count a.dests.now a.sides.now a.waiters a.halts _ c.cost_terms-t.ensures) c.finite_rank.ensures
-
-pub returns-else-car : goal.returns-else-car
-returns-else-car c =
-    let asked = c in
-    let a = asked.args in
-    stands a.policy a.car a.goal a.riders a.dests.now a.sides.now a.waiters a.halts a.xs.now a.j
-    asked.point-p.ensures asked.has-here.ensures asked.pair_is_useful.ensures c.if-pair_is_useful.true
-    c.if-car.false
+pub returns-then-row : goal.returns-then-row
+returns-then-row c =
+    let a = c.args in
+    let row = a.row.now in
+    moves row.policy row.car row.goal row.riders a.dests.now.along.now a.dests.now.across.now a.waiters a.halts a.stops.now.points.now a.j
+    c.point-p.ensures c.has-here.ensures c.pair_is_useful.ensures c.if-pair_is_useful.true c.if-row.true
+    (cost_by_lem row.policy row.car row.goal row.riders.count a.dests.now.along.now a.dests.now.across.now a.waiters a.halts _ c.cost_terms.ensures)
+    c.finite_rank.ensures
 
 pub returns-else-pair_is_useful : goal.returns-else-pair_is_useful
 returns-else-pair_is_useful c =
-    let asked = c in
-    let a = asked.args in
-    useless a.policy a.car a.goal a.riders a.dests.now a.sides.now a.waiters a.halts a.xs.now a.j
-    asked.point-p.ensures asked.has-here.ensures asked.pair_is_useful.ensures c.if-pair_is_useful.false
+    let a = c.args in
+    let row = a.row.now in
+    elim c.else-pair_is_useful.branch [
+      | else-pair_is_useful-via-then-pair_is_useful+else-row w ↦
+          stands row.policy row.car row.goal row.riders a.dests.now.along.now a.dests.now.across.now a.waiters a.halts a.stops.now.points.now a.j
+          c.point-p.ensures c.has-here.ensures c.pair_is_useful.ensures w.if-pair_is_useful.true w.if-row.false
+      | else-pair_is_useful-via-else-pair_is_useful w ↦
+          useless row.policy row.car row.goal row.riders a.dests.now.along.now a.dests.now.across.now a.waiters a.halts a.stops.now.points.now a.j
+          c.point-p.ensures c.has-here.ensures c.pair_is_useful.ensures w.if-pair_is_useful.false
+    ]

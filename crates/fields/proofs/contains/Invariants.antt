@@ -1,11 +1,8 @@
 -- fields::contains meets its contract.
-use Prim.Native.Nat.{◌≤◌, ◌-◌}
+use Prim.Native.Nat.{◌≤◌}
 use Rattle.fields.specs.Named.{contains}
 use mathlib.Core.Path.{◌≡◌}
 use Rattle.fields.proofs.contains.Given as goal
 
-abbrev pub invariant-loop-i : goal.invariant-loop-i
-invariant-loop-i l = (l.i ≤ l.n) × (l.found ≡ contains l.ids l.i l.id)
-
-abbrev pub decreases-loop-i : goal.decreases-loop-i
-decreases-loop-i l = l.n - l.i
+abbrev pub invariant-loop-x : goal.invariant-loop-x
+invariant-loop-x l = (l.x-index ≤ l.n) × (l.found ≡ contains l.ids l.x-index l.id)

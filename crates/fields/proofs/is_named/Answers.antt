@@ -3,10 +3,10 @@ use Rattle.fields.specs.Named.{named}
 use borrow.Author.Tests.{lt-ltb, le-ltb}
 use Rattle.fields.proofs.is_named.Goals as goal
 
-pub returns-then-n-j : goal.returns-then-n-j
+pub returns-then-j-n : goal.returns-then-j-n
 unfolding named
-returns-then-n-j c = rw (le-ltb _ _ c.if-n-j.true)
+returns-then-j-n c = rw (lt-ltb _ _ c.if-j-n.true) c.contains.ensures
 
-pub returns : goal.returns
+pub returns-else-j-n : goal.returns-else-j-n
 unfolding named
-returns c = rw (lt-ltb _ _ c.if-n-j.false) c.contains.ensures
+returns-else-j-n c = rw (le-ltb _ _ c.if-j-n.false)

@@ -1,5 +1,4 @@
 -- fields::named_stops meets its contract.
-use Prim.Native.Nat.{◌-◌}
 use Rattle.laws.specs.Folds.{ended}
 use Rattle.mask.specs.Mask.{built}
 use Rattle.mask.specs.MaskLaws.{built_room, built_next}

@@ -1,5 +1,5 @@
 -- fields::named_stops meets its contract.
-use Prim.Native.Nat.{◌≤◌, ◌-◌}
+use Prim.Native.Nat.{◌≤◌}
 use Rattle.fields.specs.Named.{named}
 use Rattle.mask.specs.Mask.{built}
 use mathlib.Core.Path.{◌≡◌}
@@ -7,6 +7,3 @@ use Rattle.fields.proofs.named_stops.Given as goal
 
 abbrev pub invariant-loop-j : goal.invariant-loop-j
 invariant-loop-j l = (l.j ≤ 64) × (l.m ≡ built (named l.ids l.k l.names l.n) l.j)
-
-abbrev pub decreases-loop-j : goal.decreases-loop-j
-decreases-loop-j l = 64 - l.j

@@ -1,14 +1,10 @@
 -- fp::double meets its contract.
-use Rattle.std.proofs.Common.{◌%◌, ◌<◌, ◌≤◌, ◌∙◌, arith, rules, le-ltb, lt-ltb}
+use Rattle.std.proofs.Common.{◌%◌, ◌<◌, ◌≤◌, ◌∙◌, arith, le-ltb, lt-ltb}
 use lib.Bits.{and_mask}
-use lib.Ieee.{binary64}
+use lib.Ieee.{binary64, of_bits}
 use lib.Ieee.Bits.{nan_bits_above}
-use Rattle.fp.proofs.Signs.{infinity_fits, nan_made}
+use Rattle.fp.proofs.Signs.{nan_made}
 use Rattle.fp.proofs.double.Goals as goal
-
--- the pattern of infinity is no NaN's
-pub float_from_bits-infinity : goal.float_from_bits-infinity
-float_from_bits-infinity c = infinity_fits
 
 -- at most infinity's pattern, the sign aside
 pub float_from_bits-result : goal.float_from_bits-result
@@ -18,9 +14,7 @@ float_from_bits-result c =
 
 -- above it
 pub returns-then-b-gt9218868437227405312 : goal.returns-then-b-gt9218868437227405312
+unfolding of_bits
 returns-then-b-gt9218868437227405312 c =
     let above : 0x7ff0_0000_0000_0000 < c.args.b % 0x8000_0000_0000_0000 = omega (arith, and_mask c.args.b 63) in
     nan_made c.args.b (nan_bits_above binary64 c.args.b ∙ lt-ltb _ _ above)
-
-pub returns-else-b-gt9218868437227405312 : goal.returns-else-b-gt9218868437227405312
-returns-else-b-gt9218868437227405312 c = search rules

@@ -18,9 +18,9 @@ loop-i-preserved c =
     let l = c.loop-i in
     let iv = l.invariant in (
       omega arith,
-      omega (arith, iv.1, c.cell-total.ensures, sum_next l.i (λ k. cell_at g.cells.now g.cols k (at g.col_of.now k))),
-      omega (arith, iv.2, c.cell-total.ensures, m.0.small (l.i * g.cols + at g.col_of.now l.i)),
-      tab_next (at g.col_of.now) g.places.now l.places l.i (at g.col_of.now l.i) (omega (arith, c.loop-i-test.true, m.2)) iv.3 refl,
+      omega (arith, iv.1, c.at-total.ensures, sum_next l.i (λ k. cell_at g.m.cells.now g.m.columns k (at g.col_of.now k))),
+      omega (arith, iv.2, c.at-total.ensures, m.0.small (l.i * g.m.columns + at g.col_of.now l.i)),
+      tab_next (at g.col_of.now) g.places.now l.places l.i (at g.col_of.now l.i) (omega (arith, c.loop-i-test.true, m.1)) iv.3 refl,
     )
 
 pub returns-clause-total : goal.returns-clause-total
@@ -28,4 +28,4 @@ unfolding total
 returns-clause-total c =
     let g = c.args in
     let iv = c.loop-i.invariant in
-    ended (λ (x : ℕ). sum x (λ k. cell_at g.cells.now g.cols k (at g.col_of.now k))) iv.0 c.loop-i-test.false iv.1
+    ended (λ (x : ℕ). sum x (λ k. cell_at g.m.cells.now g.m.columns k (at g.col_of.now k))) iv.0 c.loop-i-test.false iv.1

@@ -1,5 +1,5 @@
 -- hungarian::write meets its contract.
-use Prim.Native.Nat.{◌-◌, ◌*◌, ◌≤◌}
+use Prim.Native.Nat.{◌*◌, ◌≤◌}
 use mathlib.Core.Path.{◌≡◌}
 use mathlib.Core.List.{◌++◌}
 use lib.ListN.{drop}
@@ -11,8 +11,5 @@ use Rattle.hungarian.proofs.write.Given as goal
 
 abbrev pub invariant-loop-i : goal.invariant-loop-i
 invariant-loop-i l =
-    (l.i ≤ l.n) × (l.total ≡ sum l.i (λ k. cell_at l.cells l.cols k (at l.col_of k))) × (l.total ≤ l.i * big)
+    (l.i ≤ l.m.rows) × (l.total ≡ sum l.i (λ k. cell_at l.m.cells.now l.m.columns k (at l.col_of k))) × (l.total ≤ l.i * big)
     × (l.places ≡ tab (at l.col_of) l.i ++ drop l.i l.initial.places)
-
-abbrev pub decreases-loop-i : goal.decreases-loop-i
-decreases-loop-i l = l.n - l.i

@@ -10,7 +10,7 @@ use lib.ListN.{get_or}
 use lib.Pow.{pow-add, pow_mono}
 use Rattle.lists.specs.Lists.{number}
 use Rattle.lists.proofs.number.Goals as goal
-use Rattle.lists.proofs.number.Goals.{After-wide}
+use Rattle.lists.proofs.number.Goals.{After-from}
 
 -- there is room for a byte more
 room : (r i : ℕ) → i < 8 → r < 2 ^ (8 * i) → r < 2 ^ 56
@@ -26,10 +26,8 @@ unfolding number
 next s at i = rw add-one
 
 -- the byte that is read
-byte_lt : (c : After-wide) → c.wide.result < 256
-byte_lt c =
-    let a = c.args in
-    rw c.wide.ensures (c.type_inv.s (a.at + c.loop-i.i)).fits
+byte_lt : (c : After-from) → c.from.result < 256
+byte_lt c = let a = c.args in rw c.from.ensures (c.type_inv.s (a.at + c.loop-i.i)).fits
 
 pub loop-i-init : goal.loop-i-init
 unfolding number
@@ -39,17 +37,11 @@ pub overflow_mul-r : goal.overflow_mul-r
 overflow_mul-r c = let l = c.loop-i in omega (arith, room l.r l.i (omega arith) l.invariant.2)
 
 pub overflow_add-r : goal.overflow_add-r
-overflow_add-r c = let l = c.loop-i in omega (arith, room l.r l.i (omega arith) l.invariant.2, byte_lt (goal.at.overflow_add-r c).After-wide)
+overflow_add-r c = let l = c.loop-i in omega (arith, room l.r l.i (omega arith) l.invariant.2, byte_lt (goal.at.overflow_add-r c).After-from)
 
 pub loop-i-preserved : goal.loop-i-preserved
 loop-i-preserved c =
     let l = c.loop-i in
     let a = c.args in
-    (search rules, rw (next a.s.now a.at l.i, c.wide.ensures, l.invariant.1), grows l.r l.i _ l.invariant.2 (byte_lt (goal.at.loop-i-preserved c).After-wide))
-
-pub returns : goal.returns
-returns c =
-    let l = c.loop-i in
-    let a = c.args in
-    let e : l.i ≡ a.n = omega arith in
-    rw (← e) (l.invariant.1, l.invariant.2)
+    let b = byte_lt (goal.at.loop-i-preserved c).After-from in
+    (search rules, rw (next a.s.now a.at l.i, c.from.ensures, l.invariant.1), grows l.r l.i _ l.invariant.2 b)

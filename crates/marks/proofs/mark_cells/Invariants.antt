@@ -1,5 +1,5 @@
 -- marks::mark_cells meets its contract.
-use Prim.Native.Nat.{◌≤◌, ◌-◌}
+use Prim.Native.Nat.{◌≤◌}
 use Rattle.laws.specs.Tables.{tab}
 use Rattle.marks.specs.Marks.{mark_at}
 use lib.ListN.{length, drop}
@@ -9,6 +9,3 @@ use Rattle.marks.proofs.mark_cells.Given as goal
 
 abbrev pub invariant-loop-k : goal.invariant-loop-k
 invariant-loop-k l = (l.k ≤ length l.cells) × (length l.marks ≡ length l.initial.marks) × (l.marks ≡ tab (mark_at l.cells) l.k ++ drop l.k l.initial.marks)
-
-abbrev pub decreases-loop-k : goal.decreases-loop-k
-decreases-loop-k l = length l.cells - l.k

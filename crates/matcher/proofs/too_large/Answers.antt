@@ -23,16 +23,14 @@ next p k over x some none e =
     (λ f. any_no p k f (ap (λ y. not (eqb (bit_or over y) 0)) (none f) ∙ ap (λ y. not (eqb y 0)) (or_zero_r over) ∙ e))
     (which (p k))
 
-pub loop-k-init : goal.loop-k-init
+pub loop-cell-init : goal.loop-cell-init
 unfolding any
-loop-k-init c = (omega arith, refl)
+loop-cell-init c = refl
 
-pub loop-k-preserved : goal.loop-k-preserved
-loop-k-preserved c =
-    let l = c.loop-k in
+pub loop-cell-preserved : goal.loop-cell-preserved
+loop-cell-preserved c =
+    let l = c.loop-cell in
     let cells = c.args.cells.now in
-    let x = get_or cells l.k 0 in (
-      omega (arith, c.loop-k-test.true),
-      next (too_large cells) l.k l.over c.excess-over.result (λ t. c.excess-over.ensures.above (ltb-true sentinel x t))
-          (λ f. c.excess-over.ensures.at_most (ltb-false sentinel x f)) l.invariant.1,
-    )
+    let x = get_or cells l.cell-index 0 in
+    next (too_large cells) l.cell-index l.over c.excess-over.result (λ t. c.excess-over.ensures.above (ltb-true sentinel x t))
+    (λ f. c.excess-over.ensures.at_most (ltb-false sentinel x f)) l.invariant

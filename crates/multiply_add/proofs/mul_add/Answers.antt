@@ -1,16 +1,8 @@
 -- multiply_add::mul_add meets its contract.
-use Rattle.std.proofs.Common.{sym, ◌∙◌, rules}
+use Rattle.std.proofs.Common.{sym, ◌∙◌}
 use Rattle.multiply_add.proofs.SumLaws.{first_not_finite, second_not_finite, third_not_finite}
 use Rattle.multiply_add.proofs.mul_add.Goals as goal
-
-pub finite-requires : goal.finite-requires
-finite-requires c = search rules
-
-pub finite-requires-then-finite : goal.finite-requires-then-finite
-finite-requires-then-finite c = search rules
-
-pub finite-requires-then-finite-2 : goal.finite-requires-then-finite-2
-finite-requires-then-finite-2 c = search rules
+use Rattle.multiply_add.proofs.mul_add.Goals.{else-finite-via-then-finite+else-finite-2, else-finite-via-else-finite}
 
 pub fused-requires : goal.fused-requires
 fused-requires c = (
@@ -28,10 +20,12 @@ returns-else-finite-3 c =
     (sym c.finite.ensures ∙ c.if-finite.true)
     (sym c.finite-then-finite.ensures ∙ c.if-finite-2.true) (sym c.finite-then-finite-2.ensures ∙ c.if-finite-3.false)
 
-pub returns-else-finite-2 : goal.returns-else-finite-2
-returns-else-finite-2 c =
-    let a = c.args in second_not_finite a.a a.b a.c
-    (sym c.finite.ensures ∙ c.if-finite.true) (sym c.finite-then-finite.ensures ∙ c.if-finite-2.false)
-
 pub returns-else-finite : goal.returns-else-finite
-returns-else-finite c = let a = c.args in first_not_finite a.a a.b a.c (sym c.finite.ensures ∙ c.if-finite.false)
+returns-else-finite c =
+    let a = c.args in
+    let f = sym c.finite.ensures in
+    elim c.else-finite.branch [
+      | else-finite-via-then-finite+else-finite-2 w ↦
+          second_not_finite a.a a.b a.c (f ∙ w.if-finite.true) (sym w.finite-then-finite.ensures ∙ w.if-finite-2.false)
+      | else-finite-via-else-finite w ↦ first_not_finite a.a a.b a.c (f ∙ w.if-finite.false)
+    ]

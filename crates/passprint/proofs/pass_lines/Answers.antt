@@ -13,15 +13,12 @@ sent_lines-requires c =
     let b = a.s.now in
     let x = lent b (replicate 32 0) (replicate 2048 0) (replicate 32 0) in
     let q = c.pass.ensures in
-    let e = outcome_is b a.c p.0 _ _ _ refl refl refl in
-    let few = (accepted b a.c p.0).small.cars in
-    (p.0, answered a.c x q e c.in-Passed.is, decided_left a.c x q e refl few, swept_left a.c x q e refl few, p.1)
+    let e = outcome_is b a.c p _ _ _ refl refl refl in
+    let few = (accepted b a.c p).small.cars in
+    (p, answered a.c x q e c.in-Ok.is, decided_left a.c x q e refl few, swept_left a.c x q e refl few)
 
-pub returns-in-Refused : goal.returns-in-Refused
-returns-in-Refused c =
+pub returns-in-Err : goal.returns-in-Err
+returns-in-Err c =
     let a = c.args in
-    let e = outcome_is a.s.now a.c c.requires.0 _ _ _ refl refl refl in
-    absurd (not_refused a.c (lent a.s.now (replicate 32 0) (replicate 2048 0) (replicate 32 0)) c.pass.ensures e c.in-Refused.is)
-
-pub returns-in-Passed : goal.returns-in-Passed
-returns-in-Passed c = c.sent_lines.ensures
+    let e = outcome_is a.s.now a.c c.requires _ _ _ refl refl refl in
+    absurd (not_refused a.c (lent a.s.now (replicate 32 0) (replicate 2048 0) (replicate 32 0)) c.pass.ensures e c.in-Err.is)

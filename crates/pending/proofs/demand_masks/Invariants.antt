@@ -21,6 +21,3 @@ abbrev pub invariant-loop-d : goal.invariant-loop-d
 invariant-loop-d l =
     (l.d ≤ l.c.demands)
     × ((l.m.calls ≡ stop_mask (sheet_of l.s l.c) (λ j. any (calls (sheet_of l.s l.c) j) l.d)) × (l.m.ridden ≡ stop_mask (sheet_of l.s l.c) (λ j. any (rides (sheet_of l.s l.c) j) l.d)))
-
-abbrev pub decreases-loop-d : goal.decreases-loop-d
-decreases-loop-d l = l.c.demands - l.d

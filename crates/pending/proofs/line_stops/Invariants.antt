@@ -8,6 +8,3 @@ use Rattle.pending.proofs.line_stops.Given as goal
 
 abbrev pub invariant-loop-l : goal.invariant-loop-l
 invariant-loop-l l = (l.l ≤ l.c.lines) × (l.m ≡ built (line_stop (sheet_of l.s l.c) l.every l.id l.l) 64)
-
-abbrev pub decreases-loop-l : goal.decreases-loop-l
-decreases-loop-l l = l.c.lines - l.l

@@ -17,6 +17,3 @@ bound s j a = eqb (s.aboard a).destination (stop_id s j) && any (λ i. idle s i 
 
 abbrev pub invariant-loop-a : goal.invariant-loop-a
 invariant-loop-a l = (l.a ≤ l.c.aboards) × (l.m ≡ stop_mask (sheet_of l.s l.c) (λ j. any (bound (sheet_of l.s l.c) j) l.a))
-
-abbrev pub decreases-loop-a : goal.decreases-loop-a
-decreases-loop-a l = l.c.aboards - l.a

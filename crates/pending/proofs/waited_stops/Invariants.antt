@@ -9,6 +9,3 @@ use Rattle.pending.proofs.waited_stops.Given as goal
 
 abbrev pub invariant-loop-w : goal.invariant-loop-w
 invariant-loop-w l = (l.w ≤ l.c.waits) × (l.m ≡ stop_mask (sheet_of l.s l.c) (λ j. any (waits_at (sheet_of l.s l.c) j) l.w))
-
-abbrev pub decreases-loop-w : goal.decreases-loop-w
-decreases-loop-w l = l.c.waits - l.w

@@ -16,7 +16,7 @@ loop-j-preserved t c =
     let lt = c.loop-j-test.true in
     elim c.if-not-taken-j.branch [
       | then-not-taken-j w ↦ rw (w.found-is, w.better-found.ensures, w.front-first.ensures)
-          (upto_take c.requires iv c.if-left-eq0.false lt w.if-not-taken-j.true w.best-rest.ensures refl refl)
+          (upto_take c.requires iv c.if-left-eq0.false lt w.if-not-taken-j.true w.best-rest.ensures w.at.ensures refl)
       | else-not-taken-j w ↦ rw w.found-is (upto_skip c.requires iv lt w.if-not-taken-j.false)
     ]
 

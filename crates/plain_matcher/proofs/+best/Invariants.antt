@@ -1,5 +1,4 @@
 -- plain_matcher::best meets its contract. It ends, since the cars that are left are one fewer at each call.
-use Rattle.std.proofs.Common.{◌-◌}
 use Rattle.plain_matcher.specs.Held.{Upto}
 use Rattle.plain_matcher.proofs.+best.Given as goal
 
@@ -8,7 +7,4 @@ abbrev pub decreases-best : goal.decreases-best
 decreases-best l = l.left
 
 abbrev pub invariant-loop-j : goal.invariant-loop-j
-invariant-loop-j l = Upto l.cells l.columns l.i l.left l.taken l.found l.j
-
-abbrev pub decreases-loop-j : goal.decreases-loop-j
-decreases-loop-j l = l.columns - l.j
+invariant-loop-j l = Upto l.m.cells.now l.m.columns l.i l.left l.taken l.found l.j

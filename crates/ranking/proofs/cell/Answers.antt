@@ -7,13 +7,13 @@ use mathlib.Core.Path.{◌≡◌, sym, ap, ◌∙◌}
 use Rattle.ranking.proofs.cell.Goals as goal
 
 pub bounds-halts-j : goal.bounds-halts-j
-bounds-halts-j c = let p = c.requires in omega (arith, p.4, p.5.size)
+bounds-halts-j c = let p = c.requires in omega (arith, p.1, p.2.size)
 
 pub rank-requires : goal.rank-requires
 rank-requires c =
     let s = c in
     let p = s.requires in
-    (p.0, p.1, p.2, p.3, p.4, λ is. p.5.at is s.args.j p.4)
+    (p.0, p.1, λ is. p.2.at is s.args.j p.1)
 
 pub returns-then-has : goal.returns-then-has
 unfolding cell_by held_by

@@ -11,23 +11,24 @@ unfolding rank_by
 returns-in-Etd c =
     let s = c in
     let a = s.args in
+    let row = a.row.now in
     let is = c.in-Etd.is in
     c.rank.ensures
-    ∙ ap (λ (h : ℕ). etdBy a.row.policy a.row.car a.row.goal a.row.riders a.dests.now a.sides.now a.waiters h a.xs.now a.j)
-    (s.requires.5 is)
-    ∙ by_etd a.row.policy.strategy _ _ _ _ is
+    ∙ ap (λ (h : ℕ). etdBy row.policy row.car row.goal row.riders a.dests.now.along.now a.dests.now.across.now a.waiters h a.stops.now.points.now a.j)
+    (s.requires.2 is)
+    ∙ by_etd row.policy.strategy _ _ _ _ is
 
 pub returns-in-Rsr : goal.returns-in-Rsr
 unfolding rank_by
 returns-in-Rsr c =
-    let a = c.args in
-    c.rank-in-Rsr.ensures ∙ by_rsr a.row.policy.strategy _ _ _ _ c.in-Rsr.is
+    let row = c.args.row.now in
+    c.rank-in-Rsr.ensures ∙ by_rsr row.policy.strategy _ _ _ _ c.in-Rsr.is
 
 pub returns-in-Scan : goal.returns-in-Scan
 unfolding rank_by
 returns-in-Scan c =
-    let a = c.args in
-    c.scan_rank.ensures ∙ by_scan a.row.policy.strategy _ _ _ _ c.in-Scan.is
+    let row = c.args.row.now in
+    c.scan_rank.ensures ∙ by_scan row.policy.strategy _ _ _ _ c.in-Scan.is
 
 pub returns-in-Unknown : goal.returns-in-Unknown
 unfolding rank_by

@@ -1,21 +1,17 @@
 -- replay_choices::differs meets its contract.
-use native.Mathlib.Omega.{arith}
-use Prim.Native.Nat.{ℕ, ◌*◌}
-use mathlib.Core.Path.{ap}
+use Rattle.std.proofs.Common.{◌≡◌, ◌≤◌, ℕ, List, length, take, refl, ap, ◌∙◌}
+use Rattle.std.proofs.lemmas.List.{length-replicate, take-replicate}
+use Rattle.std.specs.Prelude.{replicate}
 use Rattle.replay_choices.specs.Cases.{differ_by}
 use Rattle.replay_choices.proofs.differs.Goals as goal
 
-pub fill-requires : goal.fill-requires
-fill-requires c =
-    let a = c.args in
-    let p = c.requires in
-    (p.cells_len.2, omega (arith, p.cells_len), omega (arith, ap (λ (x : ℕ). x * a.h.width) p.cells_len.0, p.places_in_bounds))
+-- the lent cells are as many as are asked for
+as_many : (k n x : ℕ) → k ≤ n → length (take k (replicate n x)) ≡ k
+as_many k n x l = ap (λ (xs : List ℕ). length xs) (take-replicate k n x l) ∙ length-replicate k x
 
 pub returns : goal.returns
 returns c =
-    let s = c in
-    let a = s.args in
-    let f = c.fill in
-    let b = c.blank in
-    let m = c.assign in
-    differ_by a.s.now a.at a.h s.requires.cells_len.0 f.ensures s.requires.cells_len.1 b.ensures m.ensures.0 m.ensures.1 c.answer_of-got.ensures c.is_apart.ensures
+    let a = c.args in
+    let f = c.requires.1 in
+    differ_by a.s.now a.at a.h (as_many a.h.cells 2048 0 f.cells) c.fill.ensures refl (take-replicate a.h.places 64 99 f.places) c.assign.ensures.0
+    c.assign.ensures.1 c.answer_of-got.ensures c.is_apart.ensures

@@ -27,9 +27,6 @@ overflow_add-at c = omega (arith, within (goal.at.overflow_add-at c).In-loop-k)
 pub number-requires : goal.number-requires
 number-requires c = (c.requires.0, omega (arith, within (goal.at.number-requires c).In-loop-k))
 
-pub loop-k-smaller : goal.loop-k-smaller
-loop-k-smaller c = omega (arith, c.loop-k-test.true, c.loop-k.invariant.1)
-
 pub loop-k-preserved : goal.loop-k-preserved
 loop-k-preserved c =
     let l = c.loop-k in

@@ -1,5 +1,5 @@
 -- replay_choices::fill meets its contract.
-use Prim.Native.Nat.{◌-◌, ◌≤◌}
+use Prim.Native.Nat.{◌≤◌}
 use mathlib.Core.Path.{◌≡◌}
 use mathlib.Core.List.{◌++◌}
 use lib.ListN.{length, drop}
@@ -9,6 +9,3 @@ use Rattle.replay_choices.proofs.fill.Given as goal
 
 abbrev pub invariant-loop-k : goal.invariant-loop-k
 invariant-loop-k l = (l.k ≤ length l.cells) × (length l.cells ≡ length l.initial.cells) × (l.cells ≡ tab (cell_in l.s l.at l.width) l.k ++ drop l.k l.initial.cells)
-
-abbrev pub decreases-loop-k : goal.decreases-loop-k
-decreases-loop-k l = length l.initial.cells - l.k

@@ -9,15 +9,12 @@ use Rattle.replay_choices.proofs.is_misplaced.Goals as goal
 pub loop-k-init : goal.loop-k-init
 loop-k-init c = let a = c.args in (omega arith, none_any (misplaced a.s.now a.at a.places.now) 0 (λ k l. absurd (omega arith)))
 
-pub returns-then-wide-number : goal.returns-then-wide-number
-returns-then-wide-number c =
+pub returns-then-from-number : goal.returns-then-from-number
+returns-then-from-number c =
     let a = c.args in
     let k = c.loop-k.k in
     sym (any_at (misplaced a.s.now a.at a.places.now) (length a.places.now) k c.loop-k-test.true
-    (misplaced_yes a.s.now a.at a.places.now k c.wide.ensures c.number.ensures.0 c.if-wide-number.true))
-
-pub loop-k-smaller : goal.loop-k-smaller
-loop-k-smaller c = omega (arith, c.loop-k-test.true)
+    (misplaced_yes a.s.now a.at a.places.now k c.from.ensures c.number.ensures.0 c.if-from-number.true))
 
 pub loop-k-preserved : goal.loop-k-preserved
 loop-k-preserved c =
@@ -25,7 +22,7 @@ loop-k-preserved c =
     let l = c.loop-k in (
       omega (arith, c.loop-k-test.true),
       sym (any_no (misplaced a.s.now a.at a.places.now) l.k
-          (misplaced_no a.s.now a.at a.places.now l.k c.wide.ensures c.number.ensures.0 c.if-wide-number.false) (sym l.invariant.1)),
+          (misplaced_no a.s.now a.at a.places.now l.k c.from.ensures c.number.ensures.0 c.if-from-number.false) (sym l.invariant.1)),
     )
 
 pub returns : goal.returns

@@ -1,5 +1,5 @@
 -- replay_grades::fill_prices meets its contract.
-use Prim.Native.Nat.{◌-◌, ◌≤◌}
+use Prim.Native.Nat.{◌≤◌}
 use mathlib.Core.Path.{◌≡◌}
 use mathlib.Core.List.{◌++◌}
 use lib.ListN.{length, drop}
@@ -9,6 +9,3 @@ use Rattle.replay_grades.proofs.fill_prices.Given as goal
 
 abbrev pub invariant-loop-k : goal.invariant-loop-k
 invariant-loop-k l = (l.k ≤ length l.prices) × (length l.prices ≡ length l.initial.prices) × (l.prices ≡ tab (price_in l.s l.at) l.k ++ drop l.k l.initial.prices)
-
-abbrev pub decreases-loop-k : goal.decreases-loop-k
-decreases-loop-k l = length l.initial.prices - l.k

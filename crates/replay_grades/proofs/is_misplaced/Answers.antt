@@ -13,9 +13,6 @@ pub loop-k-init : goal.loop-k-init
 unfolding any
 loop-k-init c = (omega arith, refl)
 
-pub loop-k-smaller : goal.loop-k-smaller
-loop-k-smaller c = omega (arith, c.loop-k-test.true)
-
 pub loop-k-preserved : goal.loop-k-preserved
 loop-k-preserved c =
     let a = c.args in

@@ -1,5 +1,5 @@
 -- replay_grades::is_misplaced meets its contract.
-use Prim.Native.Nat.{◌-◌, ◌≤◌}
+use Prim.Native.Nat.{◌≤◌}
 use lib.ListN.{length}
 use mathlib.Core.Path.{◌≡◌}
 use Rattle.laws.specs.Folds.{any}
@@ -8,6 +8,3 @@ use Rattle.replay_grades.proofs.is_misplaced.Given as goal
 
 abbrev pub invariant-loop-k : goal.invariant-loop-k
 invariant-loop-k l = (l.k ≤ length l.left) × (l.wrong ≡ any (misplaced l.s l.at l.cells l.left) l.k)
-
-abbrev pub decreases-loop-k : goal.decreases-loop-k
-decreases-loop-k l = length l.left - l.k

@@ -1,11 +1,11 @@
 -- replay_pairs::agree meets its contract.
-use Rattle.laws.specs.Folds.{every, every_step, ended}
+use Rattle.std.proofs.Common.{arith, sym, ap, ◌∙◌, refl}
+use Prim.Native.Nat.{ℕ}
+use mathlib.Core.Path.{◌≡◌}
+use lib.ListN.{length}
+use Rattle.laws.specs.Folds.{every, every_step}
 use Rattle.replay_pairs.specs.Pairs.{agree_at, agree_no, agree_is}
-use lib.Dec.{eqb}
-use lib.ListN.{get_or}
-use mathlib.Core.Bool.{Bool, ◌&&◌, ◌||◌}
-use mathlib.Core.Path.{refl, ap}
-use native.Mathlib.Omega.{arith}
+use Rattle.replay_pairs.proofs.Every.{fails}
 use Rattle.replay_pairs.proofs.agree.Goals as goal
 
 pub returns-then-first-second : goal.returns-then-first-second
@@ -13,23 +13,23 @@ returns-then-first-second c = let a = c.args in agree_no a.first.now a.second.no
 
 pub loop-k-init : goal.loop-k-init
 unfolding every
-loop-k-init c = (omega arith, refl)
+loop-k-init c = refl
 
-pub loop-k-smaller : goal.loop-k-smaller
-loop-k-smaller c = omega arith
+pub returns-then-not-same_at : goal.returns-then-not-same_at
+returns-then-not-same_at c =
+    let a = c.args in
+    agree_is a.first.now a.second.now c.if-first-second.false
+    (fails (agree_at a.first.now a.second.now) (length a.first.now) c.loop-k.k c.loop-k-test.true (sym c.same_at.ensures ∙ c.if-not-same_at.true))
 
 pub loop-k-preserved : goal.loop-k-preserved
 loop-k-preserved c =
     let a = c.args in
-    let l = c.loop-k in (
-      omega arith,
-      every_step (agree_at a.first.now a.second.now) l.k l.invariant.1
-          (ap (λ (b : Bool). l.same && (b || eqb (get_or a.first.now l.k 0) (get_or a.second.now l.k 0))) c.of_limit.ensures),
-    )
+    let p = agree_at a.first.now a.second.now in
+    sym (every_step p c.loop-k.k (sym c.loop-k.invariant) (sym c.if-not-same_at.false ∙ c.same_at.ensures))
 
 pub returns : goal.returns
 returns c =
     let a = c.args in
-    let l = c.loop-k in
+    let e : c.loop-k.k ≡ length a.first.now = omega arith in
     agree_is a.first.now a.second.now c.if-first-second.false
-    (ended (every (agree_at a.first.now a.second.now)) l.invariant.0 c.loop-k-test.false l.invariant.1)
+    (sym c.loop-k.invariant ∙ ap (λ (k : ℕ). every (agree_at a.first.now a.second.now) k) e)

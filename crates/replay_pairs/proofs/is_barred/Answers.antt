@@ -1,6 +1,7 @@
 -- replay_pairs::is_barred meets its contract.
+use Rattle.std.specs.Prelude.{Ok}
+use Rattle.layout.specs.Refused.{refused}
 use Rattle.accepted.specs.Accepted.{accepted}
-use Rattle.layout.specs.declared.Reading.TheVariants.{Accepted, Refused}
 use Rattle.outcome.specs.Fits.{most_bytes}
 use Rattle.replay_pairs.specs.Added.{added_by, barred_no, barred_same, barred_is}
 use mathlib.Core.Path.{refl, sym, ◌∙◌}
@@ -15,19 +16,19 @@ returns-then-agree c = let a = c.args in barred_same a.first.now a.second.now (s
 pub added-requires : goal.added-requires
 added-requires c =
     let a = c.args in
-    let e = sym c.read.ensures ∙ c.in-Accepted.is in
+    let e = sym c.read.ensures ∙ c.in-Ok.is in
     ((accepted a.first.now _ e).small, (most_bytes a.first.now _ e).0)
 
-pub returns-in-Accepted : goal.returns-in-Accepted
+pub returns-in-Ok : goal.returns-in-Ok
 unfolding added_by
-returns-in-Accepted c =
+returns-in-Ok c =
     let a = c.args in
-    barred_is a.first.now a.second.now {r = Accepted _} c.if-first-second.false (sym c.if-agree.false ∙ c.agree.ensures)
-    (sym c.in-Accepted.is ∙ c.read.ensures) c.added.ensures
+    barred_is a.first.now a.second.now {r = Ok _} c.if-first-second.false (sym c.if-agree.false ∙ c.agree.ensures)
+    (sym c.in-Ok.is ∙ c.read.ensures) c.added.ensures
 
-pub returns-in-Refused : goal.returns-in-Refused
+pub returns-in-Err : goal.returns-in-Err
 unfolding added_by
-returns-in-Refused c =
+returns-in-Err c =
     let a = c.args in
-    barred_is a.first.now a.second.now {r = Refused _ _} c.if-first-second.false (sym c.if-agree.false ∙ c.agree.ensures)
-    (sym c.in-Refused.is ∙ c.read.ensures) refl
+    barred_is a.first.now a.second.now {r = refused _ _} c.if-first-second.false (sym c.if-agree.false ∙ c.agree.ensures)
+    (sym c.in-Err.is ∙ c.read.ensures) refl

@@ -3,5 +3,5 @@ use mathlib.Core.Path.{sym, ap}
 use Rattle.bench.specs.Answers.{total_of}
 use Rattle.replay_pairs.proofs.total.Goals as goal
 
-pub returns-in-Passed : goal.returns-in-Passed
-returns-in-Passed c = sym (ap total_of c.in-Passed.is)
+pub returns-in-Ok : goal.returns-in-Ok
+returns-in-Ok c = sym (ap total_of c.in-Ok.is)

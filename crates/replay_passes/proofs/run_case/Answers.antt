@@ -5,4 +5,5 @@ use Rattle.replay_passes.proofs.run_case.Goals as goal
 pub returns : goal.returns
 returns c =
     let a = c.args in
-    differs_at_lem a.s.now a.at a.p c.pass-answer.ensures c.answered.ensures.differ
+    let h = rw (c.ones-left.ensures, c.sheet-sheet.ensures) at c.pass-answer.ensures in
+    differs_at_lem a.s.now a.at a.p h c.answered.ensures.differ

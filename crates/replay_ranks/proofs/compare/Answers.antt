@@ -7,28 +7,28 @@ use mathlib.Core.Path.{sym, ◌∙◌}
 use native.Mathlib.Omega.{arith}
 use Rattle.replay_ranks.proofs.compare.Goals as goal
 
-pub count_differ-d-requires : goal.count_differ-d-requires
-count_differ-d-requires g c = (sym c.read.ensures ∙ c.in-Accepted.is, c.requires.1)
+pub count_differ-requires : goal.count_differ-requires
+count_differ-requires g c = (sym c.read.ensures ∙ c.in-Ok.is, c.requires.1)
 
-pub overflow_add-result-in-Accepted-2 : goal.overflow_add-result-in-Accepted-2
-overflow_add-result-in-Accepted-2 g c =
+pub overflow_add-result-in-Ok-2 : goal.overflow_add-result-in-Ok-2
+overflow_add-result-in-Ok-2 g c =
     let a = c.args in
     let p = c.requires in
     omega (
       arith,
-      c.count_differ-d.ensures,
-      count-le (λ k. differs (sheet_of a.b.now c.in-Accepted.c) (pair_at a.s.now a.case k)) a.case.pairs,
+      c.count_differ.ensures,
+      count-le (λ k. differs (sheet_of a.b.now c.in-Ok.c) (pair_at a.s.now a.case k)) a.case.pairs,
       p.0.differ,
       p.1.below,
       p.2,
     )
 
-pub returns-in-Refused : goal.returns-in-Refused
-returns-in-Refused g c =
+pub returns-in-Err : goal.returns-in-Err
+returns-in-Err g c =
     let a = c.args in
-    by_refused a.s.now a.b.now a.case a.t _ _ (sym c.read.ensures ∙ c.in-Refused.is) c.refused.ensures
+    by_refused a.s.now a.b.now a.case a.t _ _ (sym c.read.ensures ∙ c.in-Err.is) c.refused.ensures
 
-pub returns-in-Accepted : goal.returns-in-Accepted
-returns-in-Accepted g c =
+pub returns-in-Ok : goal.returns-in-Ok
+returns-in-Ok g c =
     let a = c.args in
-    by_accepted a.s.now a.b.now a.case a.t _ c.count_differ-d.result (sym c.read.ensures ∙ c.in-Accepted.is) c.count_differ-d.ensures
+    by_accepted a.s.now a.b.now a.case a.t _ c.count_differ.result (sym c.read.ensures ∙ c.in-Ok.is) c.count_differ.ensures

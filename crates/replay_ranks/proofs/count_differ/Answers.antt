@@ -18,8 +18,8 @@ overflow_add-d g c =
     let l = c.loop-k in
     omega (
       arith,
-      c.differ-d.ensures,
-      bit-lt (differs (sheet_of a.b.now a.c) c.pair_at-p.result),
+      c.from-d.ensures,
+      bit-lt c.differs.result,
       l.invariant.1,
       count-le (λ i. differs (sheet_of a.b.now a.c) (pair_at a.s.now a.case i)) l.k,
       p.1.next,
@@ -31,7 +31,7 @@ loop-k-preserved g c =
     let a = c.args in
     let l = c.loop-k in (
       omega arith,
-      rw (c.differ-d.ensures, c.pair_at-p.ensures)
+      rw (c.from-d.ensures, c.differs.ensures, c.pair_at-p.ensures)
           (count_step (λ i. differs (sheet_of a.b.now a.c) (pair_at a.s.now a.case i)) l.k l.invariant.1 refl),
     )
 

@@ -48,7 +48,7 @@ rank-requires c =
     let p = c.requires in
     let small = (accepted a.s.now a.c p.s_value.0).small.stops in
     let row = c.row_of-row.ensures in
-    (row.1, row.2, small, omega (arith, small, p.s_value.4), p.s_value.2, λ is. c.intervening_stops-halts.ensures)
+    (((row.1, row.2), small, omega (arith, small, p.s_value.4)), p.s_value.2, λ is. c.intervening_stops-halts.ensures)
 
 pub returns : goal.returns
 unfolding sheet_of

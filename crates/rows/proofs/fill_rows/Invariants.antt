@@ -10,8 +10,5 @@ use Rattle.rows.proofs.fill_rows.Given as goal
 
 abbrev pub invariant-loop-r : goal.invariant-loop-r
 invariant-loop-r l =
-    (l.r ≤ l.idle.count) × Filling (sheet_of l.s l.c) l.limit l.columns l.r l.at l.initial.matrix l.ranked l.held l.matrix × (length l.cars ≡ 4)
-    × (l.r % 4 ≢ 0 → HoldsFour (sheet_of l.s l.c) l.idle l.r l.cars)
-
-abbrev pub decreases-loop-r : goal.decreases-loop-r
-decreases-loop-r l = l.idle.count - l.r
+    (l.r ≤ l.idle.count) × Filling (sheet_of l.known.sheet.now l.known.counts) l.known.limit l.columns l.r l.at l.initial.matrix l.ranked l.held l.matrix × (length l.cars ≡ 4)
+    × (l.r % 4 ≢ 0 → HoldsFour (sheet_of l.known.sheet.now l.known.counts) l.idle l.r l.cars)

@@ -1,10 +1,8 @@
 -- rsr::rank meets its contract.
+use Rattle.std.specs.Prelude.{None, Option}
 use Prim.Native.Nat.{ℕ}
 use Rattle.components.specs.declared.Car.{Car}
-use Rattle.components.specs.declared.Place.{Place}
 use Rattle.components.specs.declared.Policy.{Policy}
-use Rattle.components.specs.declared.Rank.{Rank}
-use Rattle.components.specs.declared.Rank.TheVariants.{Never}
 use Rattle.dispatch.specs.Pairs.{useful_by}
 use Rattle.dispatch.specs.FiniteRank.{finite_rank}
 use Rattle.fp.specs.Num.{zero}
@@ -22,18 +20,18 @@ use mathlib.Core.Path.{◌≡◌}
 use Rattle.rsr.proofs.rank.Goals as goal
 
 -- rsr::rank meets its contract.
-module _ (y : Policy) (car : Car) (goal : Place) (r : Riders) (dests : List Float) (w : Waiters) (xs : List Float) (j : ℕ) where
+module _ (y : Policy) (car : Car) (goal : Option Point) (r : Riders) (dests : List Float) (w : Waiters) (xs : List Float) (j : ℕ) where
   stands : {here useful : Bool} {p : Point} →
       p ≡ point_in xs j →
       here ≡ has r.exits j →
       useful ≡ useful_by car goal r dests w here p.along true →
       useful ≡ true →
       le car.speed zero ≡ true →
-      Never ≡ rank_by y car goal r dests w xs j
+      None ≡ rank_by y car goal r dests w xs j
   unfolding rank_by
   stands p-is here-is useful_is useful slow = rw (← p-is, ← here-is, ← useful_is, useful, slow)
 
-  moves : {here call useful : Bool} {p : Point} {cost : Float} {rank : Rank} →
+  moves : {here call useful : Bool} {p : Point} {cost : Float} {rank : Option Float} →
       p ≡ point_in xs j →
       here ≡ has r.exits j →
       call ≡ has car.calls j →
@@ -52,28 +50,31 @@ module _ (y : Policy) (car : Car) (goal : Place) (r : Riders) (dests : List Floa
       here ≡ has r.exits j →
       useful ≡ useful_by car goal r dests w here p.along true →
       useful ≡ false →
-      Never ≡ rank_by y car goal r dests w xs j
+      None ≡ rank_by y car goal r dests w xs j
   unfolding rank_by
   useless p-is here-is useful_is not-useful = rw (← p-is, ← here-is, ← useful_is, not-useful)
 
-pub returns-then-car : goal.returns-then-car
-returns-then-car c =
+pub returns-then-row : goal.returns-then-row
+returns-then-row c =
     let asked = c in
     let a = asked.args in
-    stands a.policy a.car a.goal a.riders a.dests.now a.waiters a.xs.now a.j asked.point-p.ensures asked.has-here.ensures
-    asked.pair_is_useful.ensures c.if-pair_is_useful.true c.if-car.true
+    let row = a.row.now in
+    stands row.policy row.car row.goal row.riders a.dests.now a.waiters a.stops.now.points.now a.j asked.point-p.ensures asked.has-here.ensures
+    asked.pair_is_useful.ensures c.if-pair_is_useful.true c.if-row.true
 
-pub returns-else-car : goal.returns-else-car
-returns-else-car c =
+pub returns-else-row : goal.returns-else-row
+returns-else-row c =
     let asked = c in
     let a = asked.args in
-    moves a.policy a.car a.goal a.riders a.dests.now a.waiters a.xs.now a.j asked.point-p.ensures asked.has-here.ensures
+    let row = a.row.now in
+    moves row.policy row.car row.goal row.riders a.dests.now a.waiters a.stops.now.points.now a.j asked.point-p.ensures asked.has-here.ensures
     asked.has-call.ensures asked.pair_is_useful.ensures c.if-pair_is_useful.true
-    c.if-car.false (cost_by_lem a.policy a.car a.goal a.waiters.waitsum _ _ c.cost_terms-t.ensures) c.finite_rank.ensures
+    c.if-row.false (cost_by_lem row.policy row.car row.goal a.waiters.waitsum _ _ c.cost_terms.ensures) c.finite_rank.ensures
 
 pub returns-else-pair_is_useful : goal.returns-else-pair_is_useful
 returns-else-pair_is_useful c =
     let asked = c in
     let a = asked.args in
-    useless a.policy a.car a.goal a.riders a.dests.now a.waiters a.xs.now a.j asked.point-p.ensures asked.has-here.ensures
+    let row = a.row.now in
+    useless row.policy row.car row.goal row.riders a.dests.now a.waiters a.stops.now.points.now a.j asked.point-p.ensures asked.has-here.ensures
     asked.pair_is_useful.ensures c.if-pair_is_useful.false

@@ -1,13 +1,13 @@
 -- scale::scale_cost meets its contract.
 use Prim.Native.Nat.{ℕ}
-use mathlib.Core.Path.{◌≡◌, sym, ◌∙◌}
-use mathlib.Core.Bool.{Bool, true, false}
+use mathlib.Core.Path.{◌≡◌, sym, ap, ◌∙◌}
+use mathlib.Core.Bool.{Bool, true, false, not, true≢false}
 use lib.Ieee.{Float, lt}
 use Rattle.fp.specs.Num.{zero, million, times, finite}
 use Rattle.scale.specs.Scale.{sentinel, whole, scale_cost, above_ceiling, held_down}
 use Rattle.scale.proofs.scale_cost.Goals as goal
+use Rattle.scale.proofs.scale_cost.Goals.{then-not-finite, else-not-finite}
 
--- scale::scale_cost meets its contract.
 module _ (x : Float) {cell : ℕ} {held : Bool} where
   no_number : finite x ≡ false → (cell ≡ sentinel) × (held ≡ false) → (cell ≡ scale_cost x) × (held ≡ held_down x)
   unfolding scale_cost held_down
@@ -24,11 +24,16 @@ module _ (x : Float) {cell : ℕ} {held : Bool} where
 
 pub returns-then-cost : goal.returns-then-cost
 returns-then-cost c =
-    below_zero c.args.cost (sym c.finite.ensures ∙ c.if-finite.true) c.if-cost.true c.no_rank.ensures
+    let x = c.args.cost in
+    elim c.if-not-finite.branch [
+      | then-not-finite w ↦ no_number x (sym c.finite.ensures ∙ w.if-not-finite.true) c.no_rank.ensures
+      | else-not-finite w ↦ below_zero x (sym c.finite.ensures ∙ w.if-not-finite.false) (sym w.value-is ∙ c.if-cost.true) c.no_rank.ensures
+    ]
 
 pub returns-else-cost : goal.returns-else-cost
 returns-else-cost c =
-    a_cost c.args.cost (sym c.finite.ensures ∙ c.if-finite.true) c.if-cost.false c.whole.ensures
-
-pub returns-else-finite : goal.returns-else-finite
-returns-else-finite c = no_number c.args.cost (sym c.finite.ensures ∙ c.if-finite.false) c.no_rank-else-finite.ensures
+    let x = c.args.cost in
+    elim c.if-not-finite.branch [
+      | then-not-finite w ↦ absurd (true≢false (ap not (sym w.if-not-finite.true) ∙ sym w.value-is ∙ c.if-cost.false))
+      | else-not-finite w ↦ a_cost x (sym c.finite.ensures ∙ w.if-not-finite.false) (sym w.value-is ∙ c.if-cost.false) c.whole.ensures
+    ]

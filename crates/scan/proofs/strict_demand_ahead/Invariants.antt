@@ -7,6 +7,3 @@ use Rattle.scan.proofs.strict_demand_ahead.Given as goal
 
 abbrev pub invariant-loop-j : goal.invariant-loop-j
 invariant-loop-j l = (l.j ≤ l.n) × (false ≡ demand_ahead l.direction l.x l.demand l.xs l.j)
-
-abbrev pub decreases-loop-j : goal.decreases-loop-j
-decreases-loop-j l = l.n - l.j

@@ -1,4 +1,5 @@
 -- sheet::records meets its contract.
+use Rattle.layout.specs.Refused.{refused}
 use Prim.Native.Nat.{ℕ, ◌+◌, ◌-◌, ◌<◌}
 use Rattle.accepted.specs.Accepted.{Read, no_records, one_more, small, few_demands, few_closures}
 use Rattle.bits.specs.Field.{field_at}
@@ -12,7 +13,6 @@ use Rattle.layout.specs.Verdict.{record_refusal, records_verdict}
 use Rattle.layout.specs.VerdictLaws.{Clean, clean, verdict_on, verdict_stop, verdict_end}
 use Rattle.layout.proofs.PlaceLaws.{end_next}
 use Rattle.layout.specs.declared.Counts.{Counts}
-use Rattle.layout.specs.declared.Reading.TheVariants.{Refused}
 use Rattle.sheet.specs.Kept.{kept, kept_length, keeps, Before, last_next, stops_kept, cars_kept, demands_kept, closures_kept}
 use borrow.Author.Tests.{eqb-true, not-false}
 use lib.ListN.{length}
@@ -96,31 +96,19 @@ module _ (s : List ℕ) (c : Counts) (at last : ℕ) (stops cars demands closure
             };
       })
 
-pub loop-left-init : goal.loop-left-init
-loop-left-init c =
+pub loop-i-init : goal.loop-i-init
+loop-i-init c =
     let start = c in
     let a = start.args in (
       at_first_lem a.s.now _ _ _ _ start.requires c.none-c.ensures refl refl refl refl,
-      ap (λ x. records_verdict a.s.now a.count x) (sym c.none-c.ensures),
+      ap (λ x. records_verdict a.s.now a.count x) (sym c.none-c.ensures) ∙ ap (λ (m : ℕ). records_verdict a.s.now m c.none-c.result) (omega arith),
     )
-
-pub slice_bounds-take_record-end : goal.slice_bounds-take_record-end
-slice_bounds-take_record-end c = sym c.loop-left.invariant.0.stop_places
-
-pub slice_bounds-take_record-end-in-loop-left : goal.slice_bounds-take_record-end-in-loop-left
-slice_bounds-take_record-end-in-loop-left c = sym c.loop-left.invariant.0.car_places
-
-pub slice_bounds-take_record-end-in-loop-left-2 : goal.slice_bounds-take_record-end-in-loop-left-2
-slice_bounds-take_record-end-in-loop-left-2 c = sym c.loop-left.invariant.0.demand_places
-
-pub slice_bounds-take_record-end-in-loop-left-3 : goal.slice_bounds-take_record-end-in-loop-left-3
-slice_bounds-take_record-end-in-loop-left-3 c = sym c.loop-left.invariant.0.closed_places
 
 pub take_record-n-requires : goal.take_record-n-requires
 take_record-n-requires c =
     let k = c in
     let front = k.front_at-front.ensures in
-    let b = k.loop-left.invariant.0 in (
+    let b = k.loop-i.invariant.0 in (
       (few _ _ _ _ _ _ _ _ b).0,
       b,
       its_code _ _ _ _ _ _ _ _ b front.0.is,
@@ -133,53 +121,43 @@ take_record-n-requires c =
 pub overflow_cast-result : goal.overflow_cast-result
 overflow_cast-result c =
     let r = c in
-    omega (arith, not_far _ _ _ _ _ _ _ _ r.loop-left.invariant.0)
+    omega (arith, not_far _ _ _ _ _ _ _ _ r.loop-i.invariant.0)
 
 pub returns-then-n-ne0 : goal.returns-then-n-ne0
 returns-then-n-ne0 c =
     let n = c.take_record-n in
     let r = c in
-    let l = r.loop-left in
+    let l = r.loop-i in
     let s = r.args.s.now in
     let f : record_refusal s l.c ≢ 0 = λ e. c.if-n-ne0.true (n.ensures.0 ∙ e) in
-    sym (l.invariant.1 ∙ verdict_stop s l.left l.c r.loop-left-test.true f ∙ ap₂ Refused (sym n.ensures.0) (sym l.invariant.0.starts))
+    sym (l.invariant.1 ∙ verdict_stop s (r.args.count - l.i) l.c (omega (arith, r.loop-i-test.true)) f ∙ ap₂ refused (sym n.ensures.0) (sym l.invariant.0.starts))
 
 pub next-c-requires : goal.next-c-requires
 next-c-requires c =
     let r = c in
-    few _ _ _ _ _ _ _ _ r.loop-left.invariant.0
+    few _ _ _ _ _ _ _ _ r.loop-i.invariant.0
 
 pub overflow_add-at : goal.overflow_add-at
 overflow_add-at c =
     let r = c in
-    omega (arith, not_far _ _ _ _ _ _ _ _ r.loop-left.invariant.0)
+    omega (arith, not_far _ _ _ _ _ _ _ _ r.loop-i.invariant.0)
 
 pub overflow_cast-at : goal.overflow_cast-at
 overflow_cast-at c =
     let r = c in
     omega (arith, r.front_at-front.ensures.1.small)
 
-pub overflow_add-at-in-loop-left : goal.overflow_add-at-in-loop-left
-overflow_add-at-in-loop-left c =
+pub overflow_add-at-in-loop-i : goal.overflow_add-at-in-loop-i
+overflow_add-at-in-loop-i c =
     let r = c in
-    omega (arith, not_far _ _ _ _ _ _ _ _ r.loop-left.invariant.0, r.front_at-front.ensures.1.small)
+    omega (arith, not_far _ _ _ _ _ _ _ _ r.loop-i.invariant.0, r.front_at-front.ensures.1.small)
 
-pub overflow_sub-left : goal.overflow_sub-left
-overflow_sub-left c =
-    let r = c in
-    omega (arith, r.loop-left-test.true)
-
-pub loop-left-smaller : goal.loop-left-smaller
-loop-left-smaller c =
-    let r = c in
-    omega (arith, r.loop-left-test.true)
-
-pub loop-left-preserved : goal.loop-left-preserved
-loop-left-preserved c =
+pub loop-i-preserved : goal.loop-i-preserved
+loop-i-preserved c =
     let d = c in
     let n = c.take_record-n.ensures in
     let r = c in
-    let l = r.loop-left in
+    let l = r.loop-i in
     let b = l.invariant.0 in
     let front = r.front_at-front.ensures in
     let s = r.args.s.now in
@@ -190,11 +168,12 @@ loop-left-preserved c =
           d.if-n-ne0.false
           c.next-c.ensures
           n.1 n.2 n.3 n.4,
-      l.invariant.1 ∙ verdict_on s l.left l.c r.loop-left-test.true f ∙ ap (records_verdict s (l.left - 1)) (sym k),
+      l.invariant.1 ∙ verdict_on s (r.args.count - l.i) l.c (omega (arith, r.loop-i-test.true)) f ∙ ap (records_verdict s (r.args.count - l.i - 1)) (sym k)
+          ∙ ap (λ (x : ℕ). records_verdict s x c.next-c.result) (omega arith),
     )
 
 pub tail-requires : goal.tail-requires
-tail-requires c = (few _ _ _ _ _ _ _ _ c.loop-left.invariant.0).0
+tail-requires c = (few _ _ _ _ _ _ _ _ c.loop-i.invariant.0).0
 
 pub returns : goal.returns
-returns c = c.tail.ensures ∙ sym (c.loop-left.invariant.1 ∙ verdict_end _ _ _ c.loop-left-test.false)
+returns c = c.tail.ensures ∙ sym (c.loop-i.invariant.1 ∙ verdict_end _ _ _ (omega (arith, c.loop-i-test.false)))

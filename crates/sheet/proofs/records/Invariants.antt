@@ -6,9 +6,6 @@ use Rattle.sheet.specs.Kept.{Before}
 use mathlib.Core.Path.{◌≡◌}
 use Rattle.sheet.proofs.records.Given as goal
 
-abbrev pub invariant-loop-left : goal.invariant-loop-left
-invariant-loop-left l =
-    Before l.s l.c l.at l.last l.stops l.cars l.demands l.closures × (records_verdict l.s l.count (none l.across) ≡ records_verdict l.s l.left l.c)
-
-abbrev pub decreases-loop-left : goal.decreases-loop-left
-decreases-loop-left l = l.left
+abbrev pub invariant-loop-i : goal.invariant-loop-i
+invariant-loop-i l =
+    Before l.s l.c l.at l.last l.tables.stops l.tables.cars l.tables.demands l.tables.closures × (records_verdict l.s l.count (none l.across) ≡ records_verdict l.s (l.count - l.i) l.c)

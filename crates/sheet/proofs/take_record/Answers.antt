@@ -56,7 +56,7 @@ pub keep-requires : goal.keep-requires
 keep-requires c e =
     let start = c in
     let p = start.requires in
-    stop_room _ _ p.1.read (clean _ _ (sym c.record_refusal-number.ensures ∙ eqb-true _ 0 e)) start.args.stops.now p.1.stop_places
+    stop_room _ _ p.1.read (clean _ _ (sym c.record_refusal-number.ensures ∙ eqb-true _ 0 e)) start.args.tables.now.stops p.1.stop_places
     (sym p.6 ∙ c.in-Stop.is)
 
 pub returns-in-Stop : goal.returns-in-Stop
@@ -81,7 +81,7 @@ pub keep-requires-in-Car : goal.keep-requires-in-Car
 keep-requires-in-Car c e =
     let start = c in
     let p = start.requires in
-    car_room _ _ p.1.read (clean _ _ (sym c.record_refusal-number-in-Car.ensures ∙ eqb-true _ 0 e)) start.args.cars.now p.1.car_places
+    car_room _ _ p.1.read (clean _ _ (sym c.record_refusal-number-in-Car.ensures ∙ eqb-true _ 0 e)) start.args.tables.now.cars p.1.car_places
     (sym p.6 ∙ c.in-Car.is)
 
 pub returns-in-Car : goal.returns-in-Car
@@ -116,7 +116,7 @@ pub keep-requires-in-Demand : goal.keep-requires-in-Demand
 keep-requires-in-Demand c e =
     let start = c in
     let p = start.requires in
-    demand_room _ _ p.1.read (clean _ _ (sym c.record_refusal-number-in-Demand.ensures ∙ eqb-true _ 0 e)) start.args.demands.now p.1.demand_places
+    demand_room _ _ p.1.read (clean _ _ (sym c.record_refusal-number-in-Demand.ensures ∙ eqb-true _ 0 e)) start.args.tables.now.demands p.1.demand_places
     (sym p.6 ∙ c.in-Demand.is)
 
 pub returns-in-Demand : goal.returns-in-Demand
@@ -133,7 +133,7 @@ pub keep-requires-in-Closed : goal.keep-requires-in-Closed
 keep-requires-in-Closed c e =
     let start = c in
     let p = start.requires in
-    closed_room _ _ p.1.read (clean _ _ (sym c.record_refusal-number-in-Closed.ensures ∙ eqb-true _ 0 e)) start.args.closures.now p.1.closed_places
+    closed_room _ _ p.1.read (clean _ _ (sym c.record_refusal-number-in-Closed.ensures ∙ eqb-true _ 0 e)) start.args.tables.now.closures p.1.closed_places
     (sym p.6 ∙ c.in-Closed.is)
 
 pub returns-in-Closed : goal.returns-in-Closed

@@ -1,5 +1,5 @@
 -- shown::equal_where_chosen meets its contract.
-use Prim.Native.Nat.{◌≤◌, ◌-◌}
+use Prim.Native.Nat.{◌≤◌}
 use mathlib.Core.Path.{◌≡◌}
 use Rattle.assignment_problem.specs.Choice.{cell_at}
 use Rattle.shown.specs.Shown.{equal_where_chosen}
@@ -8,6 +8,3 @@ use Rattle.shown.proofs.equal_where_chosen.Given as goal
 
 abbrev pub invariant-loop-i : goal.invariant-loop-i
 invariant-loop-i l = (l.i ≤ l.n) × (l.ok ≡ equal_where_chosen l.i (cell_at l.cells l.w) (column_of l.columns) (price_at l.u) (price_at l.v))
-
-abbrev pub decreases-loop-i : goal.decreases-loop-i
-decreases-loop-i l = l.n - l.i

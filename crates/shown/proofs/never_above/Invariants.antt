@@ -1,5 +1,5 @@
 -- shown::never_above meets its contract.
-use Prim.Native.Nat.{◌≤◌, ◌-◌}
+use Prim.Native.Nat.{◌≤◌}
 use mathlib.Core.Path.{◌≡◌}
 use Rattle.assignment_problem.specs.Choice.{cell_at}
 use Rattle.shown.specs.Shown.{never_above}
@@ -8,6 +8,3 @@ use Rattle.shown.proofs.never_above.Given as goal
 
 abbrev pub invariant-loop-i : goal.invariant-loop-i
 invariant-loop-i l = (l.i ≤ l.n) × (l.ok ≡ never_above l.i l.w (cell_at l.cells l.w) (price_at l.u) (price_at l.v))
-
-abbrev pub decreases-loop-i : goal.decreases-loop-i
-decreases-loop-i l = l.n - l.i

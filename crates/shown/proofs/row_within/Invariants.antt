@@ -1,5 +1,5 @@
 -- shown::row_within meets its contract.
-use Prim.Native.Nat.{◌≤◌, ◌-◌}
+use Prim.Native.Nat.{◌≤◌}
 use mathlib.Core.Path.{◌≡◌}
 use Rattle.laws.specs.Folds.{every}
 use Rattle.prices.specs.Price.{within}
@@ -9,6 +9,3 @@ use Rattle.shown.proofs.row_within.Given as goal
 
 abbrev pub invariant-loop-j : goal.invariant-loop-j
 invariant-loop-j l = (l.j ≤ l.w) × (l.ok ≡ every (λ k. within (price_at l.u l.i) (price_at l.v k) (cell_at l.cells l.w l.i k)) l.j)
-
-abbrev pub decreases-loop-j : goal.decreases-loop-j
-decreases-loop-j l = l.w - l.j

@@ -1,5 +1,5 @@
 -- shown::wrong_columns meets its contract.
-use Prim.Native.Nat.{◌≤◌, ◌-◌}
+use Prim.Native.Nat.{◌≤◌}
 use mathlib.Core.Path.{◌≡◌}
 use mathlib.Core.Bool.{◌||◌}
 use Rattle.laws.specs.Folds.{any}
@@ -8,6 +8,3 @@ use Rattle.shown.proofs.wrong_columns.Given as goal
 
 abbrev pub invariant-loop-i : goal.invariant-loop-i
 invariant-loop-i l = (l.i ≤ l.n) × (l.wrong ≡ any (λ k. outside l.w l.columns k || repeats l.columns k) l.i)
-
-abbrev pub decreases-loop-i : goal.decreases-loop-i
-decreases-loop-i l = l.n - l.i

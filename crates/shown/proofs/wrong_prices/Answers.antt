@@ -6,4 +6,4 @@ use Rattle.shown.proofs.wrong_prices.Goals as goal
 
 pub returns : goal.returns
 unfolding refusal20
-returns c = ap₂ (λ (a b : Bool). a || b) c.mispriced-cars.ensures c.mispriced-columns.ensures
+returns c = ap₂ (λ (a b : Bool). a || b) c.mispriced.ensures c.mispriced-2.ensures

@@ -3,16 +3,16 @@ use Rattle.stored_passes.specs.Passes.{differs_refused, differs_passed}
 use Rattle.stored_passes.specs.Tallies.{tally_refused, tally_passed}
 use Rattle.stored_passes.proofs.answered.Goals as goal
 
-pub returns-in-Refused : goal.returns-in-Refused
-returns-in-Refused c =
+pub returns-in-Err : goal.returns-in-Err
+returns-in-Err c =
     let a = c.args in record {
-      tally = tally_refused a.s.now a.p a.decisions.now a.matrix.now a.sweeps.now c.in-Refused.is;
-      differ = differs_refused a.s.now a.p a.decisions.now a.matrix.now a.sweeps.now c.in-Refused.is;
+      tally = rw c.from.ensures (tally_refused a.s.now a.p a.left.now.decisions a.left.now.matrix a.left.now.sweeps c.in-Err.is);
+      differ = differs_refused a.s.now a.p a.left.now.decisions a.left.now.matrix a.left.now.sweeps c.in-Err.is;
     }
 
-pub returns-in-Passed : goal.returns-in-Passed
-returns-in-Passed c =
+pub returns-in-Ok : goal.returns-in-Ok
+returns-in-Ok c =
     let a = c.args in record {
-      tally = tally_passed a.s.now a.p a.decisions.now a.matrix.now a.sweeps.now c.in-Passed.is c.compared.ensures.tally;
-      differ = differs_passed a.s.now a.p a.decisions.now a.matrix.now a.sweeps.now c.in-Passed.is c.compared.ensures.differ;
+      tally = tally_passed a.s.now a.p a.left.now.decisions a.left.now.matrix a.left.now.sweeps c.in-Ok.is c.compared.ensures.tally;
+      differ = differs_passed a.s.now a.p a.left.now.decisions a.left.now.matrix a.left.now.sweeps c.in-Ok.is c.compared.ensures.differ;
     }

@@ -5,4 +5,4 @@ use Rattle.sweeps.proofs.sweep_at.Goals as goal
 
 pub returns : goal.returns
 unfolding car_of
-returns c w = rw (c.of_bit.ensures.0, c.of_bit-2.ensures.0, c.flag.ensures, c.flag-2.ensures) refl
+returns c w = rw (c.from.ensures.0, c.from-2.ensures.0, c.flag.ensures, c.flag-2.ensures) refl

@@ -3,4 +3,4 @@ use Rattle.weight_store.specs.Entries.{byte_there}
 use Rattle.weight_store.proofs.is_there.Goals as goal
 
 pub returns : goal.returns
-returns c = byte_there _ _
+returns c = rw c.from.ensures (byte_there _ _)

@@ -29,8 +29,8 @@ returns-then-refusal_of-ne0 c =
       values = (l.invariant.4, l.invariant.6);
     }
 
-pub bounds-keys-i : goal.bounds-keys-i
-bounds-keys-i c =
+pub bounds-keys-at : goal.bounds-keys-at
+bounds-keys-at c =
     let a = c.args in
     let p = c.requires in
     let l = c.loop-key in
@@ -38,8 +38,8 @@ bounds-keys-i c =
     let t : l.i < entry_count a.s.now = ltb-true _ _ (sym c.is_there.ensures ∙ c.loop-key-test.true) in
     omega (arith, passed_before a.s.now l.i t (sym l.invariant.2) out, l.invariant.3, p.0)
 
-pub bounds-values-i : goal.bounds-values-i
-bounds-values-i c =
+pub bounds-values-at : goal.bounds-values-at
+bounds-values-at c =
     let a = c.args in
     let p = c.requires in
     let l = c.loop-key in
@@ -67,8 +67,8 @@ loop-key-preserved c =
       any_no (entry_refused s) l.i out l.invariant.2,
       simp length-set l.invariant.3,
       simp length-set l.invariant.4,
-      tab_next (key_of s) a.keys.now l.keys l.i c.key_at-key.result (omega (arith, few, p.0)) l.invariant.5 c.key_at-key.ensures,
-      tab_next (value_of s) a.values.now l.values l.i c.value_at-value.result (omega (arith, few, p.1)) l.invariant.6 c.value_at-value.ensures,
+      rw c.from-at.ensures (tab_next (key_of s) a.keys.now l.keys l.i c.key_at-key.result (omega (arith, few, p.0)) l.invariant.5 c.key_at-key.ensures),
+      rw c.from-at.ensures (tab_next (value_of s) a.values.now l.values l.i c.value_at-value.result (omega (arith, few, p.1)) l.invariant.6 c.value_at-value.ensures),
     )
 
 pub returns : goal.returns

@@ -4,4 +4,4 @@ use Rattle.weight_store.proofs.value_at.Goals as goal
 
 pub returns : goal.returns
 unfolding value_of
-returns c = c.field.ensures.is
+returns c = rw c.from.ensures at c.field.ensures.is

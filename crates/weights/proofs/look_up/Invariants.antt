@@ -1,5 +1,5 @@
 -- weights::look_up meets its contract.
-use Prim.Native.Nat.{◌≤◌, ◌-◌}
+use Prim.Native.Nat.{◌≤◌}
 use Rattle.fp.specs.Num.{zero}
 use Rattle.laws.specs.Folds.{any}
 use Rattle.laws.specs.Tables.{tab}
@@ -15,8 +15,5 @@ abbrev pub invariant-loop-slot : goal.invariant-loop-slot
 invariant-loop-slot l =
     (l.slot ≤ 6)
     × (length l.six ≡ 6)
-    × (false ≡ any (missing l.n (held_entry l.keys l.values) l.day) l.slot)
-    × (l.six ≡ tab (slot_weight l.n (held_entry l.keys l.values) l.day) l.slot ++ drop l.slot (replicate 6 zero))
-
-abbrev pub decreases-loop-slot : goal.decreases-loop-slot
-decreases-loop-slot l = 6 - l.slot
+    × (false ≡ any (missing (length l.records.keys.now) (held_entry l.records.keys.now l.records.values.now) l.day) l.slot)
+    × (l.six ≡ tab (slot_weight (length l.records.keys.now) (held_entry l.records.keys.now l.records.values.now) l.day) l.slot ++ drop l.slot (replicate 6 zero))

@@ -1,10 +1,10 @@
 -- weights::weights meets its contract.
 use Rattle.weight_store.specs.Passed.{refused_few, refused_within}
-use mathlib.Core.Path.{refl}
+use native.Mathlib.Omega.{arith}
 use Rattle.weights.proofs.weights.Goals as goal
 
-pub weights_by-requires : goal.weights_by-requires
-weights_by-requires c = (refl, refl, refused_within _ 16 c.if-store-le-SMALL_BYTES.true)
+pub weights_within-requires : goal.weights_within-requires
+weights_within-requires c = (refused_within _ 16 c.if-store-le-SMALL_BYTES.true, omega arith)
 
-pub weights_by-requires-2 : goal.weights_by-requires-2
-weights_by-requires-2 c = (refl, refl, refused_few _)
+pub weights_within-requires-else-store-le-SMALL_BYTES : goal.weights_within-requires-else-store-le-SMALL_BYTES
+weights_within-requires-else-store-le-SMALL_BYTES c = (refused_few _, omega arith)

@@ -12,6 +12,6 @@ returns-then-s-lt3 c = (rw (lt-ltb _ 3 c.if-s-lt3.true), refl)
 pub returns : goal.returns
 unfolding start_of head_put fields_put
 returns c = (
-  rw (le-ltb _ 3 c.if-s-lt3.false, c.none.ensures, c.code-edition.ensures),
+  rw (le-ltb _ 3 c.if-s-lt3.false, c.none.ensures, c.across_bits.ensures, c.code-edition.ensures),
   rw (c.put-2.ensures, c.put.ensures, c.code-edition.ensures),
 )

@@ -1,34 +1,20 @@
 -- writer_host::dispatch_bench_put_car meets its contract.
-use mathlib.Core.Path.{refl, sym, ◌∙◌}
-use borrow.Author.Tests.{ne_eqb}
-use Rattle.writer_host.specs.Given.{phase_known}
-use Rattle.writer_host.specs.Host.{not_refused, state_long, state_small}
+use mathlib.Core.Path.{◌≡◌, refl, ◌∙◌}
+use mathlib.Core.Bool.{Bool, true, false, cond}
+use Rattle.std.specs.Prelude.{Float, Some, None}
+use Rattle.std.specs.Bool.{then_some}
+use Rattle.writer_host.specs.Given.{car_of, threshold_of, phase_known}
 use Rattle.writer_host.proofs.dispatch_bench_put_car.Goals as goal
 
-pub returns-then-refused-ne0 : goal.returns-then-refused-ne0
-unfolding phase_known
-returns-then-refused-ne0 c = rw (← c.refusal-refused.ensures, ne_eqb c.refusal-refused.result 0 c.if-refused-ne0.true) (refl, refl, refl)
-
-pub counts_in-c-requires : goal.counts_in-c-requires
-counts_in-c-requires c =
-    let l = c.args.state.now in
-    state_long l (not_refused l _ (sym c.refusal-refused.ensures ∙ c.if-refused-ne0.false))
-
-pub put_car-r-requires : goal.put_car-r-requires
-put_car-r-requires c =
-    let l = c.args.state.now in
-    rw c.counts_in-c.ensures (state_small l (not_refused l _ (sym c.refusal-refused.ensures ∙ c.if-refused-ne0.false)))
-
-pub keep-requires : goal.keep-requires
-keep-requires c =
-    let l = c.args.state.now in
-    state_long l (not_refused l _ (sym c.refusal-refused.ensures ∙ c.if-refused-ne0.false))
+some_is : (b : Bool) (x : Float) → then_some b x ≡ cond b (Some x) None
+some_is true x = refl
+some_is false x = refl
 
 pub returns : goal.returns
-unfolding phase_known
+unfolding car_of threshold_of phase_known
 returns c =
-    let f = sym c.refusal-refused.ensures ∙ c.if-refused-ne0.false in
-    let counts = c.counts_in-c.ensures in
-    let put = c.put_car-r.ensures in
-    let keep = c.keep.ensures in
-    (rw (f, keep.0, put.0, counts), rw (f, put.1, put.0, counts, c.car_of-x.ensures), rw (f, keep.1, put.0, counts))
+    let put = c.put_record.ensures in (
+      c.number.ensures ∙ put.0,
+      rw (c.then_some-2.ensures, c.then_some.ensures, some_is, some_is, c.from-3.ensures.0, c.from-2.ensures.0, c.of_code.ensures.is, c.from.ensures) at put.1,
+      put.2,
+    )

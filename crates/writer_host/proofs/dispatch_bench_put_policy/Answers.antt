@@ -1,34 +1,13 @@
 -- writer_host::dispatch_bench_put_policy meets its contract.
-use mathlib.Core.Path.{refl, sym, ◌∙◌}
-use borrow.Author.Tests.{ne_eqb}
+use mathlib.Core.Path.{◌∙◌}
 use Rattle.writer_host.specs.Given.{policy_of, policy_known}
-use Rattle.writer_host.specs.Host.{not_refused, state_long, state_small}
 use Rattle.writer_host.proofs.dispatch_bench_put_policy.Goals as goal
-
-pub returns-then-refused-ne0 : goal.returns-then-refused-ne0
-unfolding policy_known
-returns-then-refused-ne0 c = rw (← c.refusal-refused.ensures, ne_eqb c.refusal-refused.result 0 c.if-refused-ne0.true) (refl, refl, refl)
-
-pub counts_in-c-requires : goal.counts_in-c-requires
-counts_in-c-requires c =
-    let l = c.args.state.now in
-    state_long l (not_refused l _ (sym c.refusal-refused.ensures ∙ c.if-refused-ne0.false))
-
-pub put_policy-r-requires : goal.put_policy-r-requires
-put_policy-r-requires c =
-    let l = c.args.state.now in
-    rw c.counts_in-c.ensures (state_small l (not_refused l _ (sym c.refusal-refused.ensures ∙ c.if-refused-ne0.false)))
-
-pub keep-requires : goal.keep-requires
-keep-requires c =
-    let l = c.args.state.now in
-    state_long l (not_refused l _ (sym c.refusal-refused.ensures ∙ c.if-refused-ne0.false))
 
 pub returns : goal.returns
 unfolding policy_of policy_known
 returns c =
-    let f = sym c.refusal-refused.ensures ∙ c.if-refused-ne0.false in
-    let counts = c.counts_in-c.ensures in
-    let put = c.put_policy-r.ensures in
-    let keep = c.keep.ensures in
-    (rw (f, keep.0, put.0, counts), rw (f, put.1, put.0, counts, c.of_code-2.ensures.is, c.of_code.ensures.is), rw (f, keep.1, put.0, counts))
+    let put = c.put_record.ensures in (
+      c.number.ensures ∙ put.0,
+      rw (c.from-4.ensures.is, c.from-3.ensures, c.from-2.ensures.is, c.from.ensures) at put.1,
+      put.2,
+    )

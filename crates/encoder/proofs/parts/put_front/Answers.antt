@@ -9,5 +9,5 @@ returns c =
       c.put-2.ensures,
       c.body_length.ensures,
       c.put.ensures,
-      c.kind_code.ensures,
+      c.from.ensures,
     )

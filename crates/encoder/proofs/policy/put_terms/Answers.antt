@@ -7,9 +7,9 @@ unfolding fields_put
 returns c =
     rw (
       c.put-3.ensures,
-      c.traffic_code.ensures,
+      c.from-2.ensures,
       c.put_double.ensures,
       c.put-2.ensures,
       c.put.ensures,
-      c.strategy_code.ensures,
+      c.from.ensures,
     )

@@ -34,237 +34,136 @@ module _ {cells : List ℕ} {n cols i t f d : ℕ} {u w ro co di fr se : List �
       (λ q. gain_out (at se' x) (at di j) (at di x) (ne x q ∙ cl.zeros x lx))
       (same? x j)
 
-pub loop-seen-init : goal.loop-seen-init
-loop-seen-init c =
-    let p = c.prepare-j in
-    let z = c.requires.sizes in (
-      record { u32 = p.auto.u ∙ z.0.u32; w65 = z.0.w65; ro65 = p.auto.row_of ∙ z.0.ro65; co32 = p.auto.col_of ∙ z.0.co32 },
-      record { di65 = p.auto.dist ∙ z.1.di65; fr65 = p.auto.from ∙ z.1.fr65; se65 = p.auto.seen ∙ z.1.se65 },
+pub loop-search-init : goal.loop-search-init
+loop-search-init c =
+    let p = c.prepare-j in (
+      p.ensures.size,
       (p.ensures.growing.0, record { d = 0; growing = p.ensures.growing.1 }),
-      omega (arith, unseen_most c.args.cols p.new.seen),
+      omega (arith, unseen_most c.args.m.columns p.new.search.seen),
       p.ensures.nearest,
       (λ e. p.ensures.alone),
     )
 
-pub raise-requires-clause-i_bound : goal.raise-requires-clause-i_bound
-raise-requires-clause-i_bound c =
+pub raise-requires : goal.raise-requires
+raise-requires c =
     let m = c.requires.matrix in
     let mx = m.0 in
     let li = m.1 in
-    let l = c.loop-seen in
+    let l = c.loop-search in
     let iv = l.invariant in
-    let near = iv.4 in
+    let near = iv.3 in
     let j = l.j in
-    let g0 = iv.2.1.growing in
-    (omega (arith, li, mx.rows32), mx.cols64, d_low mx li g0 j near)
-
-pub raise-requires-clause-by_index : goal.raise-requires-clause-by_index
-raise-requires-clause-by_index c =
-    let m = c.requires.matrix in
-    let mx = m.0 in
-    let li = m.1 in
-    let l = c.loop-seen in
-    let iv = l.invariant in
-    let near = iv.4 in
-    let j = l.j in
-    let g0 = iv.2.1.growing in
-    λ r h. (omega (arith, co_low mx li g0 r h, mx.cols64), u_low mx li g0 r h)
-
-pub raise-requires-clause-by_index_2 : goal.raise-requires-clause-by_index_2
-raise-requires-clause-by_index_2 c =
-    let m = c.requires.matrix in
-    let mx = m.0 in
-    let li = m.1 in
-    let l = c.loop-seen in
-    let iv = l.invariant in
-    let near = iv.4 in
-    let j = l.j in
-    let g0 = iv.2.1.growing in
+    let g0 = iv.1.1.growing in
     let gr = grown mx li g0 j near in
     let lj = near.below in
     let out = near.outside in
     let t : ℕ = l.t + 1 in
-    let se : List ℕ = set l.seen j t in
-    let e : at se j ≡ t = at_same l.seen j t (omega (arith, iv.1.se65, lj, mx.cols64)) in
-    let ne : (x : ℕ) → (x ≡ j → ⊥) → at se x ≡ at l.seen x = λ (x : ℕ) (q : x ≡ j → ⊥). at_other l.seen j t x q in
-    let fj = c.if-n-r.true in
-    λ r h p. inside_free mx li gr j lj out refl fj se e ne (at l.col_of r) (co_low mx li g0 r h) p
+    let se : List ℕ = set l.search.seen j t in
+    let e : at se j ≡ t = at_same l.search.seen j t (omega (arith, iv.0, lj, mx.cols64)) in
+    let ne : (x : ℕ) → (x ≡ j → ⊥) → at se x ≡ at l.search.seen x = λ (x : ℕ) (q : x ≡ j → ⊥). at_other l.search.seen j t x q in
+    let fj = c.if-m-r.true in
+    let alone : t ≡ 2 → Cleared c.args.m.columns l.search.seen × (at l.pairs.col_of c.args.i ≡ c.args.m.columns) = λ q. iv.4 (omega (arith, q)) in
+    record {
+      i_bound = (omega (arith, li, mx.rows32), mx.cols64, d_low mx li g0 j near);
+      by_index = λ r h. (omega (arith, co_low mx li g0 r h, mx.cols64), u_low mx li g0 r h);
+      by_index_2 = λ r h p. inside_free mx li gr j lj out refl fj se e ne (at l.pairs.col_of r) (co_low mx li g0 r h) p;
+      by_index_3 = λ x h. (w_low mx li g0 x h, (λ p. inside_free mx li gr j lj out refl fj se e ne x (omega arith) p));
+      i_value = λ q. let o = alone q in row_gains g0 li o.0 o.1 j lj fj se (e ∙ q) ne;
+      r_value = λ q. let o = alone q in rows_stay g0 li o.0 o.1 j lj fj se (e ∙ q) ne;
+      j_value = λ q. let o = alone q in columns_stay g0 li o.0 o.1 j lj fj se (e ∙ q) ne;
+    }
 
-pub raise-requires-clause-by_index_3 : goal.raise-requires-clause-by_index_3
-raise-requires-clause-by_index_3 c =
+pub augment-requires : goal.augment-requires
+augment-requires c =
     let m = c.requires.matrix in
     let mx = m.0 in
     let li = m.1 in
-    let l = c.loop-seen in
+    let l = c.loop-search in
     let iv = l.invariant in
-    let near = iv.4 in
+    let near = iv.3 in
     let j = l.j in
-    let g0 = iv.2.1.growing in
+    let g0 = iv.1.1.growing in
     let gr = grown mx li g0 j near in
     let lj = near.below in
     let out = near.outside in
     let t : ℕ = l.t + 1 in
-    let se : List ℕ = set l.seen j t in
-    let e : at se j ≡ t = at_same l.seen j t (omega (arith, iv.1.se65, lj, mx.cols64)) in
-    let ne : (x : ℕ) → (x ≡ j → ⊥) → at se x ≡ at l.seen x = λ (x : ℕ) (q : x ≡ j → ⊥). at_other l.seen j t x q in
-    let fj = c.if-n-r.true in
-    λ x h. (w_low mx li g0 x h, (λ p. inside_free mx li gr j lj out refl fj se e ne x (omega arith) p))
+    let se : List ℕ = set l.search.seen j t in
+    let e : at se j ≡ t = at_same l.search.seen j t (omega (arith, iv.0, lj, mx.cols64)) in
+    let ne : (x : ℕ) → (x ≡ j → ⊥) → at se x ≡ at l.search.seen x = λ (x : ℕ) (q : x ≡ j → ⊥). at_other l.search.seen j t x q in
+    let fj = c.if-m-r.true in
+    record { n_bound = (mx.rows32, mx.cols64, going mx li gr j lj out refl fj se e ne) }
 
-pub raise-requires-clause-i_value : goal.raise-requires-clause-i_value
-raise-requires-clause-i_value c =
+pub returns-then-m-r : goal.returns-then-m-r
+returns-then-m-r c =
     let m = c.requires.matrix in
     let mx = m.0 in
     let li = m.1 in
-    let l = c.loop-seen in
+    let l = c.loop-search in
     let iv = l.invariant in
-    let near = iv.4 in
+    let near = iv.3 in
     let j = l.j in
-    let g0 = iv.2.1.growing in
+    let g0 = iv.1.1.growing in
     let gr = grown mx li g0 j near in
     let lj = near.below in
     let out = near.outside in
     let t : ℕ = l.t + 1 in
-    let se : List ℕ = set l.seen j t in
-    let e : at se j ≡ t = at_same l.seen j t (omega (arith, iv.1.se65, lj, mx.cols64)) in
-    let ne : (x : ℕ) → (x ≡ j → ⊥) → at se x ≡ at l.seen x = λ (x : ℕ) (q : x ≡ j → ⊥). at_other l.seen j t x q in
-    let fj = c.if-n-r.true in
-    let alone : t ≡ 2 → Cleared c.args.cols l.seen × (at l.col_of c.args.i ≡ c.args.cols) = λ q. iv.5 (omega (arith, q)) in
-    λ q. let o = alone q in row_gains g0 li o.0 o.1 j lj fj se (e ∙ q) ne
-
-pub raise-requires-clause-r_value : goal.raise-requires-clause-r_value
-raise-requires-clause-r_value c =
-    let m = c.requires.matrix in
-    let mx = m.0 in
-    let li = m.1 in
-    let l = c.loop-seen in
-    let iv = l.invariant in
-    let near = iv.4 in
-    let j = l.j in
-    let g0 = iv.2.1.growing in
-    let gr = grown mx li g0 j near in
-    let lj = near.below in
-    let out = near.outside in
-    let t : ℕ = l.t + 1 in
-    let se : List ℕ = set l.seen j t in
-    let e : at se j ≡ t = at_same l.seen j t (omega (arith, iv.1.se65, lj, mx.cols64)) in
-    let ne : (x : ℕ) → (x ≡ j → ⊥) → at se x ≡ at l.seen x = λ (x : ℕ) (q : x ≡ j → ⊥). at_other l.seen j t x q in
-    let fj = c.if-n-r.true in
-    let alone : t ≡ 2 → Cleared c.args.cols l.seen × (at l.col_of c.args.i ≡ c.args.cols) = λ q. iv.5 (omega (arith, q)) in
-    λ q. let o = alone q in rows_stay g0 li o.0 o.1 j lj fj se (e ∙ q) ne
-
-pub raise-requires-clause-j_value : goal.raise-requires-clause-j_value
-raise-requires-clause-j_value c =
-    let m = c.requires.matrix in
-    let mx = m.0 in
-    let li = m.1 in
-    let l = c.loop-seen in
-    let iv = l.invariant in
-    let near = iv.4 in
-    let j = l.j in
-    let g0 = iv.2.1.growing in
-    let gr = grown mx li g0 j near in
-    let lj = near.below in
-    let out = near.outside in
-    let t : ℕ = l.t + 1 in
-    let se : List ℕ = set l.seen j t in
-    let e : at se j ≡ t = at_same l.seen j t (omega (arith, iv.1.se65, lj, mx.cols64)) in
-    let ne : (x : ℕ) → (x ≡ j → ⊥) → at se x ≡ at l.seen x = λ (x : ℕ) (q : x ≡ j → ⊥). at_other l.seen j t x q in
-    let fj = c.if-n-r.true in
-    let alone : t ≡ 2 → Cleared c.args.cols l.seen × (at l.col_of c.args.i ≡ c.args.cols) = λ q. iv.5 (omega (arith, q)) in
-    λ q. let o = alone q in columns_stay g0 li o.0 o.1 j lj fj se (e ∙ q) ne
-
-pub augment-requires-clause-n_bound : goal.augment-requires-clause-n_bound
-augment-requires-clause-n_bound c =
-    let m = c.requires.matrix in
-    let mx = m.0 in
-    let li = m.1 in
-    let l = c.loop-seen in
-    let iv = l.invariant in
-    let near = iv.4 in
-    let j = l.j in
-    let g0 = iv.2.1.growing in
-    let gr = grown mx li g0 j near in
-    let lj = near.below in
-    let out = near.outside in
-    let t : ℕ = l.t + 1 in
-    let se : List ℕ = set l.seen j t in
-    let e : at se j ≡ t = at_same l.seen j t (omega (arith, iv.1.se65, lj, mx.cols64)) in
-    let ne : (x : ℕ) → (x ≡ j → ⊥) → at se x ≡ at l.seen x = λ (x : ℕ) (q : x ≡ j → ⊥). at_other l.seen j t x q in
-    let fj = c.if-n-r.true in
-    (mx.rows32, mx.cols64, going mx li gr j lj out refl fj se e ne)
-
-pub returns-then-n-r : goal.returns-then-n-r
-returns-then-n-r c =
-    let m = c.requires.matrix in
-    let mx = m.0 in
-    let li = m.1 in
-    let l = c.loop-seen in
-    let iv = l.invariant in
-    let near = iv.4 in
-    let j = l.j in
-    let g0 = iv.2.1.growing in
-    let gr = grown mx li g0 j near in
-    let lj = near.below in
-    let out = near.outside in
-    let t : ℕ = l.t + 1 in
-    let se : List ℕ = set l.seen j t in
-    let e : at se j ≡ t = at_same l.seen j t (omega (arith, iv.1.se65, lj, mx.cols64)) in
-    let ne : (x : ℕ) → (x ≡ j → ⊥) → at se x ≡ at l.seen x = λ (x : ℕ) (q : x ≡ j → ⊥). at_other l.seen j t x q in
-    let fj = c.if-n-r.true in
-    ended mx li gr j lj out refl fj se e ne c.raise.new.u c.raise.new.w c.augment.new.row_of c.augment.new.col_of c.raise.ensures.rows c.raise.ensures.columns c.augment.ensures
+    let se : List ℕ = set l.search.seen j t in
+    let e : at se j ≡ t = at_same l.search.seen j t (omega (arith, iv.0, lj, mx.cols64)) in
+    let ne : (x : ℕ) → (x ≡ j → ⊥) → at se x ≡ at l.search.seen x = λ (x : ℕ) (q : x ≡ j → ⊥). at_other l.search.seen j t x q in
+    let fj = c.if-m-r.true in
+    ended mx li gr j lj out refl fj se e ne c.raise.new.prices.u c.raise.new.prices.w c.augment.new.pairs.row_of c.augment.new.pairs.col_of c.raise.ensures.rows c.raise.ensures.columns c.augment.ensures
 
 pub join-j-requires-clause-cols_bound : goal.join-j-requires-clause-cols_bound
 join-j-requires-clause-cols_bound c =
     let m = c.requires.matrix in
     let mx = m.0 in
     let li = m.1 in
-    let l = c.loop-seen in
+    let l = c.loop-search in
     let iv = l.invariant in
-    let near = iv.4 in
+    let near = iv.3 in
     let j = l.j in
-    let g0 = iv.2.1.growing in
-    (mx.cols64, omega (arith, row_in (at l.row_of j) c.args.n c.args.cols c.if-n-r.false, mx.whole), near.below, omega arith, d_low mx li g0 j near)
+    let g0 = iv.1.1.growing in
+    (mx.cols64, omega (arith, row_in (at l.pairs.row_of j) c.args.m.rows c.args.m.columns c.if-m-r.false, mx.whole), near.below, omega arith, d_low mx li g0 j near, omega (arith, mx.rows32))
 
 pub join-j-requires-clause-by_index_3 : goal.join-j-requires-clause-by_index_3
 join-j-requires-clause-by_index_3 c =
     let m = c.requires.matrix in
     let mx = m.0 in
     let li = m.1 in
-    let l = c.loop-seen in
+    let l = c.loop-search in
     let iv = l.invariant in
-    let near = iv.4 in
+    let near = iv.3 in
     let j = l.j in
-    let g0 = iv.2.1.growing in
+    let g0 = iv.1.1.growing in
     let gr = grown mx li g0 j near in
     let lj = near.below in
     let out = near.outside in
-    λ x h. (w_low mx li g0 x h, (λ o. join_under mx li gr j lj out refl c.if-n-r.false x h o))
+    λ x h. (w_low mx li g0 x h, (λ o. join_under mx li gr j lj out refl c.if-m-r.false x h o))
 
-pub loop-seen-smaller : goal.loop-seen-smaller
-loop-seen-smaller c =
-    let l = c.loop-seen in
-    let near = l.invariant.4 in
+pub loop-search-smaller : goal.loop-search-smaller
+loop-search-smaller c =
+    let l = c.loop-search in
+    let near = l.invariant.3 in
     let v = c.join-j in
-    unseen_less c.args.cols l.seen v.new.seen l.j near.below near.outside (omega (arith, v.ensures.joined.turned)) v.ensures.joined.others
+    unseen_less c.args.m.columns l.search.seen v.new.search.seen l.j near.below near.outside (omega (arith, v.ensures.joined.turned)) v.ensures.joined.others
 
-pub loop-seen-preserved : goal.loop-seen-preserved
-loop-seen-preserved c =
+pub loop-search-preserved : goal.loop-search-preserved
+loop-search-preserved c =
     let m = c.requires.matrix in
     let mx = m.0 in
     let li = m.1 in
-    let l = c.loop-seen in
+    let l = c.loop-search in
     let iv = l.invariant in
-    let near = iv.4 in
+    let near = iv.3 in
     let j = l.j in
-    let g0 = iv.2.1.growing in
+    let g0 = iv.1.1.growing in
     let gr = grown mx li g0 j near in
     let lj = near.below in
     let out = near.outside in
     let v = c.join-j in (
-      iv.0,
-      record { di65 = v.auto.dist ∙ iv.1.di65; fr65 = v.auto.from ∙ iv.1.fr65; se65 = v.auto.seen ∙ iv.1.se65 },
-      (iv.2.0, record { d = at l.dist j; growing = joined mx li gr j lj out refl c.if-n-r.false v.new.seen v.new.dist v.new.from v.ensures.joined }),
-      omega (arith, iv.3, unseen_less c.args.cols l.seen v.new.seen j lj out (omega (arith, v.ensures.joined.turned)) v.ensures.joined.others),
+      v.ensures.size,
+      (iv.1.0, record { d = at l.search.dist j; growing = joined mx li gr j lj out refl c.if-m-r.false v.new.search.seen v.new.search.dist v.new.search.from v.ensures.joined }),
+      omega (arith, iv.2, unseen_less c.args.m.columns l.search.seen v.new.search.seen j lj out (omega (arith, v.ensures.joined.turned)) v.ensures.joined.others),
       v.ensures.nearest,
-      (λ q. absurd (omega (arith, q, g0.tree.root, g0.tree.turn c.args.cols (omega arith)))),
+      (λ q. absurd (omega (arith, q, g0.tree.root, g0.tree.turn c.args.m.columns (omega arith)))),
     )

@@ -1,14 +1,15 @@
 -- hungarian::least::insert meets its contract.
 use Prim.Native.Nat.{ℕ, ◌+◌, ◌≤◌}
 use mathlib.Core.Path.{◌≡◌}
+use lib.ListN.{length}
 use Rattle.alternating_tree.specs.Lists.{at, Nearest}
-use Rattle.alternating_tree.specs.State.{Sizes, Scratch, GrowingAt, Cleared, unseen}
+use Rattle.alternating_tree.specs.State.{GrowingAt, Cleared, unseen}
 use Rattle.hungarian.proofs.least.insert.Given as goal
 
-abbrev pub invariant-loop-seen : goal.invariant-loop-seen
-invariant-loop-seen l =
-    Sizes l.u l.w l.row_of l.col_of × Scratch l.dist l.from l.seen × ((f : ℕ) × GrowingAt l.cells l.n l.cols l.i l.t f l.u l.w l.row_of l.col_of l.dist l.from l.seen)
-    × (l.t + unseen l.cols l.seen ≤ l.cols + 1) × Nearest l.seen l.dist l.cols l.j × (l.t ≡ 1 → Cleared l.cols l.seen × (at l.col_of l.i ≡ l.cols))
+abbrev pub invariant-loop-search : goal.invariant-loop-search
+invariant-loop-search l =
+    (length l.search.seen ≡ 65) × ((f : ℕ) × GrowingAt l.m.cells.now l.m.rows l.m.columns l.i l.t f l.prices.u l.prices.w l.pairs.row_of l.pairs.col_of l.search.dist l.search.from l.search.seen)
+    × (l.t + unseen l.m.columns l.search.seen ≤ l.m.columns + 1) × Nearest l.search.seen l.search.dist l.m.columns l.j × (l.t ≡ 1 → Cleared l.m.columns l.search.seen × (at l.pairs.col_of l.i ≡ l.m.columns))
 
-abbrev pub decreases-loop-seen : goal.decreases-loop-seen
-decreases-loop-seen l = unseen l.cols l.seen
+abbrev pub decreases-loop-search : goal.decreases-loop-search
+decreases-loop-search l = unseen l.m.columns l.search.seen

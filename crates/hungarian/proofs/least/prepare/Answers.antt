@@ -1,5 +1,5 @@
 -- hungarian::least::prepare meets its contract.
-use Rattle.std.proofs.Common.{ℕ, zero, suc, List, ⊎_elim, arith}
+use Rattle.std.proofs.Common.{ℕ, zero, suc, List, ⊎_elim, arith, rules}
 use Rattle.laws.specs.Bools.{same?, less?}
 use Rattle.alternating_tree.specs.Lists.{at, FreeColumn}
 use Rattle.alternating_tree.specs.State.{prepared}
@@ -28,5 +28,5 @@ first_free ro n (suc cols) =
 pub returns-clause-growing : goal.returns-clause-growing
 returns-clause-growing c =
     let m = c.requires.matrix in
-    let (f, e) = first_free c.args.row_of.now c.args.n c.args.cols in
-    (f, prepared c.begin.new.dist c.begin.new.from c.clear.new.seen m.0 m.1 c.requires.sizes.0 m.2 e c.clear.ensures c.begin.ensures.rooted)
+    let (f, e) = first_free c.args.pairs.now.row_of c.args.m.rows c.args.m.columns in
+    (f, rw c.begin.ensures.seen (prepared c.begin.new.search.dist c.begin.new.search.from c.clear.new.seen m.0 m.1 (record { u32 = search rules; w65 = search rules; ro65 = search rules; co32 = search rules }) m.2 e c.clear.ensures.cleared c.begin.ensures.rooted))

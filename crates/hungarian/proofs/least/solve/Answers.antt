@@ -7,5 +7,5 @@ pub returns-clause-least : goal.returns-clause-least
 returns-clause-least c =
     let s = c.args in
     let l = c.loop-i in
-    let e : l.i ≡ s.n = omega arith in
-    state_least c.requires.matrix.0.wide (subst (λ (x : ℕ). State s.cells.now s.n s.cols x l.u l.w l.row_of l.col_of) e l.invariant.3)
+    let e : l.i ≡ s.m.rows = omega arith in
+    state_least c.requires.matrix.0.wide (subst (λ (x : ℕ). State s.m.cells.now s.m.rows s.m.columns x l.prices.u l.prices.w l.pairs.row_of l.pairs.col_of) e l.invariant.1)

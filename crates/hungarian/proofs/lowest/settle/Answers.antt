@@ -10,6 +10,6 @@ pub returns : goal.returns
 returns c =
     let s = c.args in
     let l = c.loop-i in
-    let e : l.i ≡ s.n = omega arith in
-    let st = subst (λ (z : ℕ). Settled s.cells.now s.n s.cols z s.u.now s.w.now l.row_of l.col_of) e l.invariant.3 in
-    lowest_tab (cell_at s.cells.now s.cols) s.n s.cols c.requires.matrix.0.wide (at l.col_of) (settle_done st)
+    let e : l.i ≡ s.m.rows = omega arith in
+    let st = subst (λ (z : ℕ). Settled s.m.cells.now s.m.rows s.m.columns z s.prices.now.u s.prices.now.w l.pairs.row_of l.pairs.col_of) e l.invariant.1 in
+    lowest_tab (cell_at s.m.cells.now s.m.columns) s.m.rows s.m.columns c.requires.matrix.0.wide (at l.pairs.col_of) (settle_done st)

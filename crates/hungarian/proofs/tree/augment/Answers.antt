@@ -45,64 +45,65 @@ module _ (ro₀ co₀ from seen : List ℕ) (n cols j : ℕ) (c64 : cols ≤ 64)
       let lh : hole < cols = before_stand pa wk far in
       (omega (arith, pa.p_from hole lh wk.seen), pa.p_earlier hole lh wk.seen)
 
-pub offset_bounds-seen-hole : goal.offset_bounds-seen-hole
-offset_bounds-seen-hole c =
+pub offset_bounds-search-hole : goal.offset_bounds-search-hole
+offset_bounds-search-hole c =
     let g = c.args in
     let p = c.requires.n_bound in
     let l = c.loop-hole in
-    omega (arith, here g.row_of.now g.col_of.now g.from.now g.seen.now g.n g.cols g.j p.1 l.row_of l.col_of l.hole l.invariant.2 p.2)
+    omega (arith, here g.pairs.now.row_of g.pairs.now.col_of g.search.now.from g.search.now.seen g.m.rows g.m.columns g.j p.1 l.pairs.row_of l.pairs.col_of l.hole l.invariant.2 p.2)
 
-pub bounds-seen-hole : goal.bounds-seen-hole
-bounds-seen-hole c =
+pub bounds-search-hole : goal.bounds-search-hole
+bounds-search-hole c =
     let g = c.args in
     let p = c.requires.n_bound in
     let l = c.loop-hole in
-    omega (arith, here g.row_of.now g.col_of.now g.from.now g.seen.now g.n g.cols g.j p.1 l.row_of l.col_of l.hole l.invariant.2 p.2)
+    omega (arith, here g.pairs.now.row_of g.pairs.now.col_of g.search.now.from g.search.now.seen g.m.rows g.m.columns g.j p.1 l.pairs.row_of l.pairs.col_of l.hole l.invariant.2 p.2)
 
-pub offset_bounds-row_of-next : goal.offset_bounds-row_of-next
-offset_bounds-row_of-next c =
+pub offset_bounds-pairs-next : goal.offset_bounds-pairs-next
+offset_bounds-pairs-next c =
     let g = c.args in
     let p = c.requires.n_bound in
     let l = c.loop-hole in
-    omega (arith, ahead g.row_of.now g.col_of.now g.from.now g.seen.now g.n g.cols g.j p.1 l.row_of l.col_of l.hole l.invariant.2 p.2 c.loop-hole-test.true)
+    omega (arith, ahead g.pairs.now.row_of g.pairs.now.col_of g.search.now.from g.search.now.seen g.m.rows g.m.columns g.j p.1 l.pairs.row_of l.pairs.col_of l.hole l.invariant.2 p.2 c.loop-hole-test.true)
 
-pub bounds-row_of-next : goal.bounds-row_of-next
-bounds-row_of-next c =
+pub bounds-pairs-next : goal.bounds-pairs-next
+bounds-pairs-next c =
     let g = c.args in
     let p = c.requires.n_bound in
     let l = c.loop-hole in
-    omega (arith, ahead g.row_of.now g.col_of.now g.from.now g.seen.now g.n g.cols g.j p.1 l.row_of l.col_of l.hole l.invariant.2 p.2 c.loop-hole-test.true)
+    omega (arith, ahead g.pairs.now.row_of g.pairs.now.col_of g.search.now.from g.search.now.seen g.m.rows g.m.columns g.j p.1 l.pairs.row_of l.pairs.col_of l.hole l.invariant.2 p.2 c.loop-hole-test.true)
 
-pub offset_bounds-row_of-next-in-loop-hole : goal.offset_bounds-row_of-next-in-loop-hole
-offset_bounds-row_of-next-in-loop-hole c =
+pub offset_bounds-pairs-next-in-loop-hole : goal.offset_bounds-pairs-next-in-loop-hole
+offset_bounds-pairs-next-in-loop-hole c =
     let g = c.args in
     let p = c.requires.n_bound in
     let l = c.loop-hole in
-    omega (arith, ahead g.row_of.now g.col_of.now g.from.now g.seen.now g.n g.cols g.j p.1 l.row_of l.col_of l.hole l.invariant.2 p.2 c.loop-hole-test.true)
+    omega (arith, ahead g.pairs.now.row_of g.pairs.now.col_of g.search.now.from g.search.now.seen g.m.rows g.m.columns g.j p.1 l.pairs.row_of l.pairs.col_of l.hole l.invariant.2 p.2 c.loop-hole-test.true)
 
-pub bounds-row_of-next-in-loop-hole : goal.bounds-row_of-next-in-loop-hole
-bounds-row_of-next-in-loop-hole c =
+pub bounds-pairs-next-in-loop-hole : goal.bounds-pairs-next-in-loop-hole
+bounds-pairs-next-in-loop-hole c =
     let g = c.args in
     let p = c.requires.n_bound in
     let l = c.loop-hole in
-    omega (arith, ahead g.row_of.now g.col_of.now g.from.now g.seen.now g.n g.cols g.j p.1 l.row_of l.col_of l.hole l.invariant.2 p.2 c.loop-hole-test.true)
+    omega (arith, ahead g.pairs.now.row_of g.pairs.now.col_of g.search.now.from g.search.now.seen g.m.rows g.m.columns g.j p.1 l.pairs.row_of l.pairs.col_of l.hole l.invariant.2 p.2 c.loop-hole-test.true)
 
 pub loop-hole-smaller : goal.loop-hole-smaller
 loop-hole-smaller c =
     let g = c.args in
     let p = c.requires.n_bound in
     let l = c.loop-hole in
-    (ahead g.row_of.now g.col_of.now g.from.now g.seen.now g.n g.cols g.j p.1 l.row_of l.col_of l.hole l.invariant.2 p.2 c.loop-hole-test.true).1
+    (ahead g.pairs.now.row_of g.pairs.now.col_of g.search.now.from g.search.now.seen g.m.rows g.m.columns g.j p.1 l.pairs.row_of l.pairs.col_of l.hole l.invariant.2 p.2 c.loop-hole-test.true).1
 
 pub loop-hole-preserved : goal.loop-hole-preserved
 loop-hole-preserved c =
     let g = c.args in
     let p = c.requires.n_bound in
-    let l = c.loop-hole in (
-      simp length-set (c.put.auto.row_of ∙ l.invariant.0),
-      c.put.auto.col_of ∙ l.invariant.1,
-      turn g.row_of.now g.col_of.now g.from.now g.seen.now g.n g.cols g.j p.1 l.row_of l.col_of l.hole l.invariant.2 c.loop-hole-test.true
-          c.put.new.row_of c.put.new.col_of (omega (arith, ahead g.row_of.now g.col_of.now g.from.now g.seen.now g.n g.cols g.j p.1 l.row_of l.col_of l.hole l.invariant.2 p.2 c.loop-hole-test.true)) c.put.ensures,
+    let l = c.loop-hole in
+    let z = c.put.ensures.sizes in (
+      simp length-set z.0,
+      z.1,
+      turn g.pairs.now.row_of g.pairs.now.col_of g.search.now.from g.search.now.seen g.m.rows g.m.columns g.j p.1 l.pairs.row_of l.pairs.col_of l.hole l.invariant.2 c.loop-hole-test.true
+          c.put.new.pairs.row_of c.put.new.pairs.col_of (omega (arith, ahead g.pairs.now.row_of g.pairs.now.col_of g.search.now.from g.search.now.seen g.m.rows g.m.columns g.j p.1 l.pairs.row_of l.pairs.col_of l.hole l.invariant.2 p.2 c.loop-hole-test.true)) c.put.ensures.stationed,
     )
 
 pub returns : goal.returns
@@ -110,4 +111,4 @@ returns c =
     let g = c.args in
     let p = c.requires.n_bound in
     let l = c.loop-hole in
-    home g.row_of.now g.col_of.now g.from.now g.seen.now g.n g.cols g.j p.1 l.row_of l.col_of l.hole l.invariant.2 c.loop-hole-test.false
+    home g.pairs.now.row_of g.pairs.now.col_of g.search.now.from g.search.now.seen g.m.rows g.m.columns g.j p.1 l.pairs.row_of l.pairs.col_of l.hole l.invariant.2 c.loop-hole-test.false

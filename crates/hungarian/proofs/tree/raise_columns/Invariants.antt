@@ -1,5 +1,5 @@
 -- hungarian::tree::raise_columns meets its contract.
-use Prim.Native.Nat.{ℕ, ◌+◌, ◌-◌, ◌≤◌, ◌<◌}
+use Prim.Native.Nat.{ℕ, ◌+◌, ◌≤◌, ◌<◌}
 use mathlib.Core.Path.{◌≡◌}
 use lib.ListN.{length}
 use Rattle.alternating_tree.specs.Lists.{at, gain}
@@ -8,8 +8,5 @@ use Rattle.hungarian.proofs.tree.raise_columns.Given as goal
 abbrev pub invariant-loop-j : goal.invariant-loop-j
 invariant-loop-j l =
     (l.j ≤ l.cols) × (length l.w ≡ 65)
-    × ((k : ℕ) → k < l.j → at l.w k ≡ at l.initial.w k + gain (at l.seen k) l.d (at l.dist k))
+    × ((k : ℕ) → k < l.j → at l.w k ≡ at l.initial.w k + gain (at l.search.seen k) l.d (at l.search.dist k))
     × ((k : ℕ) → l.j ≤ k → at l.w k ≡ at l.initial.w k)
-
-abbrev pub decreases-loop-j : goal.decreases-loop-j
-decreases-loop-j l = l.cols - l.j

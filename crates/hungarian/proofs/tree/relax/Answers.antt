@@ -1,10 +1,11 @@
 -- hungarian::tree::relax meets its contract.
-use Rattle.std.proofs.Common.{◌+◌, ◌-◌, ◌*◌, refl, inl, inr, arith}
+use Rattle.std.proofs.Common.{◌≡◌, ◌∙◌, sym, List, ℕ, ◌+◌, ◌-◌, ◌*◌, refl, ap, inl, inr, arith}
+use Rattle.hungarian.specs.declared.tree.Search.{Search}
 use Rattle.hungarian.proofs.Best.{best_here, best_kept, rank_most}
 use Rattle.hungarian.proofs.Lowers.{Out, step_keep, lowered}
 use Rattle.alternating_tree.specs.Lists.{at}
 use Rattle.hungarian.proofs.tree.relax.Goals as goal
-use Rattle.hungarian.proofs.tree.relax.Goals.{then-seen-j-eq0+then-k-least, then-s-dist, else-s-dist, then-seen-j-eq0+else-k-least, else-seen-j-eq0}
+use Rattle.hungarian.proofs.tree.relax.Goals.{then-search-j-eq0+then-k-least, then-s-search, else-s-search, then-search-j-eq0+else-k-least, else-search-j-eq0}
 
 pub loop-j-preserved : goal.loop-j-preserved
 loop-j-preserved c =
@@ -13,39 +14,46 @@ loop-j-preserved c =
     let lc = c.requires.cols_bound.0 in
     let lj = c.loop-j-test.true in
     let pj = c.requires.by_index_3 l.j lj in
-    let small = c.requires.by_index_2 (g.r * g.cols + l.j) in
-    elim c.if-seen-j-eq0.branch [
-      | then-seen-j-eq0+then-k-least w ↦
-          let y = lowered g.cells.now g.cols g.r g.ur g.col g.d g.w.now g.seen.now g.dist.now g.from.now l.dist l.from
-          l.j l.invariant.0 lj lc (w.cell.result + at g.w.now l.j - g.ur + g.d) w.if-s-dist.dist w.if-s-dist.from w.if-seen-j-eq0.true
-          (omega (arith, w.cell.ensures, pj.1 w.if-seen-j-eq0.true))
-          (omega (arith, w.cell.ensures, pj.0, small, c.requires.cols_bound.2))
-          (elim w.if-s-dist.branch [ then-s-dist v ↦ inl (v.if-s-dist.true, v.dist-is, v.from-is) | else-s-dist v ↦ inr (v.if-s-dist.false, v.dist-is, v.from-is) ]) in
-          rw (w.dist-is, w.from-is, w.best-is, w.least-is) (
+    let small = c.requires.by_index_2 (g.r * g.m.columns + l.j) in
+    elim c.if-search-j-eq0.branch [
+      | then-search-j-eq0+then-k-least w ↦
+          let y = lowered g.m.cells.now g.m.columns g.r (at g.prices.now.u g.r) g.col g.d g.prices.now.w l.search.seen g.search.now.dist g.search.now.from l.search.dist l.search.from
+          l.j l.invariant.0 lj lc (w.at.result + at g.prices.now.w l.j - at g.prices.now.u g.r + g.d) w.if-s-search.search.dist w.if-s-search.search.from w.if-search-j-eq0.true
+          (omega (arith, w.at.ensures, pj.1 (ap (λ (x : List ℕ). at x l.j) (sym l.invariant.1) ∙ w.if-search-j-eq0.true)))
+          (omega (arith, w.at.ensures, pj.0, small, c.requires.cols_bound.2))
+          (elim w.if-s-search.branch [ then-s-search v ↦ inl (v.if-s-search.true, ap (λ (x : Search). x.dist) v.search-is, ap (λ (x : Search). x.from) v.search-is) | else-s-search v ↦ inr (v.if-s-search.false, ap (λ (x : Search). x.dist) v.search-is, ap (λ (x : Search). x.from) v.search-is) ]) in
+          let kept : w.if-s-search.search.seen ≡ l.search.seen =
+          elim w.if-s-search.branch [ then-s-search v ↦ ap (λ (x : Search). x.seen) v.search-is | else-s-search v ↦ ap (λ (x : Search). x.seen) v.search-is ] in
+          rw (w.search-is, kept, w.best-is, w.least-is) (
             y.0,
-            best_here (Out g.seen.now) g.n l.dist w.if-s-dist.dist g.row_of.now l.best l.least l.j l.invariant.1 y.1 w.rank-k.result w.if-seen-j-eq0.true
+            l.invariant.1,
+            best_here (Out l.search.seen) g.m.rows l.search.dist w.if-s-search.search.dist g.pairs.now.row_of l.best l.least l.j l.invariant.2 y.1 w.rank-k.result w.if-search-j-eq0.true
                 (w.rank-k.ensures.free, w.rank-k.ensures.taken) w.if-k-least.true,
           )
-      | then-seen-j-eq0+else-k-least w ↦
-          let y = lowered g.cells.now g.cols g.r g.ur g.col g.d g.w.now g.seen.now g.dist.now g.from.now l.dist l.from
-          l.j l.invariant.0 lj lc (w.cell.result + at g.w.now l.j - g.ur + g.d) w.if-s-dist.dist w.if-s-dist.from w.if-seen-j-eq0.true
-          (omega (arith, w.cell.ensures, pj.1 w.if-seen-j-eq0.true))
-          (omega (arith, w.cell.ensures, pj.0, small, c.requires.cols_bound.2))
-          (elim w.if-s-dist.branch [ then-s-dist v ↦ inl (v.if-s-dist.true, v.dist-is, v.from-is) | else-s-dist v ↦ inr (v.if-s-dist.false, v.dist-is, v.from-is) ]) in
-          rw (w.dist-is, w.from-is, w.best-is, w.least-is) (
+      | then-search-j-eq0+else-k-least w ↦
+          let y = lowered g.m.cells.now g.m.columns g.r (at g.prices.now.u g.r) g.col g.d g.prices.now.w l.search.seen g.search.now.dist g.search.now.from l.search.dist l.search.from
+          l.j l.invariant.0 lj lc (w.at.result + at g.prices.now.w l.j - at g.prices.now.u g.r + g.d) w.if-s-search.search.dist w.if-s-search.search.from w.if-search-j-eq0.true
+          (omega (arith, w.at.ensures, pj.1 (ap (λ (x : List ℕ). at x l.j) (sym l.invariant.1) ∙ w.if-search-j-eq0.true)))
+          (omega (arith, w.at.ensures, pj.0, small, c.requires.cols_bound.2))
+          (elim w.if-s-search.branch [ then-s-search v ↦ inl (v.if-s-search.true, ap (λ (x : Search). x.dist) v.search-is, ap (λ (x : Search). x.from) v.search-is) | else-s-search v ↦ inr (v.if-s-search.false, ap (λ (x : Search). x.dist) v.search-is, ap (λ (x : Search). x.from) v.search-is) ]) in
+          let kept : w.if-s-search.search.seen ≡ l.search.seen =
+          elim w.if-s-search.branch [ then-s-search v ↦ ap (λ (x : Search). x.seen) v.search-is | else-s-search v ↦ ap (λ (x : Search). x.seen) v.search-is ] in
+          rw (w.search-is, kept, w.best-is, w.least-is) (
             y.0,
-            best_kept (Out g.seen.now) g.n l.dist w.if-s-dist.dist g.row_of.now l.best l.least l.j l.invariant.1 y.1
+            l.invariant.1,
+            best_kept (Out l.search.seen) g.m.rows l.search.dist w.if-s-search.search.dist g.pairs.now.row_of l.best l.least l.j l.invariant.2 y.1
                 (λ o. (
-                  rank_most g.n (at w.if-s-dist.dist l.j) (at g.row_of.now l.j) w.rank-k.result l.least
+                  rank_most g.m.rows (at w.if-s-search.search.dist l.j) (at g.pairs.now.row_of l.j) w.rank-k.result l.least
                       (w.rank-k.ensures.free, w.rank-k.ensures.taken) w.if-k-least.false,
                   y.2,
                 )),
           )
-      | else-seen-j-eq0 w ↦
-          rw (w.dist-is, w.from-is, w.best-is, w.least-is) (
-            step_keep g.cells.now g.cols g.r g.ur g.col g.d g.w.now g.seen.now g.dist.now g.from.now
-                l.dist l.from l.j l.invariant.0 lj lc (λ z. absurd (w.if-seen-j-eq0.false z)),
-            best_kept (Out g.seen.now) g.n l.dist l.dist g.row_of.now l.best l.least l.j l.invariant.1 (λ k lk. refl)
-                (λ z. absurd (w.if-seen-j-eq0.false z)),
+      | else-search-j-eq0 w ↦
+          rw (w.search-is, w.best-is, w.least-is) (
+            step_keep g.m.cells.now g.m.columns g.r (at g.prices.now.u g.r) g.col g.d g.prices.now.w l.search.seen g.search.now.dist g.search.now.from
+                l.search.dist l.search.from l.j l.invariant.0 lj lc (λ z. absurd (w.if-search-j-eq0.false z)),
+            l.invariant.1,
+            best_kept (Out l.search.seen) g.m.rows l.search.dist l.search.dist g.pairs.now.row_of l.best l.least l.j l.invariant.2 (λ k lk. refl)
+                (λ z. absurd (w.if-search-j-eq0.false z)),
           )
     ]

@@ -2,4 +2,4 @@
 use Rattle.manifest.proofs.Waiters.meet.Goals as goal
 
 pub returns : goal.returns
-returns c = rw c.stop_position-place.ensures at c.with_rider.ensures
+returns c = rw c.position.ensures at c.with_rider.ensures

@@ -1,27 +1,15 @@
 -- multiply_add::pack::nearest meets its contract.
-use Rattle.std.proofs.Common.{arith, rules}
+use Rattle.std.proofs.Common.{arith}
 use Rattle.multiply_add.proofs.PackLaws.{nearest_none, shifted_le, nearest_down, nearest_tie, nearest_up, quotient_small}
-use Rattle.multiply_add.proofs.PackLaws.{nearest_none_left, nearest_half_down, nearest_half_up}
+use Rattle.multiply_add.proofs.PackLaws.{nearest_none_left}
 use Rattle.multiply_add.proofs.pack.nearest.Goals as goal
 
 pub returns-then-t-eq0 : goal.returns-then-t-eq0
 returns-then-t-eq0 c = nearest_none c.args.w c.args.t c.if-t-eq0.true
 
-pub overflow_shr-q : goal.overflow_shr-q
-overflow_shr-q c = search rules
-
-pub overflow_shl-rest : goal.overflow_shl-rest
-overflow_shl-rest c = search rules
-
 pub overflow_sub-rest : goal.overflow_sub-rest
 overflow_sub-rest c =
     shifted_le c.args.w c.args.t c.ranges.w.fits c.if-t-eq0.false c.if-t-lt64.true
-
-pub overflow_sub-half : goal.overflow_sub-half
-overflow_sub-half c = search rules
-
-pub overflow_shl-half : goal.overflow_shl-half
-overflow_shl-half c = search rules
 
 pub overflow_add-result : goal.overflow_add-result
 overflow_add-result c =
@@ -48,16 +36,6 @@ returns-else-rest-half-2 c =
     nearest_up c.args.w c.args.t
     c.ranges.w.fits c.if-t-eq0.false c.if-t-lt64.true c.if-rest-half.false
     c.if-rest-half-2.false
-
-pub returns-then-w-le9223372036854775808 : goal.returns-then-w-le9223372036854775808
-returns-then-w-le9223372036854775808 c =
-    nearest_half_down c.args.w c.args.t c.if-t-eq64.true
-    c.if-w-le9223372036854775808.true
-
-pub returns-else-w-le9223372036854775808 : goal.returns-else-w-le9223372036854775808
-returns-else-w-le9223372036854775808 c =
-    nearest_half_up c.args.w c.args.t
-    c.ranges.w.fits c.if-t-eq64.true c.if-w-le9223372036854775808.false
 
 pub returns-else-t-eq64 : goal.returns-else-t-eq64
 returns-else-t-eq64 c =

@@ -1,5 +1,5 @@
 -- multiply_add::pack::round meets its contract.
-use Rattle.std.proofs.Common.{refl, ◌∙◌, inl, arith, lit<, lit≤, rules}
+use Rattle.std.proofs.Common.{refl, ◌∙◌, inl, arith, lit<, lit≤}
 use lib.Count.{leading_le}
 use Rattle.multiply_add.proofs.PackLaws.{round_none, keeps, packs, round_some}
 use Rattle.multiply_add.proofs.pack.round.Goals as goal
@@ -16,12 +16,6 @@ overflow_cast-z c = omega (arith, leading_le 64 c.args.w)
 
 pub overflow_sub-z : goal.overflow_sub-z
 overflow_sub-z c = omega (arith, leading_le 64 c.args.w)
-
-pub overflow_add-at : goal.overflow_add-at
-overflow_add-at c = search rules
-
-pub dropped-k-requires : goal.dropped-k-requires
-dropped-k-requires c = search rules
 
 pub rounded-q-requires : goal.rounded-q-requires
 rounded-q-requires c =

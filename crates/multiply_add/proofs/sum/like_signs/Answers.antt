@@ -1,10 +1,6 @@
 -- multiply_add::sum::like_signs meets its contract.
 use Rattle.multiply_add.proofs.SumLaws.{sums_plus}
-use Rattle.std.proofs.Common.{rules}
 use Rattle.multiply_add.proofs.sum.like_signs.Goals as goal
 
-pub plus-w-requires : goal.plus-w-requires
-plus-w-requires c = search rules
-
 pub returns : goal.returns
-returns c = sums_plus _ _ _ _ c.plus-w.ensures
+returns c = sums_plus _ _ _ _ c.plus.ensures

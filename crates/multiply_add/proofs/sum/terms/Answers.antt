@@ -1,19 +1,7 @@
 -- multiply_add::sum::terms meets its contract.
-use Rattle.std.proofs.Common.{arith, rules}
+use Rattle.std.proofs.Common.{arith}
 use Rattle.multiply_add.proofs.SumLaws.{significand_small, exponent_small, terms_fit, terms_are}
 use Rattle.multiply_add.proofs.sum.terms.Goals as goal
-
-pub significand-m-requires : goal.significand-m-requires
-significand-m-requires c = search rules
-
-pub significand-n-requires : goal.significand-n-requires
-significand-n-requires c = search rules
-
-pub exponent-requires : goal.exponent-requires
-exponent-requires c = search rules
-
-pub exponent-requires-2 : goal.exponent-requires-2
-exponent-requires-2 c = search rules
 
 pub product_exponent-p-requires : goal.product_exponent-p-requires
 product_exponent-p-requires c =
@@ -21,16 +9,10 @@ product_exponent-p-requires c =
     let k = exponent_small _ _ c.exponent-2.ensures in
     (omega arith, omega arith)
 
-pub product-w-requires : goal.product-w-requires
-product-w-requires c =
+pub product-product-requires : goal.product-product-requires
+product-product-requires c =
     let s = c in
     (significand_small _ _ s.significand-m.ensures, significand_small _ _ s.significand-n.ensures)
-
-pub significand-c-requires : goal.significand-c-requires
-significand-c-requires c = search rules
-
-pub exponent-q-requires : goal.exponent-q-requires
-exponent-q-requires c = search rules
 
 pub overflow_add-q : goal.overflow_add-q
 overflow_add-q c = let h = exponent_small _ _ c.exponent-q.ensures in omega arith
@@ -41,7 +23,7 @@ align-requires c =
     let a = s.args in
     terms_fit a.x a.y a.z _ _ _ _ _ _ _ _ _ s.significand-m.ensures s.significand-n.ensures
     s.exponent.ensures s.exponent-2.ensures c.product_exponent-p.ensures c.significand-c.ensures
-    c.exponent-q.ensures c.product-w.ensures
+    c.exponent-q.ensures c.product-product.ensures
 
 pub returns : goal.returns
 returns c =
@@ -49,5 +31,5 @@ returns c =
     let a = s.args in
     terms_are a.x a.y a.z _ _ _ _ _ _ _ _ _ s.significand-m.ensures s.significand-n.ensures
     s.exponent.ensures s.exponent-2.ensures c.product_exponent-p.ensures
-    c.significand-c.ensures c.exponent-q.ensures c.product-w.ensures _ _ _ _ _
+    c.significand-c.ensures c.exponent-q.ensures c.product-product.ensures _ _ _ _ _
     c.align.ensures

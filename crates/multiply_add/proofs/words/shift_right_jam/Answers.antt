@@ -1,16 +1,7 @@
 -- multiply_add::words::shift_right_jam meets its contract.
 use Rattle.multiply_add.proofs.WordLaws.{shift_jam_whole, shift_jam_odd, shift_jam_none, shift_jam_all}
-use Rattle.std.proofs.Common.{arith, rules}
+use Rattle.std.proofs.Common.{arith}
 use Rattle.multiply_add.proofs.words.shift_right_jam.Goals as goal
-
-pub overflow_shr-q : goal.overflow_shr-q
-overflow_shr-q c = search rules
-
-pub overflow_shl-q : goal.overflow_shl-q
-overflow_shl-q c = search rules
-
-pub overflow_sub-result : goal.overflow_sub-result
-overflow_sub-result c = search rules
 
 pub overflow_add-result : goal.overflow_add-result
 overflow_add-result c =

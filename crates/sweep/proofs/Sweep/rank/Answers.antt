@@ -1,5 +1,5 @@
 -- sweep::Sweep::rank meets its contract.
-use Rattle.components.specs.declared.Rank.TheVariants.{Cost, Never}
+use Rattle.std.specs.Prelude.{None, Some}
 use Rattle.components.specs.declared.Point.{Point}
 use Rattle.components.specs.Points.{distance}
 use Rattle.sweep.specs.Sweeps.{accepts, sweep_rank}
@@ -13,14 +13,14 @@ accepted : (w : Sweep) (x p : Point) {taken : Bool} {cost : Float} →
     taken ≡ accepts w.mode w.direction x.along p.along →
     taken ≡ true →
     cost ≡ distance x p →
-    Cost cost ≡ sweep_rank w x p
+    Some cost ≡ sweep_rank w x p
 unfolding sweep_rank
 accepted w x p taken_is is cost_is = rw (← taken_is, is, cost_is)
 
 passed_over : (w : Sweep) (x p : Point) {taken : Bool} →
     taken ≡ accepts w.mode w.direction x.along p.along →
     taken ≡ false →
-    Never ≡ sweep_rank w x p
+    None ≡ sweep_rank w x p
 unfolding sweep_rank
 passed_over w x p taken_is is = rw (← taken_is, is)
 

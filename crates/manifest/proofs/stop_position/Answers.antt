@@ -1,7 +1,0 @@
--- manifest::stop_position meets its contract.
-use Rattle.manifest.specs.Stops.{position_in}
-use Rattle.manifest.proofs.stop_position.Goals as goal
-
-pub returns : goal.returns
-unfolding position_in
-returns c = cc

@@ -1,9 +1,0 @@
--- replay_travel::agrees meets its contract.
-use mathlib.Core.Path.{sym}
-use Rattle.replay_travel.proofs.agrees.Goals as goal
-
-pub returns-then-got-expected : goal.returns-then-got-expected
-returns-then-got-expected g c = sym c.if-got-expected.true
-
-pub returns : goal.returns
-returns g c = sym c.if-got-expected.false
