@@ -7,6 +7,10 @@ unfoldable pub number : List ℕ → ℕ → ℕ → ℕ
 number s at zero = 0
 number s at (suc n) = number s at n * 256 + get_or s (at + n) 0
 
+-- the k-th of the numbers from byte at on, w bytes each
+abbrev pub number_in : List ℕ → ℕ → ℕ → ℕ → ℕ
+number_in s at w k = number s (at + w * k) w
+
 -- a refusal as it is stored from byte at on
 abbrev pub verdict_at : List ℕ → ℕ → Verdict
 verdict_at s at = record { number = number s at 1; offset = number s (at + 1) 4 }

@@ -2,14 +2,16 @@
 #![tactic(auto)]
 
 ghost use Rattle.std.specs.Prelude.{◌≡◌, ℕ, List, ◌+◌, ◌≤◌, ◌<◌, ◌^◌, ◌*◌, length, take, not, Option, IfSome, IfOk, OnErr};
+ghost use Rattle.laws.specs.Tables.{tab};
 ghost use Rattle.std.specs.Io.{ReadsAtMost};
 ghost use Rattle.std.specs.Io.KnownBytes.{Consumes, IsAtEnd};
-ghost use Rattle.lists.specs.Lists.{number, part_length, verdict_at};
+ghost use Rattle.lists.specs.Lists.{number, number_in, part_length, verdict_at};
 ghost use Rattle.lists.specs.Turns.{Turned, Replayed};
 ghost use Rattle.lists.specs.Compared.{turn_by, no_case, AllCompared, Counted, IsWithin};
 ghost use Rattle.lists.specs.declared.Case.{Case};
 ghost use Rattle.lists.specs.declared.Step.{Step};
 
+use layout::Refusal;
 use std::alloc::Global;
 use std::fmt::Display;
 use std::io::Read;
@@ -27,12 +29,35 @@ pub fn number(s: &[u8], at: usize, n: usize) -> u64
     r
 }
 
-// A refusal as lists store it: its number, a byte, and its offset, four bytes. Both are 0 where nothing is refused. Not an Option: a list may store
-// an offset beside number 0, which differs from every answer and is printed with both.
-#[derive(Clone, Copy, PartialEq, Eq)]
+// What `read` makes of the numbers from byte at on, width bytes each: as many as the buffer has places.
+pub fn fill<T: Copy, F: Fn(u64) -> T>(s: &[u8], at: usize, width: usize, read: F, out: &mut [T])
+    requires stored { (width ≤ 8) × (at + width * length out.old ≤ length s.now) }
+    requires can { (x : ℕ) → x < 2 ^ (8 * width) → F.pre read x }
+    ensures { (f : ℕ → T) → ((k : ℕ) (x : T) → k < length out.old → F.post read (number_in s.now at width k) x → x ≡ f k)
+        → out.new ≡ tab f (length out.old) }
+{
+    for k in 0..out.len() {
+        out[k] = read(number(s, at + width * k, width));
+    }
+}
+
+// A refusal as lists store it: its number, a byte, and its offset, four bytes. Both are 0 where nothing is refused, as by default. Not an Option: a
+// list may store an offset beside number 0, which differs from every answer and is printed with both.
+#[derive(Clone, Copy, Default, PartialEq, Eq)]
 pub struct Verdict {
     pub number: u64,
     pub offset: u64,
+}
+
+impl From<Refusal> for Verdict {
+    ghost from_gives = { λ refusal x. x ≡ record { number = refusal.number; offset = refusal.offset } };
+
+    fn from(refusal: Refusal) -> Self {
+        Verdict {
+            number: u64::from(refusal.number),
+            offset: refusal.offset,
+        }
+    }
 }
 
 impl fmt::Display for Verdict {
@@ -94,6 +119,7 @@ pub fn read_list<R: Read>(alloc: Global, input: &mut R, limit: usize) -> io::Res
     ensures within { IfOk result (λ list. length list.items ≤ limit) }
     ensures bytes { IfOk result (λ list. Consumes (R.remaining input.old) (R.remaining input.new) list.items) }
     ensures whole { IfOk result (λ list. length list.items < limit → IsAtEnd (R.remaining input.new)) }
+    ensures err { OnErr result ((read : List ℕ) × Consumes (R.remaining input.old) (R.remaining input.new) read) }
 {
     let mut list = vec![in alloc; 0; limit]?;
     let n = read_full(input, &mut list)?;
@@ -138,11 +164,11 @@ pub fn replay_all<T: Replay>(rt: &impl Print, s: &[u8], start: T) -> T
     totals
 }
 
-// A case at byte at that is cut short: the run ends there, with these totals.
-pub fn cut<T>(rt: &impl Print, s: &[u8], at: usize, totals: T) -> Step<T>
+// What starts at byte at, a case or what a list has in its place, is cut short: the run ends there, with these totals.
+pub fn cut<T>(rt: &impl Print, name: &str, s: &[u8], at: usize, totals: T) -> Step<T>
     ensures { result ≡ record { next = length s.now; totals = totals } }
 {
-    let _ = println!(rt; "no whole case at byte {at}");
+    let _ = println!(rt; "no whole {name} at byte {at}");
     Step {
         next: s.len(),
         totals,
@@ -158,6 +184,16 @@ pub fn differs<A: PartialEq + Display>(rt: &impl Print, at: usize, got: &A, expe
     }
     let _ = println!(rt; "the case at byte {at}: got {got}, expected {expected}");
     true
+}
+
+// Whether the case at byte at differs; where it does, that is printed.
+pub fn noted(rt: &impl Print, at: usize, differs: bool) -> bool
+    ensures { result ≡ differs }
+{
+    if differs {
+        let _ = println!(rt; "differs: the case at byte {at}");
+    }
+    differs
 }
 
 // A case that was compared: where the next one starts, whether it is one of those that are counted apart, and whether it differs.
@@ -210,6 +246,7 @@ impl<C: Cases> Replay for Tally<C> {
         match self.cases.case_at(rt, s, at) {
             None => cut(
                 rt,
+                "case",
                 s,
                 at,
                 Tally {

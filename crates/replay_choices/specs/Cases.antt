@@ -1,13 +1,13 @@
 -- A stored matrix, and what the matcher answers and leaves. Assumes nothing.
 use Rattle.std.specs.Prelude.{Option}
-use Rattle.std.specs.Prelude.{ℕ, ◌+◌, ◌-◌, ◌*◌, ◌≤◌, ◌<◌, ◌≡◌, Bool, true, false, not, ◌&&◌, ◌||◌, cond, List, eqb, ltb, length, get_or, replicate, Option, Some, None}
-use Rattle.std.proofs.Common.{ap, ap₂, ◌∙◌, mul-le-mul_right, arith}
-use Rattle.std.proofs.Math.Bool.{or-true}
-use borrow.Author.Tests.{lt-ltb, le-ltb, ltb-false, eq-eqb, ne_eqb}
+use Rattle.std.specs.Prelude.{ℕ, ◌+◌, ◌-◌, ◌*◌, ◌≤◌, ◌≡◌, Bool, false, not, ◌&&◌, ◌||◌, List, eqb, ltb, length, get_or, replicate, Option}
+use Rattle.std.proofs.Common.{ap, ap₂, ◌∙◌}
+use borrow.Author.Tests.{ltb-false}
 use Rattle.laws.specs.Bools.{neither_left, neither_right}
 use Rattle.laws.specs.Folds.{any}
 use Rattle.laws.specs.Tables.{tab}
-use Rattle.lists.specs.Lists.{number}
+use Rattle.lists.specs.Lists.{number, number_in}
+use Rattle.lists.specs.Heads.{headed, by_head}
 use Rattle.lists.specs.Compared.{AllCompared}
 use Rattle.lists.specs.declared.Case.{Case}
 use Rattle.lists.specs.declared.Tally.{Tally}
@@ -33,10 +33,6 @@ head_at s at =
       width = number s (at + 3) 1;
       cells = number s (at + 4) 2;
     }
-
--- cells of w bytes each from byte at on
-abbrev pub cell_in : List ℕ → ℕ → ℕ → ℕ → ℕ
-cell_in s at w k = number s (at + k * w) w
 
 -- where the answer is stored: a byte for its number, eight for its total, then a byte a place
 abbrev pub answer_at : ℕ → Head → ℕ
@@ -65,7 +61,7 @@ apart s at got left =
 -- so it is for the matcher's promise
 unfoldable pub differ : List ℕ → ℕ → Head → Bool
 differ s at h =
-    let cells = tab (cell_in s (at + 6) h.width) h.cells in
+    let cells = tab (number_in s (at + 6) h.width) h.cells in
     apart s (answer_at at h) (answer_of (matching h.cars h.columns cells (length (blanks h.places))))
     (written h.cars h.columns cells (blanks h.places))
 
@@ -74,16 +70,12 @@ abbrev pub compared_at : List ℕ → ℕ → Head → Case
 compared_at s at h = record { next = end_of at h; marked = false; differs = differ s at h }
 
 -- the head of the case at byte at, where a whole one stands there
-unfoldable pub whole_at : List ℕ → ℕ → Option Head
-whole_at s at = cond (ltb (length s - at) 15) None (cond (broken (head_at s at) (length s - at)) None (Some (head_at s at)))
-
-abbrev pub compared_by : Option Head → List ℕ → ℕ → Option Case
-compared_by None s at = None
-compared_by (Some h) s at = Some (compared_at s at h)
+abbrev pub whole_at : List ℕ → ℕ → Option Head
+whole_at s at = headed 15 head_at broken s at
 
 -- the case at byte at, where a whole one stands there
 abbrev pub case_of : List ℕ → ℕ → Option Case
-case_of s at = compared_by (whole_at s at) s at
+case_of s at = by_head compared_at (whole_at s at) s at
 
 -- the totals after the whole list
 abbrev pub Replayed : List ℕ → Tally Matrices → Type 0
@@ -98,24 +90,7 @@ pub record Fitting (h : Head) (left : ℕ) : Type 0 where
   pub cells : h.cells ≤ 2048
   pub within : 15 + h.cells * h.width + h.places ≤ left
 
--- each thing that may be wrong is enough
 module _ (h : Head) (left : ℕ) where
-  pub wide_cells : 8 < h.width → true ≡ broken h left
-  unfolding broken
-  wide_cells l = rw (lt-ltb 8 h.width l)
-
-  pub many_places : 64 < h.places → true ≡ broken h left
-  unfolding broken
-  many_places l = rw (lt-ltb 64 h.places l) (simp or-true)
-
-  pub many_cells : 2048 < h.cells → true ≡ broken h left
-  unfolding broken
-  many_cells l = rw (lt-ltb 2048 h.cells l) (simp or-true)
-
-  pub else_long : h.width ≤ 8 → h.places ≤ 64 → h.cells ≤ 2048 → ltb left (15 + h.cells * h.width + h.places) ≡ broken h left
-  unfolding broken
-  else_long a b c = rw (le-ltb 8 h.width a, le-ltb 64 h.places b, le-ltb 2048 h.cells c)
-
   pub not_broken : broken h left ≡ false → Fitting h left
   unfolding broken
   not_broken e =
@@ -129,27 +104,13 @@ module _ (h : Head) (left : ℕ) where
         within = ltb-false left (15 + h.cells * h.width + h.places) c;
       }
 
--- so few cells of so few bytes are few bytes
-pub few_bytes : (cells width : ℕ) → cells ≤ 2048 → width ≤ 8 → cells * width ≤ 16384
-few_bytes cells width a b = omega (arith, mul-le-mul_right width a)
-
-pub misplaced_yes : (s : List ℕ) (at : ℕ) (places : List ℕ) (k : ℕ) {x y : ℕ} → x ≡ get_or places k 0 → y ≡ number s (at + k) 1
-    → (x ≡ y → ⊥)
-    → misplaced s at places k ≡ true
-misplaced_yes s at places k {x} {y} a b h = rw (← a, ← b, ne_eqb x y h)
-
-pub misplaced_no : (s : List ℕ) (at : ℕ) (places : List ℕ) (k : ℕ) {x y : ℕ} → x ≡ get_or places k 0 → y ≡ number s (at + k) 1
-    → x ≡ y
-    → misplaced s at places k ≡ false
-misplaced_no s at places k {x} {y} a b h = rw (← a, ← b, eq-eqb x y h)
-
 pub differ_by : (s : List ℕ) (at : ℕ) (h : Head) {n p : ℕ} {cells places left : List ℕ} {m : Option ℕ} {got : Answer} {r : Bool}
-    → n ≡ h.cells → cells ≡ tab (cell_in s (at + 6) h.width) n → p ≡ h.places → places ≡ blanks p
+    → n ≡ h.cells → cells ≡ tab (number_in s (at + 6) h.width) n → p ≡ h.places → places ≡ blanks p
     → m ≡ matching h.cars h.columns cells (length places) → left ≡ written h.cars h.columns cells places → got ≡ answer_of m
     → r ≡ apart s (answer_at at h) got left → r ≡ differ s at h
 unfolding differ
 differ_by s at h {n} {p} {cells} {places} {left} {m} {got} en ec ep eb em el eg er =
-    let c : cells ≡ tab (cell_in s (at + 6) h.width) h.cells = ec ∙ ap (tab (cell_in s (at + 6) h.width)) en in
+    let c : cells ≡ tab (number_in s (at + 6) h.width) h.cells = ec ∙ ap (tab (number_in s (at + 6) h.width)) en in
     let b : places ≡ blanks h.places = eb ∙ ap blanks ep in
     er ∙ ap₂ (λ (a : Answer) (l : List ℕ). apart s (answer_at at h) a l)
     (eg ∙ ap answer_of (em ∙ ap₂ (λ (x y : List ℕ). matching h.cars h.columns x (length y)) c b))

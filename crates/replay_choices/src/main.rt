@@ -14,8 +14,7 @@
 
 ghost use Rattle.std.specs.Prelude.{◌≡◌, ◌+◌, ◌-◌, ◌*◌, ◌≤◌, ◌<◌, length, IfSome};
 ghost use Rattle.laws.specs.Folds.{any};
-ghost use Rattle.laws.specs.Tables.{tab};
-ghost use Rattle.replay_choices.specs.Cases.{answer_of, stored_at, head_at, whole_at, cell_in, broken, misplaced, apart, differ, compared_at, case_of};
+ghost use Rattle.replay_choices.specs.Cases.{answer_of, stored_at, head_at, whole_at, broken, misplaced, apart, differ, compared_at, case_of};
 ghost use Rattle.replay_choices.specs.Cases.{Fitting, Replayed};
 
 use lists::{Case, Cases, Tally};
@@ -85,25 +84,18 @@ fn head_at(s: &[u8], at: usize) -> Head
 }
 
 // Whether the case is longer than the bytes that are left, or larger than there is room for.
+#[tactic(auto, unfolding(crate::specs::Cases::broken))]
 fn is_broken(h: Head, left: usize) -> bool
     ensures is { result ≡ broken h left }
 {
-    let width = h.width;
-    let places = h.places;
-    let cells = h.cells;
-    if 8 < width {
+    if 8 < h.width || 64 < h.places || 2048 < h.cells {
         return true;
     }
-    if 64 < places {
-        return true;
-    }
-    if 2048 < cells {
-        return true;
-    }
-    left < 15 + cells * width + places
+    left < 15 + h.cells * h.width + h.places
 }
 
-// The head of the case at byte at, where a whole one stands there.
+// The head of the case at byte at, where a whole one stands there. Not one function with that of replay_grades: the heads have other fields, and are
+// broken by other tests.
 fn whole_at(s: &[u8], at: usize) -> Option<Head>
     requires { at < length s.now }
     ensures is { result ≡ whole_at s.now at }
@@ -114,20 +106,7 @@ fn whole_at(s: &[u8], at: usize) -> Option<Head>
         return None;
     }
     let h = head_at(s, at);
-    if is_broken(h, left) {
-        return None;
-    }
-    Some(h)
-}
-
-// The cells from byte at on, of width bytes each.
-fn fill(s: &[u8], at: usize, width: usize, cells: &mut [u64])
-    requires { (width ≤ 8) × (length cells.old ≤ 2048) × (at + length cells.old * width ≤ length s.now) }
-    ensures { cells.new ≡ tab (cell_in s.now at width) (length cells.old) }
-{
-    for k in 0..cells.len() {
-        cells[k] = lists::number(s, at + k * width, width);
-    }
+    if is_broken(h, left) { None } else { Some(h) }
 }
 
 // Whether some place does not hold what is stored from byte at on.
@@ -135,12 +114,7 @@ fn is_misplaced(s: &[u8], at: usize, places: &[u32]) -> bool
     requires { at + length places.now ≤ length s.now }
     ensures { result ≡ any (misplaced s.now at places.now) (length places.now) }
 {
-    for k in 0..places.len() {
-        if u64::from(places[k]) != lists::number(s, at + k, 1) {
-            return true;
-        }
-    }
-    false
+    (0..places.len()).any(|k| u64::from(places[k]) != lists::number(s, at + k, 1))
 }
 
 // Whether the answer, or what it left in the places, is not as stored from byte at on.
@@ -148,8 +122,7 @@ fn is_apart(s: &[u8], at: usize, got: Answer, places: &[u32]) -> bool
     requires { at + 9 + length places.now ≤ length s.now }
     ensures { result ≡ apart s.now at got places.now }
 {
-    let misplaced = is_misplaced(s, at + 9, places);
-    (got != stored_at(s, at)) | misplaced
+    got != stored_at(s, at) || is_misplaced(s, at + 9, places)
 }
 
 // Whether the matcher differs from what is stored of the case at byte at.
@@ -161,7 +134,7 @@ fn differs(s: &[u8], at: usize, h: Head) -> bool
     let mut places = [99u32; 64];
     let cells = &mut cells[..h.cells];
     let places = &mut places[..h.places];
-    fill(s, at + 6, h.width, cells);
+    lists::fill(s, at + 6, h.width, |x| x, cells);
     let got = answer_of(matcher::assign(h.cars, h.columns, cells, places));
     is_apart(s, at + 6 + h.cells * h.width, got, places)
 }
@@ -171,14 +144,10 @@ fn compare(rt: &impl Print, s: &[u8], at: usize, h: Head) -> Case
     requires { (at < length s.now) × Fitting h (length s.now - at) }
     ensures { result ≡ compared_at s.now at h }
 {
-    let differs = differs(s, at, h);
-    if differs {
-        let _ = println!(rt; "differs: the case at byte {at}");
-    }
     Case {
         next: at + 6 + h.cells * h.width + 9 + h.places,
         marked: false,
-        differs,
+        differs: lists::noted(rt, at, differs(s, at, h)),
     }
 }
 

@@ -2,7 +2,7 @@
 use Rattle.std.specs.Prelude.{Result}
 use Rattle.layout.specs.declared.Refusal.{Refusal}
 use Rattle.grade.specs.declared.Graded.{Graded}
-use Rattle.std.specs.Prelude.{ℕ, ◌+◌, ◌-◌, ◌*◌, ◌≤◌, ◌<◌, ◌≡◌, Bool, false, not, ◌&&◌, ◌||◌, cond, List, eqb, ℤ, pos, negsuc, length, get_or, take, drop, replicate, Option, Some, None}
+use Rattle.std.specs.Prelude.{ℕ, ◌+◌, ◌-◌, ◌*◌, ◌≤◌, ◌<◌, ◌≡◌, Bool, false, not, ◌&&◌, ◌||◌, cond, List, eqb, ℤ, pos, negsuc, length, get_or, take, drop, replicate, Option}
 use Rattle.std.proofs.Common.{ap, ap₂, ◌∙◌, ⊎_elim, arith, to_z-of_z, to_z, of_z}
 use Rattle.std.proofs.Math.Dec.{ltb}
 use Rattle.std.specs.Int.{w64}
@@ -10,7 +10,8 @@ use borrow.Author.Tests.{lt-ltb, le-ltb, ltb-false}
 use Rattle.laws.specs.Bools.{less?, neither_left, neither_right}
 use Rattle.laws.specs.Folds.{any}
 use Rattle.laws.specs.Tables.{tab}
-use Rattle.lists.specs.Lists.{number, verdict_at}
+use Rattle.lists.specs.Lists.{number, number_in, verdict_at}
+use Rattle.lists.specs.Heads.{headed, by_head}
 use Rattle.lists.specs.Compared.{AllCompared}
 use Rattle.lists.specs.declared.Case.{Case}
 use Rattle.lists.specs.declared.Tally.{Tally}
@@ -59,15 +60,12 @@ unfoldable pub signed : ℕ → ℤ
 signed x = cond (ltb x 9_223_372_036_854_775_808) (pos x) (negsuc (x - 9_223_372_036_854_775_808))
 
 -- what is stored from byte at on
-abbrev pub column_in : List ℕ → ℕ → ℕ → ℕ
-column_in s at k = number s (at + 4 * k) 4
-
 abbrev pub price_in : List ℕ → ℕ → ℕ → ℤ
-price_in s at k = signed (number s (at + 8 * k) 8)
+price_in s at k = signed (number_in s at 8 k)
 
 unfoldable pub sent_at : List ℕ → ℕ → Head → Sent
 sent_at s at h =
-    sent (tab (column_in s (columns_at at h)) h.columns) (tab (price_in s (cars_at at h)) h.cars) (tab (price_in s (prices_at at h)) h.prices)
+    sent (tab (number_in s (columns_at at h) 4) h.columns) (tab (price_in s (cars_at at h)) h.cars) (tab (price_in s (prices_at at h)) h.prices)
 
 -- the case is longer than the bytes that are left, or larger than there is room for
 unfoldable pub broken : Head → ℕ → Bool
@@ -102,16 +100,12 @@ abbrev pub compared_at : List ℕ → ℕ → Head → Case
 compared_at s at h = record { next = end_of at h; marked = eqb h.stored.least 1; differs = differ s at h }
 
 -- the head of the case at byte at, where a whole one stands there
-unfoldable pub whole_at : List ℕ → ℕ → Option Head
-whole_at s at = cond (ltb (length s - at) 15) None (cond (broken (head_at s at) (length s - at)) None (Some (head_at s at)))
-
-abbrev pub compared_by : Option Head → List ℕ → ℕ → Option Case
-compared_by None s at = None
-compared_by (Some h) s at = Some (compared_at s at h)
+abbrev pub whole_at : List ℕ → ℕ → Option Head
+whole_at s at = headed 15 head_at broken s at
 
 -- the case at byte at, where a whole one stands there
 abbrev pub case_of : List ℕ → ℕ → Option Case
-case_of s at = compared_by (whole_at s at) s at
+case_of s at = by_head compared_at (whole_at s at) s at
 
 -- the totals after the whole list
 abbrev pub Replayed : List ℕ → Tally Choices → Type 0
@@ -172,20 +166,20 @@ signed_back x l =
     (less? x 9_223_372_036_854_775_808)
 
 pub differ_by : (s : List ℕ) (at : ℕ) (h : Head) {n a b c d : ℕ} {columns left : List ℕ} {u v : List ℤ} {matrix : List ℕ} {g : Result Graded Refusal}
-    {got : Answer} {r : Bool} → n ≡ h.bytes → Lent h a b c d → columns ≡ tab (column_in s (columns_at at h)) a
+    {got : Answer} {r : Bool} → n ≡ h.bytes → Lent h a b c d → columns ≡ tab (number_in s (columns_at at h) 4) a
     → u ≡ tab (price_in s (cars_at at h)) b → v ≡ tab (price_in s (prices_at at h)) c → matrix ≡ blanks d
     → done g left ≡ grade_of (take n (drop (at + 15) s)) (sent columns u v) matrix → got ≡ answer_of g → r ≡ apart s (cells_at at h) h got left
     → r ≡ differ s at h
 unfolding differ sent_at
 differ_by s at h {n} {a} {b} {c} {d} {columns} {left} {u} {v} {matrix} {g} {got} en l ec eu ev em eg ea er =
     let bytes = take h.bytes (drop (at + 15) s) in
-    let ec' = ec ∙ ap (tab (column_in s (columns_at at h))) l.one_a_column in
+    let ec' = ec ∙ ap (tab (number_in s (columns_at at h) 4)) l.one_a_column in
     let eu' = eu ∙ ap (tab (price_in s (cars_at at h))) l.one_a_car in
     let ev' = ev ∙ ap (tab (price_in s (prices_at at h))) l.one_a_price in
     let em' = em ∙ ap blanks l.one_a_cell in
     let e : done g left ≡ grade_of bytes (sent_at s at h) (blanks h.lent) =
     eg ∙ ap (λ (k : ℕ). grade_of (take k (drop (at + 15) s)) (sent columns u v) matrix) en
     ∙ ap (λ (x : List ℕ). grade_of bytes (sent x u v) matrix) ec'
-    ∙ ap₂ (λ (x y : List ℤ). grade_of bytes (sent (tab (column_in s (columns_at at h)) h.columns) x y) matrix) eu' ev'
+    ∙ ap₂ (λ (x y : List ℤ). grade_of bytes (sent (tab (number_in s (columns_at at h) 4) h.columns) x y) matrix) eu' ev'
     ∙ ap (grade_of bytes (sent_at s at h)) em' in
     er ∙ ap₂ (λ (x : Answer) (y : List ℕ). apart s (cells_at at h) h x y) (ea ∙ ap (λ (k : Done). answer_of k.answer) e) (ap (λ (k : Done). k.cells) e)

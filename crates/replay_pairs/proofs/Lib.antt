@@ -1,2 +1,1 @@
 pub mod AddedLaws
-pub mod Every

@@ -55,8 +55,9 @@ struct Compared {
     lower: bool,
 }
 
-// Pairs; those with the limit raised, and of them with a lower total; those with bars added, and of them under a limit and with a lower total.
-#[derive(Clone, Copy)]
+// Pairs; those with the limit raised, and of them with a lower total; those with bars added, and of them under a limit and with a lower total. Not
+// a `lists::Tally`: that has one kind apart, and each of its counts grows by at most one a case; cells and differences grow by more.
+#[derive(Clone, Copy, Default)]
 struct Totals {
     pairs: u64,
     raised: u64,
@@ -72,7 +73,7 @@ struct Totals {
 fn of_limit(k: usize) -> bool
     ensures { result ≡ of_limit k }
 {
-    (k == 6) | (k == 7)
+    k == 6 || k == 7
 }
 
 // Whether byte k is the same in both, or of the limit.
@@ -80,28 +81,21 @@ fn same_at(first: &[u8], second: &[u8], k: usize) -> bool
     requires { (k < length first.now) × (k < length second.now) }
     ensures { result ≡ agree_at first.now second.now k }
 {
-    of_limit(k) | (first[k] == second[k])
+    of_limit(k) || first[k] == second[k]
 }
 
 // Whether two sheets agree in every byte but those of the limit.
 fn agree(first: &[u8], second: &[u8]) -> bool
     ensures { result ≡ agree first.now second.now }
 {
-    if first.len() != second.len() {
-        return false;
-    }
-    for k in 0..first.len() {
-        if !same_at(first, second, k) {
-            return false;
-        }
-    }
-    true
+    first.len() == second.len() && (0..first.len()).all(|k| same_at(first, second, k))
 }
 
+#[tactic(auto, unfolding(crate::specs::Pairs::is_pair))]
 fn is_pair(first: &[u8], second: &[u8]) -> bool
     ensures { result ≡ is_pair first.now second.now }
 {
-    agree(first, second) & (sheet::limit(first) < sheet::limit(second))
+    agree(first, second) && sheet::limit(first) < sheet::limit(second)
 }
 
 // Whether bit b is of the restricted mask of car i.
@@ -110,7 +104,7 @@ fn of_mask(c: Counts, b: u32, i: u32) -> bool
     ensures { result ≡ of_mask c b i }
 {
     let from = c.car_start(i) + (car::RESTRICTED + c.across);
-    !(b < from) & (b < from + 64)
+    from <= b && b < from + 64
 }
 
 // Of some car's.
@@ -118,12 +112,7 @@ fn of_masks(c: Counts, b: u32) -> bool
     requires { Small c }
     ensures { result ≡ of_masks c b }
 {
-    for i in 0..c.cars {
-        if of_mask(c, b, i) {
-            return true;
-        }
-    }
-    false
+    (0..c.cars).any(|i| of_mask(c, b, i))
 }
 
 // Whether bit b is the same in both, or a bar that is added.
@@ -133,19 +122,14 @@ fn added_at(c: Counts, first: &[u8], second: &[u8], b: u32) -> bool
 {
     let x = bits::field(first, 0, b, 1);
     let y = bits::field(second, 0, b, 1);
-    (x == y) | ((x == 0) & of_masks(c, b))
+    x == y || (x == 0 && of_masks(c, b))
 }
 
 fn added(c: Counts, first: &[u8], second: &[u8]) -> bool
     requires { Small c × (length first.now ≤ 27283) }
     ensures { result ≡ added c first.now second.now }
 {
-    for b in 0..8 * first.len() as u32 {
-        if !added_at(c, first, second, b) {
-            return false;
-        }
-    }
-    true
+    (0..8 * first.len() as u32).all(|b| added_at(c, first, second, b))
 }
 
 // Whether the second sheet is the first with bars added.
@@ -167,7 +151,7 @@ fn is_barred(first: &[u8], second: &[u8]) -> bool
 fn is_limited(s: &[u8]) -> bool
     ensures { result ≡ is_limited s.now }
 {
-    !(sheet::limit(s) == 65535)
+    sheet::limit(s) != 65535
 }
 
 impl Change {
@@ -186,7 +170,7 @@ impl Change {
     fn is_one(self) -> bool
         ensures { result ≡ is_one self }
     {
-        self.raised | self.barred
+        self.raised || self.barred
     }
 }
 
@@ -278,10 +262,10 @@ impl Totals {
         Totals {
             pairs: self.pairs + 1,
             raised: self.raised + u64::from(change.raised),
-            lower: self.lower + u64::from(change.raised & lower),
+            lower: self.lower + u64::from(change.raised && lower),
             barred: self.barred + u64::from(change.barred),
-            limited: self.limited + u64::from(change.barred & change.limited),
-            fallen: self.fallen + u64::from(change.barred & lower),
+            limited: self.limited + u64::from(change.barred && change.limited),
+            fallen: self.fallen + u64::from(change.barred && lower),
             cells: self.cells + cells,
             differ: self.differ + u64::from(!change.is_one()) + differ,
         }
@@ -312,14 +296,11 @@ impl Totals {
         requires { (at < length s.now) × Counted at self }
         ensures { Turned s.now at (cut_at s.now self) result }
     {
-        let _ = println!(rt; "no whole pair at byte {at}");
-        Step {
-            next: s.len(),
-            totals: Totals {
-                differ: self.differ + 1,
-                ..self
-            },
-        }
+        let totals = Totals {
+            differ: self.differ + 1,
+            ..self
+        };
+        lists::cut(rt, "pair", s, at, totals)
     }
 
     // The pair at byte at, whose first case is whole.
@@ -350,17 +331,7 @@ impl Replay for Totals {
 fn run(rt: &impl Print, s: &[u8]) -> Totals
     ensures { Replayed s.now result }
 {
-    let none = Totals {
-        pairs: 0,
-        raised: 0,
-        lower: 0,
-        barred: 0,
-        limited: 0,
-        fallen: 0,
-        cells: 0,
-        differ: 0,
-    };
-    lists::replay_all(rt, s, none)
+    lists::replay_all(rt, s, Totals::default())
 }
 
 fn main(rt: HostRuntime) -> io::Result<()> {

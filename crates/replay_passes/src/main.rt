@@ -24,7 +24,7 @@ use stored_passes::{Buffers, Stored, Tally};
 // The list's bytes that are read.
 const LIMIT: usize = 131072;
 
-#[derive(Clone, Copy)]
+#[derive(Clone, Copy, Default)]
 struct Totals {
     sheets: u64,
     built: u64,
@@ -80,6 +80,7 @@ impl Replay for Totals {
             Some(p) => self.compare(rt, s, at, p),
             None => lists::cut(
                 rt,
+                "case",
                 s,
                 at,
                 Totals {
@@ -94,13 +95,7 @@ impl Replay for Totals {
 fn run(rt: &impl Print, s: &[u8]) -> Totals
     ensures { Replayed s.now result }
 {
-    let none = Totals {
-        sheets: 0,
-        built: 0,
-        cells: 0,
-        differ: 0,
-    };
-    lists::replay_all(rt, s, none)
+    lists::replay_all(rt, s, Totals::default())
 }
 
 fn main(rt: HostRuntime) -> io::Result<()> {

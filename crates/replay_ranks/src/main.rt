@@ -90,7 +90,7 @@ impl Replay for Totals {
                 differ: self.differ + 1,
                 ..self
             };
-            return lists::cut(rt, s, at, totals);
+            return lists::cut(rt, "case", s, at, totals);
         }
         let start = at + 2;
         let end = case.end;
@@ -271,7 +271,7 @@ fn count_differ<'a>(
     let mut d: u64 = 0;
     for k in 0..case.pairs {
         let p = pair_at(s, case, k);
-        d += u64::from(differs(rt, b, c, p, at, first & (d == 0)));
+        d += u64::from(differs(rt, b, c, p, at, first && d == 0));
     }
     d
 }

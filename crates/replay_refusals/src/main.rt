@@ -35,14 +35,8 @@ fn answer_of(r: Result<Counts, Refusal>) -> Verdict
     ensures { result ≡ answer_of r }
 {
     match r {
-        Err(refusal) => Verdict {
-            number: u64::from(refusal.number),
-            offset: refusal.offset,
-        },
-        Ok(_) => Verdict {
-            number: 0,
-            offset: 0,
-        },
+        Err(refusal) => Verdict::from(refusal),
+        Ok(_) => Verdict::default(),
     }
 }
 

@@ -1,7 +1,7 @@
 -- What a stored case asks, and what the look-up answers. Assumes nothing.
 use Rattle.std.specs.Prelude.{Err, Ok, Result}
 use Rattle.layout.specs.declared.Refusal.{Refusal}
-use Rattle.std.specs.Prelude.{ℕ, ◌+◌, Bool, not, ◌&&◌, List, [], ◌∷◌, eqb, length, take, drop, Option, Some, None}
+use Rattle.std.specs.Prelude.{ℕ, ◌+◌, Bool, not, ◌&&◌, List, [], ◌∷◌, eqb, length, take, drop, Option}
 use Rattle.std.specs.Cmp.Lexicographic.{pointwise}
 use Rattle.std.specs.Float.{binary64}
 use Rattle.std.specs.Float.Ieee.{to_bits}
@@ -10,6 +10,7 @@ use Rattle.components.specs.Codes.{strategy_of}
 use Rattle.weights.specs.declared.answer.SixWeights.{SixWeights}
 use Rattle.weights.specs.Answers.{weights_of, used_by}
 use Rattle.lists.specs.Lists.{number, part_length, verdict_at}
+use Rattle.lists.specs.Heads.{by_head}
 use Rattle.lists.specs.Compared.{AllCompared}
 use Rattle.lists.specs.declared.Case.{Case}
 use Rattle.lists.specs.declared.Tally.{Tally}
@@ -67,12 +68,8 @@ compared_at s at n =
     }
 
 -- the case at byte at, where a whole one stands there
-abbrev pub compared_by : Option ℕ → List ℕ → ℕ → Option Case
-compared_by None s at = None
-compared_by (Some n) s at = Some (compared_at s at n)
-
 abbrev pub case_of : List ℕ → ℕ → Option Case
-case_of s at = compared_by (part_length s at 60) s at
+case_of s at = by_head compared_at (part_length s at 60) s at
 
 -- the totals after the whole list
 abbrev pub Replayed : List ℕ → Tally Stores → Type 0

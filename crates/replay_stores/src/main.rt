@@ -62,10 +62,7 @@ fn found(six: SixWeights) -> Answer
 {
     let weights = [six.w0, six.w1, six.w2, six.w3, six.w4, six.w5];
     Answer {
-        verdict: Verdict {
-            number: 0,
-            offset: 0,
-        },
+        verdict: Verdict::default(),
         weights: weights.map(double_bits::bits_of),
     }
 }
@@ -76,10 +73,7 @@ fn answer_of(weights: Result<SixWeights, Refusal>, strategy: Strategy) -> Answer
     match weights {
         Ok(six) => found(six.for_strategy(strategy)),
         Err(refusal) => Answer {
-            verdict: Verdict {
-                number: u64::from(refusal.number),
-                offset: refusal.offset,
-            },
+            verdict: Verdict::from(refusal),
             weights: [0; 6],
         },
     }

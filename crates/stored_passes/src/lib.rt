@@ -226,28 +226,31 @@ fn entries_met<T: Copy + Into<u64>>(
 }
 
 // A pass beside the case: every entry that is stored is met once.
-fn compared(
-    s: &[u8],
-    p: Stored,
-    cars: u64,
-    stops: u64,
-    total: u64,
-    held: u64,
-    left: &Buffers,
-) -> Tally
+fn compared(s: &[u8], p: Stored, passed: Passed, left: &Buffers) -> Tally
     requires { Inside s.now p }
-    ensures tally { result ≡ case_tally s.now p cars stops total held left.now.decisions left.now.matrix left.now.sweeps }
-    ensures differ { result.differ ≡ case_differs s.now p cars stops total held left.now.decisions
-        left.now.matrix left.now.sweeps }
+    ensures tally { result ≡ case_tally s.now p passed.cars passed.stops passed.total passed.held
+        left.now.decisions left.now.matrix left.now.sweeps }
+    ensures differ { result.differ ≡ case_differs s.now p passed.cars passed.stops passed.total passed.held
+        left.now.decisions left.now.matrix left.now.sweeps }
 {
     let none = Tally {
         differ: 0,
         first: None,
     };
-    let a = none.met(Entry::Cars, 0, cars, lists::number(s, p.end, 1));
-    let b = a.met(Entry::Stops, 0, stops, lists::number(s, p.end + 1, 1));
-    let c = b.met(Entry::Total, 0, total, lists::number(s, p.end + 2, 8));
-    let d = c.met(Entry::Held, 0, held, lists::number(s, p.end + 10, 2));
+    let a = none.met(Entry::Cars, 0, passed.cars, lists::number(s, p.end, 1));
+    let b = a.met(
+        Entry::Stops,
+        0,
+        passed.stops,
+        lists::number(s, p.end + 1, 1),
+    );
+    let c = b.met(
+        Entry::Total,
+        0,
+        passed.total,
+        lists::number(s, p.end + 2, 8),
+    );
+    let d = c.met(Entry::Held, 0, passed.held, lists::number(s, p.end + 10, 2));
     let e = entries_met(
         s,
         p.decisions,
@@ -276,15 +279,7 @@ pub fn answered(s: &[u8], p: Stored, answer: Result<Passed, Refusal>, left: &Buf
                 theirs: 0,
             }),
         },
-        Ok(passed) => compared(
-            s,
-            p,
-            passed.cars,
-            passed.stops,
-            passed.total,
-            passed.held,
-            left,
-        ),
+        Ok(passed) => compared(s, p, passed, left),
     }
 }
 

@@ -1,14 +1,12 @@
 -- replay_grades::differs meets its contract.
-use Prim.Native.Nat.{◌+◌, ◌-◌}
-use Rattle.std.proofs.Common.{◌≡◌, ◌≤◌, ℕ, List, length, take, refl, ap, ◌∙◌, arith}
+use Prim.Native.Nat.{ℕ, ◌+◌, ◌-◌}
+use borrow.Author.Rules.{rules}
+use Rattle.std.proofs.Common.{◌≡◌, refl, arith, length-take-le}
 use Rattle.std.proofs.lemmas.List.{length-replicate, take-replicate}
-use Rattle.std.specs.Prelude.{replicate, pos}
-use Rattle.replay_grades.specs.Cases.{differ_by}
+use Rattle.std.specs.Prelude.{ℤ, replicate, pos}
+use Rattle.lists.specs.Lists.{number_in}
+use Rattle.replay_grades.specs.Cases.{columns_at, cars_at, prices_at, price_in, differ_by}
 use Rattle.replay_grades.proofs.differs.Goals as goal
-
--- the lent places are as many as are asked for
-as_many : {A : Type 0} (k n : ℕ) (x : A) → k ≤ n → length (take k (replicate n x)) ≡ k
-as_many {A} k n x l = ap (λ (xs : List A). length xs) (take-replicate k n x l) ∙ length-replicate k x
 
 pub slice_bounds-grade-end : goal.slice_bounds-grade-end
 slice_bounds-grade-end c = omega (arith, c.requires.1.within)
@@ -21,14 +19,18 @@ is_apart-requires c =
 pub returns : goal.returns
 returns c =
     let a = c.args in
+    let s = a.s.now in
+    let h = a.h in
     let f = c.requires.1 in
-    let e : a.at + 15 + a.h.bytes - (a.at + 15) ≡ a.h.bytes = omega arith in
-    differ_by a.s.now a.at a.h e
+    let e : a.at + 15 + h.bytes - (a.at + 15) ≡ h.bytes = omega arith in
+    differ_by s a.at h e
     (record {
-      one_a_column = as_many a.h.columns 128 0 f.columns;
-      one_a_car = as_many a.h.cars 128 (pos 0) f.cars;
-      one_a_price = as_many a.h.prices 128 (pos 0) f.prices;
+      one_a_column = length-take-le h.columns (replicate 128 0) (omega (arith, f.columns, length-replicate {A = ℕ} 128 0));
+      one_a_car = length-take-le h.cars (replicate 128 (pos 0)) (omega (arith, f.cars, length-replicate {A = ℤ} 128 (pos 0)));
+      one_a_price = length-take-le h.prices (replicate 128 (pos 0)) (omega (arith, f.prices, length-replicate {A = ℤ} 128 (pos 0)));
       one_a_cell = refl;
     })
-    c.fill_columns.ensures c.fill_prices.ensures c.fill_prices-2.ensures (take-replicate a.h.lent 2052 99 f.lent) c.grade.ensures
-    c.answer_of-got.ensures c.is_apart.ensures
+    (c.fill.ensures (number_in s (columns_at a.at h) 4) (λ k x l e. search rules))
+    (c.fill-2.ensures (price_in s (cars_at a.at h)) (λ k x l e. search rules))
+    (c.fill-3.ensures (price_in s (prices_at a.at h)) (λ k x l e. search rules))
+    (take-replicate h.lent 2052 99 f.lent) c.grade.ensures c.answer_of-got.ensures c.is_apart.ensures

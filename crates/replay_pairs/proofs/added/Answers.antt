@@ -1,22 +1,13 @@
 -- replay_pairs::added meets its contract.
-use Rattle.std.proofs.Common.{sym, ◌∙◌, refl}
 use Prim.Native.Nat.{◌*◌}
+use borrow.Author.Rules.{rules}
+use borrow.Author.Tests.{tests}
 use lib.ListN.{length}
-use Rattle.laws.specs.Folds.{every, every_step}
+use Rattle.ranges.specs.Ranges.{every_is}
 use Rattle.replay_pairs.specs.Added.{added_at}
-use Rattle.replay_pairs.proofs.Every.{fails}
 use Rattle.replay_pairs.proofs.added.Goals as goal
 
-pub loop-b-init : goal.loop-b-init
-unfolding every
-loop-b-init c = refl
-
-pub returns-then-not-added_at : goal.returns-then-not-added_at
-returns-then-not-added_at c =
+pub returns : goal.returns
+returns c =
     let a = c.args in
-    fails (added_at a.c a.first.now a.second.now) (8 * length a.first.now) c.loop-b.b c.loop-b-test.true (sym c.added_at.ensures ∙ c.if-not-added_at.true)
-
-pub loop-b-preserved : goal.loop-b-preserved
-loop-b-preserved c =
-    let a = c.args in
-    sym (every_step (added_at a.c a.first.now a.second.now) c.loop-b.b (sym c.loop-b.invariant) (sym c.if-not-added_at.false ∙ c.added_at.ensures))
+    every_is (added_at a.c a.first.now a.second.now) (8 * length a.first.now) c.all.ensures.ran (λ x b q k. search (rules, tests))

@@ -18,7 +18,7 @@ overflow_add-d g c =
     let l = c.loop-k in
     omega (
       arith,
-      c.from-d.ensures,
+      c.from.ensures,
       bit-lt c.differs.result,
       l.invariant.1,
       count-le (λ i. differs (sheet_of a.b.now a.c) (pair_at a.s.now a.case i)) l.k,
@@ -31,7 +31,7 @@ loop-k-preserved g c =
     let a = c.args in
     let l = c.loop-k in (
       omega arith,
-      rw (c.from-d.ensures, c.differs.ensures, c.pair_at-p.ensures)
+      rw (c.from.ensures, c.differs.ensures, c.pair_at-p.ensures)
           (count_step (λ i. differs (sheet_of a.b.now a.c) (pair_at a.s.now a.case i)) l.k l.invariant.1 refl),
     )
 

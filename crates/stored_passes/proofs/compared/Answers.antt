@@ -15,7 +15,7 @@ pub number-requires-2 : goal.number-requires-2
 number-requires-2 c = let h = head_inside c.args.s.now c.args.p c.requires in (omega arith, omega (arith, h))
 
 pub met-b-requires : goal.met-b-requires
-met-b-requires c = let a = c.args in omega (arith, c.met-a.ensures.1, apart_le a.cars c.number.result)
+met-b-requires c = let a = c.args in omega (arith, c.met-a.ensures.1, apart_le a.passed.cars c.number.result)
 
 pub overflow_add-p-2 : goal.overflow_add-p-2
 overflow_add-p-2 c = let good = c.well_formed in let h = head_inside c.args.s.now c.args.p c.requires in omega (arith, h)
@@ -24,7 +24,7 @@ pub number-requires-3 : goal.number-requires-3
 number-requires-3 c = let h = head_inside c.args.s.now c.args.p c.requires in (omega arith, omega (arith, h))
 
 pub met-c-requires : goal.met-c-requires
-met-c-requires c = let a = c.args in omega (arith, c.met-a.ensures.1, apart_le a.cars c.number.result, c.met-b.ensures.1, apart_le a.stops c.number-2.result)
+met-c-requires c = let a = c.args in omega (arith, c.met-a.ensures.1, apart_le a.passed.cars c.number.result, c.met-b.ensures.1, apart_le a.passed.stops c.number-2.result)
 
 pub overflow_add-p-3 : goal.overflow_add-p-3
 overflow_add-p-3 c = let good = c.well_formed in let h = head_inside c.args.s.now c.args.p c.requires in omega (arith, h)
@@ -33,7 +33,7 @@ pub number-requires-4 : goal.number-requires-4
 number-requires-4 c = let h = head_inside c.args.s.now c.args.p c.requires in (omega arith, omega (arith, h))
 
 pub met-d-requires : goal.met-d-requires
-met-d-requires c = let a = c.args in omega (arith, c.met-a.ensures.1, apart_le a.cars c.number.result, c.met-b.ensures.1, apart_le a.stops c.number-2.result, c.met-c.ensures.1, apart_le a.total c.number-3.result)
+met-d-requires c = let a = c.args in omega (arith, c.met-a.ensures.1, apart_le a.passed.cars c.number.result, c.met-b.ensures.1, apart_le a.passed.stops c.number-2.result, c.met-c.ensures.1, apart_le a.passed.total c.number-3.result)
 
 pub entries_met-e-requires : goal.entries_met-e-requires
 entries_met-e-requires c =
@@ -43,7 +43,7 @@ entries_met-e-requires c =
       omega arith,
       omega (arith, n, i.decisions_from, i.cells_from, i.sweeps_from, i.ends, i.inside),
       omega (arith, n, i.few_cars),
-      omega (arith, c.met-a.ensures.1, apart_le a.cars c.number.result, c.met-b.ensures.1, apart_le a.stops c.number-2.result, c.met-c.ensures.1, apart_le a.total c.number-3.result, c.met-d.ensures.1, apart_le a.held c.number-4.result),
+      omega (arith, c.met-a.ensures.1, apart_le a.passed.cars c.number.result, c.met-b.ensures.1, apart_le a.passed.stops c.number-2.result, c.met-c.ensures.1, apart_le a.passed.total c.number-3.result, c.met-d.ensures.1, apart_le a.passed.held c.number-4.result),
     )
 
 pub entries_met-f-requires : goal.entries_met-f-requires
@@ -56,7 +56,7 @@ entries_met-f-requires c =
       omega arith,
       omega (arith, m, i.sweeps_from, i.ends, i.inside),
       omega (arith, m, i.few_cells),
-      omega (arith, n, i.few_cars, c.met-a.ensures.1, apart_le a.cars c.number.result, c.met-b.ensures.1, apart_le a.stops c.number-2.result, c.met-c.ensures.1, apart_le a.total c.number-3.result, c.met-d.ensures.1, apart_le a.held c.number-4.result, few),
+      omega (arith, n, i.few_cars, c.met-a.ensures.1, apart_le a.passed.cars c.number.result, c.met-b.ensures.1, apart_le a.passed.stops c.number-2.result, c.met-c.ensures.1, apart_le a.passed.total c.number-3.result, c.met-d.ensures.1, apart_le a.passed.held c.number-4.result, few),
     )
 
 pub entries_met-requires : goal.entries_met-requires
@@ -71,7 +71,7 @@ entries_met-requires c =
       omega arith,
       omega (arith, o, i.ends, i.inside),
       omega (arith, o, i.few_records),
-      omega (arith, n, m, i.few_cars, i.few_cells, c.met-a.ensures.1, apart_le a.cars c.number.result, c.met-b.ensures.1, apart_le a.stops c.number-2.result, c.met-c.ensures.1, apart_le a.total c.number-3.result, c.met-d.ensures.1, apart_le a.held c.number-4.result, few, few_cells),
+      omega (arith, n, m, i.few_cars, i.few_cells, c.met-a.ensures.1, apart_le a.passed.cars c.number.result, c.met-b.ensures.1, apart_le a.passed.stops c.number-2.result, c.met-c.ensures.1, apart_le a.passed.total c.number-3.result, c.met-d.ensures.1, apart_le a.passed.held c.number-4.result, few, few_cells),
     )
 
 pub returns : goal.returns
@@ -93,6 +93,6 @@ returns c =
     let d = rw ld at (c.entries_met-e.ensures.is b.decisions (widened a.p.cars b.decisions)) in
     let e = rw lc at (c.entries_met-f.ensures.is b.matrix (widened a.p.size b.matrix)) in
     let w = rw lw at (c.entries_met.ensures.is b.sweeps (widened a.p.records b.sweeps)) in record {
-      tally = tally_is a.s.now a.p a.cars a.stops a.total a.held b.decisions b.matrix b.sweeps x y z u m.0 n.0 o.0 q.0 d.0 e.0 w.0;
-      differ = differs_is a.s.now a.p a.cars a.stops a.total a.held b.decisions b.matrix b.sweeps x y z u m.1 n.1 o.1 q.1 d.1 e.1 w.1;
+      tally = tally_is a.s.now a.p a.passed.cars a.passed.stops a.passed.total a.passed.held b.decisions b.matrix b.sweeps x y z u m.0 n.0 o.0 q.0 d.0 e.0 w.0;
+      differ = differs_is a.s.now a.p a.passed.cars a.passed.stops a.passed.total a.passed.held b.decisions b.matrix b.sweeps x y z u m.1 n.1 o.1 q.1 d.1 e.1 w.1;
     }

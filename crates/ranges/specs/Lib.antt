@@ -1,0 +1,2 @@
+-- Laws about the calls of iterators over a range.
+pub mod Ranges
