@@ -24,7 +24,6 @@ use layout::{Counts, aboard, car, stop, waiting};
 use manifest::{Stops, Waiters};
 use mask::Ones;
 use pending::StopMasks;
-use riders::Aboard;
 use rows::{Counted, Known};
 
 // The ids and the points of the stops.
@@ -165,23 +164,7 @@ pub fn row_of<'a>(
     let mut acar = [0u32; 512];
     let mut adest = [0u32; 512];
     fill_aboard(s, c, &mut acar, &mut adest);
-    let known = Known {
-        sheet: s,
-        counts: c,
-        policy: sheet::policy_at(s),
-        limit,
-        stops: Stops {
-            ids,
-            points: xs,
-            count: c.stops as usize,
-        },
-        aboard: Aboard {
-            cars: &acar,
-            destinations: &adest,
-            count: c.aboards as usize,
-        },
-        masks,
-    };
+    let known = Known::of(s, c, limit, ids, xs, &acar, &adest, masks);
     let car = sheet::car_at(s, c, i);
     known.row_for(car, dests, sides)
 }
@@ -230,22 +213,6 @@ pub fn fill_matrix<'a>(
     fill_aboard(s, c, &mut acar, &mut adest);
     let mut sums = [0.0f64; 320];
     let someone = waiting(s, c, ids, xs, masks.calls, &mut sums);
-    let known = Known {
-        sheet: s,
-        counts: c,
-        policy: sheet::policy_at(s),
-        limit,
-        stops: Stops {
-            ids,
-            points: xs,
-            count: c.stops as usize,
-        },
-        aboard: Aboard {
-            cars: &acar,
-            destinations: &adest,
-            count: c.aboards as usize,
-        },
-        masks,
-    };
+    let known = Known::of(s, c, limit, ids, xs, &acar, &adest, masks);
     rows::fill_rows(&known, someone, &sums, &stops, &idle, columns, matrix)
 }

@@ -1,15 +1,13 @@
 -- A line, character by character. Assumes nothing.
-use Rattle.std.specs.Prelude.{ℕ, ◌+◌, ◌<◌, List, [], ◌∷◌, ◌++◌, get_or}
+use Rattle.std.specs.Prelude.{ℕ, ◌+◌, ◌<◌, List, [], ◌∷◌, get_or}
 use Rattle.std.proofs.Math.Path.{◌≡◌, sym, ap}
 use native.Mathlib.Omega.{arith}
 use Rattle.std.proofs.Math.ListN.{length}
 use borrow.Author.Tests.{lt-ltb}
 use Rattle.assignment_problem.specs.Choice.{cell_at}
 use Rattle.assignment_problem.specs.Recursion.{least_total, column_of}
-use mathlib.Core.List.{append_assoc}
-use Rattle.text.specs.Lines.{line_end}
 use Rattle.text.specs.Text.{decimal, decimal_of}
-use Rattle.every_matrix.specs.EveryMatrix.{matrix_of, blank, line_text, line_of}
+use Rattle.every_matrix.specs.EveryMatrix.{matrix_of, line_text, line_of}
 use Rattle.every_matrix.specs.Laws.{Digits, line_digits}
 
 decimal_digit : (n : ℕ) → n < 10 → decimal n ≡ (48 + n) ∷ []
@@ -40,22 +38,6 @@ characters (x0 ∷ x1 ∷ x2 ∷ []) first second total d = absurd (omega (arith
 characters (x0 ∷ x1 ∷ []) first second total d = absurd (omega (arith, d.six))
 characters (x0 ∷ []) first second total d = absurd (omega (arith, d.six))
 characters [] first second total d = absurd (omega (arith, d.six))
-
--- as its numbers are written
-pub written : (cells : List ℕ) (first second total : ℕ) → length cells ≡ 6
-    → decimal (get_or cells 0 0) ++ (decimal (get_or cells 1 0) ++ (decimal (get_or cells 2 0) ++ (decimal (get_or cells 3 0)
-    ++ (decimal (get_or cells 4 0) ++ (decimal (get_or cells 5 0)
-    ++ (blank ++ (decimal first ++ (blank ++ (decimal second ++ (blank ++ (decimal total ++ line_end)))))))))))
-    ≡ line_text cells first second total
-unfolding line_text
-written (x0 ∷ x1 ∷ x2 ∷ x3 ∷ x4 ∷ x5 ∷ []) first second total h = simp append_assoc
-written (x0 ∷ x1 ∷ x2 ∷ x3 ∷ x4 ∷ x5 ∷ x6 ∷ l) first second total h = absurd (omega arith)
-written (x0 ∷ x1 ∷ x2 ∷ x3 ∷ x4 ∷ []) first second total h = absurd (omega arith)
-written (x0 ∷ x1 ∷ x2 ∷ x3 ∷ []) first second total h = absurd (omega arith)
-written (x0 ∷ x1 ∷ x2 ∷ []) first second total h = absurd (omega arith)
-written (x0 ∷ x1 ∷ []) first second total h = absurd (omega arith)
-written (x0 ∷ []) first second total h = absurd (omega arith)
-written [] first second total h = absurd (omega arith)
 
 pub line_length : (k : ℕ) → length (line_of k) ≡ 13
 unfolding line_of

@@ -12,7 +12,6 @@ ghost use Rattle.lists.specs.declared.Case.{Case};
 ghost use Rattle.lists.specs.declared.Step.{Step};
 
 use layout::Refusal;
-use std::alloc::Global;
 use std::fmt::Display;
 use std::io::Read;
 use std::{fmt, io};
@@ -114,17 +113,15 @@ pub fn read_full<R: Read>(input: &mut R, buffer: &mut [u8]) -> io::Result<usize>
     Ok(done)
 }
 
-// The first `limit` bytes of the input, or all of it where there are fewer.
-pub fn read_list<R: Read>(alloc: Global, input: &mut R, limit: usize) -> io::Result<Vec<u8>>
-    ensures within { IfOk result (λ list. length list.items ≤ limit) }
-    ensures bytes { IfOk result (λ list. Consumes (R.remaining input.old) (R.remaining input.new) list.items) }
-    ensures whole { IfOk result (λ list. length list.items < limit → IsAtEnd (R.remaining input.new)) }
+// The first bytes of the input, as many as the buffer has places, or all of it where there are fewer. They stand at the buffer's start.
+pub fn read_list<'a, R: Read>(input: &mut R, buffer: &'a mut [u8]) -> io::Result<&'a [u8]>
+    ensures within { IfOk result (λ list. length list.now ≤ length buffer.old) }
+    ensures bytes { IfOk result (λ list. Consumes (R.remaining input.old) (R.remaining input.new) list.now) }
+    ensures whole { IfOk result (λ list. length list.now < length buffer.old → IsAtEnd (R.remaining input.new)) }
     ensures err { OnErr result ((read : List ℕ) × Consumes (R.remaining input.old) (R.remaining input.new) read) }
 {
-    let mut list = vec![in alloc; 0; limit]?;
-    let n = read_full(input, &mut list)?;
-    list.truncate(n);
-    Ok(list)
+    let n = read_full(input, buffer)?;
+    Ok(&buffer[..n])
 }
 
 // Where the next case of a list starts, and the totals so far.
@@ -282,11 +279,12 @@ mod tests {
     #[test]
     fn a_list_ends_at_its_limit(rt: HostRuntime) -> Result<(), Fail> {
         let mut input = b"abcde".as_slice();
-        let first = read_list(rt.alloc(), &mut input, 3)?;
-        let rest = read_list(rt.alloc(), &mut input, 3)?;
-        let none = read_list(rt.alloc(), &mut input, 3)?;
-        assert_eq!(rt; first.as_slice(), b"abc".as_slice());
-        assert_eq!(rt; rest.as_slice(), b"de".as_slice());
+        let mut buffer = [0u8; 3];
+        let first = read_list(&mut input, &mut buffer)?;
+        assert_eq!(rt; first, b"abc".as_slice());
+        let rest = read_list(&mut input, &mut buffer)?;
+        assert_eq!(rt; rest, b"de".as_slice());
+        let none = read_list(&mut input, &mut buffer)?;
         assert_eq!(rt; none.len(), 0);
         Ok(())
     }

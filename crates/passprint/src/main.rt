@@ -1,112 +1,117 @@
 // A sheet on standard input; on standard output the lines of its pass, or of its refusal.
 //
-// What is proved: `lines` makes the text that specs/Lines.antt defines of the bytes, character by character: every number, every decision and every
-// sweep of it is that of the pass over the bytes. That text is also that of any longer input with these first 65,536 bytes (`printed_first` of
-// specs/LineLaws.antt), so the rest is not read. No contract can say what is read from a file or written to one: that `main` hands `lines` the bytes of
-// standard input and writes its text to standard output is tested, not proved.
+// What is proved: `lines` puts into its buffer the text that specs/Lines.antt defines of the bytes, character by character: every number, every
+// decision and every sweep of it is that of the pass over the bytes. That text is also that of any longer input with these first 65,536
+// bytes (`printed_first` of specs/LineLaws.antt), so the rest is not read. No contract can say what is read from a file or written to one: that
+// `main` hands `lines` the bytes of standard input and writes its buffer's text to standard output is tested, not proved.
 #![tactic(auto)]
 
-ghost use Rattle.std.specs.Prelude.{◌≡◌, ◌++◌, ◌<◌, Some, Ok, IfOk, OnOk, string_bytes};
+ghost use Rattle.std.specs.Prelude.{◌≡◌, ◌++◌, ◌+◌, ◌≤◌, ◌<◌, Ok, length, drop};
+ghost use Rattle.text.specs.Counts.{IsPrefixLen as Counted};
+ghost use Rattle.text.specs.Text.{Put};
 ghost use Rattle.layout.specs.Offsets.{Small};
 ghost use Rattle.layout.specs.Records.{sheet_of, limit_of};
 ghost use Rattle.layout.specs.Verdict.{verdict};
 ghost use Rattle.rows.specs.MatrixLaws.{Rows};
-ghost use Rattle.passprint.specs.Lines.{head_line, decision_line, refusal_line, row_decision, row_sweep, printed};
+ghost use Rattle.passprint.specs.Lines.{held_end, head_line, decision_end, decision_line, refusal_line, row_decision, row_sweep, printed};
 ghost use Rattle.text.specs.Lines.{lines_of};
-ghost use Rattle.passprint.specs.LineLaws.{direction_name, mode_name, code_line, Answered, Decided, Swept};
+ghost use Rattle.passprint.specs.LineLaws.{code_word, code_end, code_line, Answered, Decided, Swept};
 
+use bench::Passed;
 use layout::{Counts, Refusal};
 use mask::Ones;
-use std::alloc::{AllocError, Global};
 use std::env::FillError;
+use std::io;
 use std::rt::Env;
-use std::{fmt, io};
 
-// The first line of a pass.
-#[derive(Clone, Copy)]
-struct HeadLine {
-    cars: u64,
-    stops: u64,
-    total: u64,
-    held: u64,
-}
-
-impl fmt::Display for HeadLine {
-    ghost output = { λ h. Some (head_line h.cars h.stops h.total h.held) };
-
-    fn fmt<W: fmt::Write>(&self, f: &mut fmt::Formatter<W>) -> fmt::Result {
-        let HeadLine {
-            cars,
-            stops,
-            total,
-            held,
-        } = *self;
-        writeln!(f, "cars {cars} stops {stops} total {total} held {held}")
-    }
-}
-
-// The line of a refusal.
-#[derive(Clone, Copy)]
-struct RefusalLine {
-    number: u32,
-    offset: u64,
-}
-
-impl fmt::Display for RefusalLine {
-    ghost output = { λ r. Some (refusal_line r.number r.offset) };
-
-    fn fmt<W: fmt::Write>(&self, f: &mut fmt::Formatter<W>) -> fmt::Result {
-        let RefusalLine { number, offset } = *self;
-        writeln!(f, "refused {number} at {offset}")
-    }
-}
-
-// Where a car goes; stop 0 is idle.
-#[derive(Clone, Copy)]
-struct DecisionLine {
-    car: u32,
-    stop: u32,
-}
-
-impl fmt::Display for DecisionLine {
-    ghost output = { λ d. Some (decision_line d.car d.stop) };
-
-    fn fmt<W: fmt::Write>(&self, f: &mut fmt::Formatter<W>) -> fmt::Result {
-        let DecisionLine { car, stop } = *self;
-        if stop == 0 {
-            writeln!(f, "car {car} idle")
-        } else {
-            writeln!(f, "car {car} stop {stop}")
-        }
-    }
-}
-
-// A car's sweep and mode, as 2 × sweep + mode.
-#[derive(Clone, Copy)]
-struct SweepLine {
-    car: u32,
-    code: u8,
-}
-
-fn direction(code: u8) -> &'static str
-    ensures { result.now ≡ direction_name code }
+// ` held H`, which ends the first line.
+fn held_end(out: &mut [u8], at: usize, held: u64) -> usize
+    requires { at + 27 ≤ length out.old }
+    ensures { Put out.old at (held_end held) out.new result × (result ≤ at + 27) }
 {
-    if code < 2 { "up" } else { "down" }
+    let a = text::put(out, at, b" held ");
+    let b = text::put_decimal(out, a, held);
+    text::put(out, b, b"\n")
 }
 
-fn mode(code: u8) -> &'static str
-    ensures { result.now ≡ mode_name code }
+// `cars N stops M total T held H`.
+fn head_line(out: &mut [u8], cars: u64, stops: u64, total: u64, held: u64) -> usize
+    requires { 106 ≤ length out.old }
+    ensures { Put out.old 0 (head_line cars stops total held) out.new result × (result ≤ 106) }
 {
-    if code % 2 == 0 { "strict" } else { "lenient" }
+    let a = text::put(out, 0, b"cars ");
+    let b = text::put_decimal(out, a, cars);
+    let c = text::put(out, b, b" stops ");
+    let d = text::put_decimal(out, c, stops);
+    let e = text::put(out, d, b" total ");
+    let f = text::put_decimal(out, e, total);
+    held_end(out, f, held)
 }
 
-impl fmt::Display for SweepLine {
-    ghost output = { λ s. Some (code_line s.car s.code) };
+// `refused N at OFFSET`.
+fn refusal_line(out: &mut [u8], number: u32, offset: u64) -> usize
+    requires { 80 ≤ length out.old }
+    ensures { Put out.old 0 (refusal_line number offset) out.new result × (result ≤ 80) }
+{
+    let a = text::put(out, 0, b"refused ");
+    let b = text::put_decimal(out, a, number as u64);
+    let c = text::put(out, b, b" at ");
+    let d = text::put_decimal(out, c, offset);
+    text::put(out, d, b"\n")
+}
 
-    fn fmt<W: fmt::Write>(&self, f: &mut fmt::Formatter<W>) -> fmt::Result {
-        let SweepLine { car, code } = *self;
-        writeln!(f, "sweep {car} {} {}", direction(code), mode(code))
+// Where the car goes; 0 is idle.
+fn decision_end(out: &mut [u8], at: usize, stop: u32) -> usize
+    requires { at + 27 ≤ length out.old }
+    ensures { Put out.old at (decision_end stop) out.new result × (result ≤ at + 27) }
+{
+    if stop == 0 {
+        return text::put(out, at, b" idle\n");
     }
+    let a = text::put(out, at, b" stop ");
+    let b = text::put_decimal(out, a, stop as u64);
+    text::put(out, b, b"\n")
+}
+
+// `car CAR stop STOP` or `car CAR idle`.
+fn decision_line(out: &mut [u8], at: usize, car: u32, stop: u32) -> usize
+    requires { at + 60 ≤ length out.old }
+    ensures { Put out.old at (decision_line car stop) out.new result × (result ≤ at + 60) }
+{
+    let a = text::put(out, at, b"car ");
+    let b = text::put_decimal(out, a, car as u64);
+    decision_end(out, b, stop)
+}
+
+fn direction_word(out: &mut [u8], at: usize, code: u8) -> usize
+    requires { at + 5 ≤ length out.old }
+    ensures { Put out.old at (code_word code) out.new result × (result ≤ at + 5) }
+{
+    if code < 2 {
+        return text::put(out, at, b" up");
+    }
+    text::put(out, at, b" down")
+}
+
+fn mode_end(out: &mut [u8], at: usize, code: u8) -> usize
+    requires { at + 9 ≤ length out.old }
+    ensures { Put out.old at (code_end code) out.new result × (result ≤ at + 9) }
+{
+    if code % 2 == 0 {
+        return text::put(out, at, b" strict\n");
+    }
+    text::put(out, at, b" lenient\n")
+}
+
+// `sweep CAR up strict`, by 2 × sweep + mode.
+fn sweep_line(out: &mut [u8], at: usize, car: u32, code: u8) -> usize
+    requires { at + 60 ≤ length out.old }
+    ensures { Put out.old at (code_line car code) out.new result × (result ≤ at + 60) }
+{
+    let a = text::put(out, at, b"sweep ");
+    let b = text::put_decimal(out, a, car as u64);
+    let c = direction_word(out, b, code);
+    mode_end(out, c, code)
 }
 
 // The id of car record i.
@@ -118,103 +123,91 @@ fn car_id(s: &[u8], c: Counts, i: usize) -> u32
 }
 
 // A line for each idle car's decision.
-fn write_decisions(
-    text: &mut String,
+fn decision_lines(
     s: &[u8],
     c: Counts,
     cars: Ones,
     decisions: &[u32],
-) -> Result<(), AllocError>
-    requires { Small c × Rows (sheet_of s.now c) cars × Decided (sheet_of s.now c) (limit_of s.now) decisions.now }
-    ensures { OnOk result (string_bytes text.new
-        ≡ string_bytes text.old ++ lines_of (row_decision (sheet_of s.now c) (limit_of s.now)) cars.count) }
+    out: &mut [u8],
+    from: usize,
+) -> usize
+    requires { Small c × Rows (sheet_of s.now c) cars
+        × Decided (sheet_of s.now c) (limit_of s.now) decisions.now × (from + 1920 ≤ length out.old) }
+    ensures { Put out.old from (lines_of (row_decision (sheet_of s.now c) (limit_of s.now)) cars.count)
+        out.new result × (result ≤ from + 1920) }
 {
+    let mut at = from;
     for r in 0..cars.count {
-        let car = car_id(s, c, cars.at[r]);
-        let stop = decisions[r];
-        write!(text, "{}", DecisionLine { car, stop })?;
+        at = decision_line(out, at, car_id(s, c, cars.at[r]), decisions[r]);
     }
-    Ok(())
+    at
 }
 
 // A line for each idle car's sweep and mode.
-fn write_sweeps(
-    text: &mut String,
-    s: &[u8],
-    c: Counts,
-    cars: Ones,
-    sweeps: &[u8],
-) -> Result<(), AllocError>
-    requires { Small c × Rows (sheet_of s.now c) cars × Swept (sheet_of s.now c) sweeps.now }
-    ensures { OnOk result (string_bytes text.new ≡ string_bytes text.old ++ lines_of (row_sweep (sheet_of s.now c)) cars.count) }
+fn sweep_lines(s: &[u8], c: Counts, cars: Ones, sweeps: &[u8], out: &mut [u8], from: usize) -> usize
+    requires { Small c × Rows (sheet_of s.now c) cars × Swept (sheet_of s.now c) sweeps.now
+        × (from + 1920 ≤ length out.old) }
+    ensures { Put out.old from (lines_of (row_sweep (sheet_of s.now c)) cars.count) out.new result
+        × (result ≤ from + 1920) }
 {
+    let mut at = from;
     for r in 0..cars.count {
         let i = cars.at[r];
-        let car = car_id(s, c, i);
-        let code = sweeps[i];
-        write!(text, "{}", SweepLine { car, code })?;
+        at = sweep_line(out, at, car_id(s, c, i), sweeps[i]);
     }
-    Ok(())
+    at
 }
 
-// The lines of a pass that was made, where its first line and its buffers are at hand.
+// The lines of a pass that was made, where its answer and its buffers are at hand.
 fn sent_lines(
-    alloc: Global,
     s: &[u8],
     c: Counts,
-    head: HeadLine,
+    passed: Passed,
     decisions: &[u32],
     sweeps: &[u8],
-) -> Result<String, AllocError>
+    out: &mut [u8],
+) -> usize
     requires { (verdict s.now ≡ Ok c)
-        × Answered (sheet_of s.now c) (limit_of s.now) head.cars head.stops head.total head.held
-        × Decided (sheet_of s.now c) (limit_of s.now) decisions.now × Swept (sheet_of s.now c) sweeps.now }
-    ensures { IfOk result (λ text. string_bytes text ≡ printed s.now) }
+        × Answered (sheet_of s.now c) (limit_of s.now) passed.cars passed.stops passed.total passed.held
+        × Decided (sheet_of s.now c) (limit_of s.now) decisions.now × Swept (sheet_of s.now c) sweeps.now
+        × (4096 ≤ length out.old) }
+    ensures { Put out.old 0 (printed s.now) out.new result × (result ≤ 4096) }
 {
     let idle = cells::list_cars(s, c);
-    let mut text = head.to_string(alloc)?;
-    write_decisions(&mut text, s, c, idle, decisions)?;
-    write_sweeps(&mut text, s, c, idle, sweeps)?;
-    Ok(text)
+    let a = head_line(out, passed.cars, passed.stops, passed.total, passed.held);
+    let b = decision_lines(s, c, idle, decisions, out, a);
+    sweep_lines(s, c, idle, sweeps, out, b)
 }
 
 // The lines of an accepted sheet.
-fn pass_lines(alloc: Global, s: &[u8], c: Counts) -> Result<String, AllocError>
-    requires { verdict s.now ≡ Ok c }
-    ensures { IfOk result (λ text. string_bytes text ≡ printed s.now) }
+fn pass_lines(s: &[u8], c: Counts, out: &mut [u8]) -> usize
+    requires { (verdict s.now ≡ Ok c) × (4096 ≤ length out.old) }
+    ensures { Put out.old 0 (printed s.now) out.new result × (result ≤ 4096) }
 {
     let mut decisions = [0u32; 32];
     let mut matrix = [0u64; 2048];
     let mut sweeps = [0u8; 32];
     match bench::pass(s, &mut decisions, &mut matrix, &mut sweeps) {
-        Err(Refusal { number, offset }) => RefusalLine { number, offset }.to_string(alloc),
-        Ok(passed) => {
-            let head = HeadLine {
-                cars: passed.cars,
-                stops: passed.stops,
-                total: passed.total,
-                held: passed.held,
-            };
-            sent_lines(alloc, s, c, head, &decisions, &sweeps)
-        }
+        Err(Refusal { number, offset }) => refusal_line(out, number, offset),
+        Ok(passed) => sent_lines(s, c, passed, &decisions, &sweeps, out),
     }
 }
 
-// The text of a byte string.
-fn lines(alloc: Global, s: &[u8]) -> Result<String, AllocError>
-    ensures { IfOk result (λ text. string_bytes text ≡ printed s.now) }
+// The text of a byte string, at the start of the buffer, whose rest is kept; answers its length.
+fn lines(s: &[u8], out: &mut [u8; 4096]) -> usize
+    ensures counted { Counted result out.new }
+    ensures value { (result ≡ length (printed s.now)) × (out.new ≡ printed s.now ++ drop result out.old) }
 {
     match sheet::read(s) {
-        Err(Refusal { number, offset }) => RefusalLine { number, offset }.to_string(alloc),
-        Ok(c) => pass_lines(alloc, s, c),
+        Err(Refusal { number, offset }) => refusal_line(out, number, offset),
+        Ok(c) => pass_lines(s, c, out),
     }
 }
 
-fn print_lines(rt: &(impl Print + Eprint), alloc: Global, s: &[u8]) -> io::Result<()> {
-    let Ok(text) = lines(alloc, s) else {
-        return eprintln!(rt; "passprint: out of memory");
-    };
-    if rt.write_all(text.as_bytes()).is_err() {
+fn print_lines(rt: &(impl Print + Eprint), s: &[u8]) -> io::Result<()> {
+    let mut out = [0u8; 4096];
+    let n = lines(s, &mut out);
+    if rt.write_all(&out[..n]).is_err() {
         eprintln!(rt; "passprint: standard output cannot be written")?;
     }
     Ok(())
@@ -244,7 +237,7 @@ fn main(rt: HostRuntime) -> io::Result<()> {
     let mut sheet = [0u8; 65536];
     let mut input = rt.reader();
     match lists::read_full(&mut input, &mut sheet) {
-        Ok(n) => print_lines(&rt, rt.alloc(), &sheet[..n]),
+        Ok(n) => print_lines(&rt, &sheet[..n]),
         Err(_) => eprintln!(rt; "passprint: standard input cannot be read"),
     }
 }

@@ -158,7 +158,8 @@ fn run(rt: &impl Print, s: &[u8]) -> Tally<Matrices>
 }
 
 fn main(rt: HostRuntime) -> io::Result<()> {
-    let list = lists::read_list(rt.alloc(), &mut rt.reader(), 327680)?;
-    let t = run(&rt, &list);
+    let mut buffer = [0u8; 327680];
+    let list = lists::read_list(&mut rt.reader(), &mut buffer)?;
+    let t = run(&rt, list);
     println!(rt; "{} matrices compared, {} differ", t.compared, t.differ)
 }

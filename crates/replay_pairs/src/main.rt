@@ -239,8 +239,22 @@ fn run_pair(s: &[u8], at: usize, p: Stored, q: Stored, barred: bool) -> Compared
         &mut left2,
     );
     Compared {
-        first: stored_passes::answered(s, p, both.first, &left),
-        second: stored_passes::answered(s, q, both.second, &left2),
+        first: stored_passes::answered(
+            s,
+            p,
+            both.first,
+            &left.decisions,
+            &left.matrix,
+            &left.sweeps,
+        ),
+        second: stored_passes::answered(
+            s,
+            q,
+            both.second,
+            &left2.decisions,
+            &left2.matrix,
+            &left2.sweeps,
+        ),
         lower: total(both.second) < total(both.first),
     }
 }
@@ -335,7 +349,8 @@ fn run(rt: &impl Print, s: &[u8]) -> Totals
 }
 
 fn main(rt: HostRuntime) -> io::Result<()> {
-    let list = lists::read_list(rt.alloc(), &mut rt.reader(), LIMIT)?;
+    let mut buffer = [0u8; LIMIT];
+    let list = lists::read_list(&mut rt.reader(), &mut buffer)?;
     let Totals {
         pairs,
         raised,
@@ -345,7 +360,7 @@ fn main(rt: HostRuntime) -> io::Result<()> {
         fallen,
         cells,
         differ,
-    } = run(&rt, &list);
+    } = run(&rt, list);
     print!(rt;
         "{pairs} pairs compared: {raised} with the limit raised, {lower} of them with a lower total; "
     )?;

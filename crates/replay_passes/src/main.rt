@@ -45,7 +45,7 @@ fn run_case(s: &[u8], at: usize, p: Stored) -> Tally
         &mut left.matrix,
         &mut left.sweeps,
     );
-    stored_passes::answered(s, p, answer, &left)
+    stored_passes::answered(s, p, answer, &left.decisions, &left.matrix, &left.sweeps)
 }
 
 impl Totals {
@@ -99,13 +99,14 @@ fn run(rt: &impl Print, s: &[u8]) -> Totals
 }
 
 fn main(rt: HostRuntime) -> io::Result<()> {
-    let list = lists::read_list(rt.alloc(), &mut rt.reader(), LIMIT)?;
+    let mut buffer = [0u8; LIMIT];
+    let list = lists::read_list(&mut rt.reader(), &mut buffer)?;
     let Totals {
         sheets,
         built,
         cells,
         differ,
-    } = run(&rt, &list);
+    } = run(&rt, list);
     println!(rt;
         "{sheets} sheets compared, {built} with a matrix of the Rust's; {cells} cells, {differ} differences"
     )

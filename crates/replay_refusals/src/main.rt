@@ -63,8 +63,9 @@ fn run(rt: &impl Print, s: &[u8]) -> Tally<Sheets>
 }
 
 fn main(rt: HostRuntime) -> io::Result<()> {
-    let list = lists::read_list(rt.alloc(), &mut rt.reader(), 204800)?;
-    let t = run(&rt, &list);
+    let mut buffer = [0u8; 204800];
+    let list = lists::read_list(&mut rt.reader(), &mut buffer)?;
+    let t = run(&rt, list);
     println!(rt;
         "{} sheets compared, {} accepted, {} differ",
         t.compared, t.marked, t.differ

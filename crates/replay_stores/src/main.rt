@@ -130,8 +130,9 @@ fn run(rt: &impl Print, s: &[u8]) -> Tally<Stores>
 }
 
 fn main(rt: HostRuntime) -> io::Result<()> {
-    let list = lists::read_list(rt.alloc(), &mut rt.reader(), 262144)?;
-    let t = run(&rt, &list);
+    let mut buffer = [0u8; 262144];
+    let list = lists::read_list(&mut rt.reader(), &mut buffer)?;
+    let t = run(&rt, list);
     println!(rt;
         "{} stores compared, {} answered, {} differ",
         t.compared, t.marked, t.differ

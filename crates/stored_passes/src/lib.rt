@@ -226,12 +226,19 @@ fn entries_met<T: Copy + Into<u64>>(
 }
 
 // A pass beside the case: every entry that is stored is met once.
-fn compared(s: &[u8], p: Stored, passed: Passed, left: &Buffers) -> Tally
-    requires { Inside s.now p }
+fn compared(
+    s: &[u8],
+    p: Stored,
+    passed: Passed,
+    decisions: &[u32],
+    matrix: &[u64],
+    sweeps: &[u8],
+) -> Tally
+    requires { Inside s.now p × (length decisions.now ≡ 32) × (length matrix.now ≡ 2048) × (length sweeps.now ≡ 32) }
     ensures tally { result ≡ case_tally s.now p passed.cars passed.stops passed.total passed.held
-        left.now.decisions left.now.matrix left.now.sweeps }
+        decisions.now matrix.now sweeps.now }
     ensures differ { result.differ ≡ case_differs s.now p passed.cars passed.stops passed.total passed.held
-        left.now.decisions left.now.matrix left.now.sweeps }
+        decisions.now matrix.now sweeps.now }
 {
     let none = Tally {
         differ: 0,
@@ -251,23 +258,23 @@ fn compared(s: &[u8], p: Stored, passed: Passed, left: &Buffers) -> Tally
         lists::number(s, p.end + 2, 8),
     );
     let d = c.met(Entry::Held, 0, passed.held, lists::number(s, p.end + 10, 2));
-    let e = entries_met(
-        s,
-        p.decisions,
-        4,
-        &left.decisions[..p.cars],
-        Entry::Decision,
-        d,
-    );
-    let f = entries_met(s, p.cells, 8, &left.matrix[..p.size], Entry::Cell, e);
-    entries_met(s, p.sweeps, 1, &left.sweeps[..p.records], Entry::Sweep, f)
+    let e = entries_met(s, p.decisions, 4, &decisions[..p.cars], Entry::Decision, d);
+    let f = entries_met(s, p.cells, 8, &matrix[..p.size], Entry::Cell, e);
+    entries_met(s, p.sweeps, 1, &sweeps[..p.records], Entry::Sweep, f)
 }
 
 // The answer of a pass beside the case; a refusal counts as one difference.
-pub fn answered(s: &[u8], p: Stored, answer: Result<Passed, Refusal>, left: &Buffers) -> Tally
-    requires { Inside s.now p }
-    ensures tally { result ≡ pass_tally s.now p answer left.now.decisions left.now.matrix left.now.sweeps }
-    ensures differ { result.differ ≡ pass_differs s.now p answer left.now.decisions left.now.matrix left.now.sweeps }
+pub fn answered(
+    s: &[u8],
+    p: Stored,
+    answer: Result<Passed, Refusal>,
+    decisions: &[u32],
+    matrix: &[u64],
+    sweeps: &[u8],
+) -> Tally
+    requires { Inside s.now p × (length decisions.now ≡ 32) × (length matrix.now ≡ 2048) × (length sweeps.now ≡ 32) }
+    ensures tally { result ≡ pass_tally s.now p answer decisions.now matrix.now sweeps.now }
+    ensures differ { result.differ ≡ pass_differs s.now p answer decisions.now matrix.now sweeps.now }
 {
     match answer {
         Err(refusal) => Tally {
@@ -279,7 +286,7 @@ pub fn answered(s: &[u8], p: Stored, answer: Result<Passed, Refusal>, left: &Buf
                 theirs: 0,
             }),
         },
-        Ok(passed) => compared(s, p, passed, left),
+        Ok(passed) => compared(s, p, passed, decisions, matrix, sweeps),
     }
 }
 

@@ -1,7 +1,7 @@
--- Lines, one after the other. Assumes nothing.
-use Prim.Native.Nat.{ℕ, zero, suc, ◌+◌, ◌*◌, ◌<◌}
+-- Lines, put into a buffer one after the other. Assumes nothing.
+use Prim.Native.Nat.{ℕ, zero, suc, ◌+◌, ◌*◌, ◌≤◌, ◌<◌}
 use Rattle.std.specs.Prelude.{◌≡◌, length, take, drop}
-use Rattle.std.proofs.Common.{sym, ap, ◌∙◌, take_at, drop_at}
+use Rattle.std.proofs.Common.{sym, ap, ◌∙◌, subst, length-take-le, take_at, drop_at}
 use mathlib.Core.List.{List, [], ◌∷◌, ◌++◌, append_assoc, append-nil}
 use Rattle.std.proofs.Math.Logic.{⊎_elim}
 use Rattle.std.proofs.Math.Nat.{suc-mul}
@@ -9,6 +9,8 @@ use native.Mathlib.Omega.{arith}
 use Rattle.std.proofs.Math.ListN.{length-append}
 use Rattle.laws.specs.Bools.{same?}
 use Rattle.laws.specs.Folds.{fold, fold_next}
+use Rattle.text.specs.Counts.{IsPrefixLen as Counted}
+use Rattle.text.specs.Text.{Put, size, then, nothing}
 
 -- "\n"
 abbrev pub line_end : List ℕ
@@ -18,17 +20,32 @@ line_end = 10 ∷ []
 abbrev pub lines_of : (ℕ → List ℕ) → ℕ → List ℕ
 lines_of line n = fold (λ (text : List ℕ) (r : ℕ). text ++ line r) [] n
 
--- ---- a loop that writes lines after a text
+-- ---- a loop that puts lines, each of at most so many characters
 
-pub lines_none : (line : ℕ → List ℕ) (text : List ℕ) → text ≡ text ++ lines_of line 0
+pub record Putting (most : ℕ) (line : ℕ → List ℕ) (entry : List ℕ) (at : ℕ) (i : ℕ) (exit : List ℕ) (r : ℕ) : Type 0 where
+  pub put : Put entry at (lines_of line i) exit r
+  pub near : r ≤ at + most * i
+
+pub putting_start : (most : ℕ) (line : ℕ → List ℕ) (e : List ℕ) (a : ℕ) → a ≤ length e → Putting most line e a 0 e a
 unfolding fold
-lines_none line text = sym (append-nil text)
+putting_start most line e a h = record { put = nothing e a h; near = omega arith }
 
-pub lines_next : (line : ℕ → List ℕ) (text : List ℕ) (i : ℕ) {before t after : List ℕ} → before ≡ text ++ lines_of line i → t ≡ line i → after ≡ before ++ t
-    → after ≡ text ++ lines_of line (i + 1)
-lines_next line text i e x p =
-    p ∙ rw (e, x, append_assoc text (lines_of line i) (line i))
-    (ap (λ (z : List ℕ). text ++ z) (sym (fold_next (λ (z : List ℕ) (k : ℕ). z ++ line k) [] i)))
+pub putting_next : {most : ℕ} {line : ℕ → List ℕ} {e : List ℕ} {a i : ℕ} {e' : List ℕ} {b : ℕ} {t e'' : List ℕ} {r : ℕ}
+    → Putting most line e a i e' b
+    → t ≡ line i → Put e' b t e'' r → r ≤ b + most → Putting most line e a (i + 1) e'' r
+putting_next {most} {line} {e} {a} {i} {e'} {b} {t} {e''} {r} h x p l =
+    record {
+      put = subst (λ (z : List ℕ). Put e a z e'' r) (ap (λ (z : List ℕ). lines_of line i ++ z) x
+          ∙ sym (fold_next (λ (text : List ℕ) (k : ℕ). text ++ line k) [] i)) (then h.put p);
+      near = omega (arith, h.near);
+    }
+
+pub put_as : {e : List ℕ} {a : ℕ} {t u e' : List ℕ} {r : ℕ} → t ≡ u → Put e a t e' r → Put e a u e' r
+put_as {e} {a} {t} {u} {e'} {r} q p = subst (λ (z : List ℕ). Put e a z e' r) q p
+
+pub counted : {e t e' : List ℕ} {r : ℕ} → Put e 0 t e' r → Counted r e' × ((r ≡ length t) × (e' ≡ t ++ drop r e))
+counted {e} {t} {e'} {r} p = let h : r ≤ length e' = omega (arith, size p, p.fits) in
+    ((h, sym (length-take-le r e' h)), (omega (arith, p.next), p.buffer))
 
 -- ---- lines of one length
 

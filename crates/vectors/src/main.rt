@@ -201,8 +201,9 @@ fn run(rt: &impl Print, s: &[u8]) -> Totals
 }
 
 fn main(rt: HostRuntime) -> io::Result<()> {
-    let list = lists::read_list(rt.alloc(), &mut rt.reader(), 65536)?;
-    let t = run(&rt, &list);
+    let mut buffer = [0u8; 65536];
+    let list = lists::read_list(&mut rt.reader(), &mut buffer)?;
+    let t = run(&rt, list);
     println!(rt; "scale {}", t.scale)?;
     println!(rt; "field {}", t.field)
 }

@@ -116,7 +116,8 @@ fn weights_within<const N: usize>(store: &[u8], day: u32) -> Result<SixWeights, 
     weights_by(store, day, &mut keys, &mut values)
 }
 
-// The weights of a store for a day. Clearing the columns of a full store takes longer than looking up a small one.
+// The weights of a store for a day. A refusal's offset is that of the record, but 18 has the slot in the offset's stead. Clearing the columns of a full
+// store takes longer than looking up a small one.
 pub fn weights(store: &[u8], day: u32) -> Result<SixWeights, Refusal>
     ensures { result ≡ weights_of store.now day }
 {

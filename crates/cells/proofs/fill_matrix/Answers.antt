@@ -27,7 +27,9 @@ fill_rows-requires c =
     let p = c.requires in
     let b = a.s.now in
     let aboard = c.fill_aboard.ensures in
-    let held = holds_aboard (sheet_of b a.c) _ _ _ _ aboard.cars.1 aboard.destinations.1 in record {
+    let k = c.of-known.ensures in
+    let held = holds_aboard (sheet_of b a.c) _ _ _ _ aboard.cars.1 aboard.destinations.1 in
+    rw (k.read.0, k.read.1, k.read.3, k.stops.0, k.stops.1, k.aboard.0, k.aboard.1) (record {
       rows_need = record {
         small = (accepted b a.c p.s_value.0).small;
         ids_size = p.s_value.1;
@@ -38,12 +40,11 @@ fill_rows-requires c =
         fits = p.s_value.3;
         ready = ready b a.c p.s_value.0 a.ids.now a.xs.now a.masks a.stops a.idle p.survey _ _ held _ _ _ c.waiting-someone.ensures;
       };
-      known = (c.policy_at.ensures, refl, refl);
       rows = (p.survey.rows, p.s_value.4, p.s_value.5);
-    }
+    })
 
 pub shape_of-matrix : goal.shape_of-matrix
 shape_of-matrix c = c.fill_rows.ensures.size
 
 pub returns : goal.returns
-returns c = c.fill_rows.ensures
+returns c = let k = c.of-known.ensures in rw (k.read.0, k.read.1, k.read.2) at c.fill_rows.ensures

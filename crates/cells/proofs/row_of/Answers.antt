@@ -27,11 +27,11 @@ row_for-requires c =
     let b = a.s.now in
     let aboard = c.fill_aboard.ensures in
     let seated = holds_aboard (sheet_of b a.c) _ _ _ _ aboard.cars.1 aboard.destinations.1 in
-    let small = (accepted b a.c p.s_value.0).small in record {
+    let k = c.of-known.ensures in
+    let small = (accepted b a.c p.s_value.0).small in rw (k.read.0, k.read.1, k.read.3, k.stops.0, k.stops.1, k.aboard.0, k.aboard.1) (record {
       small = (small, p.s_value.2, p.s_value.3, aboard.cars.0, aboard.destinations.0, omega (arith, small.aboards, p.s_value.4), omega (arith, small.aboards, p.s_value.5));
-      counted = (refl, refl);
-      policy_value = (c.policy_at.ensures, held_of b a.c p.s_value.0 a.ids.now a.xs.now a.masks p.seen_stops _ _ seated);
-    }
+      held = held_of b a.c p.s_value.0 a.ids.now a.xs.now a.masks p.seen_stops _ _ seated;
+    })
 
 pub returns : goal.returns
 unfolding sheet_of
@@ -43,5 +43,7 @@ returns c =
     let b = a.s.now in
     let seated = holds_aboard (sheet_of b a.c) _ _ _ _ aboard.cars.1 aboard.destinations.1 in
     let known = held_of b a.c p.s_value.0 a.ids.now a.xs.now a.masks p.seen_stops _ _ seated in
-    let of = row_of (sheet_of b a.c) a.ids.now a.xs.now _ _ a.masks known a.limit _ row.result _ _ row.ensures.row row.ensures.dests.2 row.ensures.sides.2 in
+    let k = c.of-known.ensures in
+    let done = rw (k.read.0, k.read.1, k.read.2, k.read.3, k.stops.0, k.stops.1, k.aboard.0, k.aboard.1) at row.ensures in
+    let of = row_of (sheet_of b a.c) a.ids.now a.xs.now _ _ a.masks known a.limit _ row.result _ _ done.row done.dests.2 done.sides.2 in
     (of.held a.i c.car_at-car.ensures, row.ensures.dests.1, row.ensures.sides.1)

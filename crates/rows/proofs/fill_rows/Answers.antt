@@ -13,7 +13,7 @@ use Rattle.rows.proofs.fill_rows.Goals as goal
 pub fill_table-requires : goal.fill_table-requires
 fill_table-requires c =
     let p = c.requires.rows_need in
-    let n = c.requires.known.1 in
+    let n = c.args.known.now.of_sheet.1 in
     (omega (arith, p.small.stops, n), omega (arith, p.small.stops, p.xs_size, n), omega (arith, p.small.stops, length-replicate {A = ℕ} 64 0, n))
 
 pub loop-r-init : goal.loop-r-init
@@ -52,7 +52,7 @@ fill_car_of-counted-requires c =
     let k = a.known.now in
     let at-loop = c.loop-r in
     let q = p.rows_need in
-    let governed = p.known.0 in
+    let governed = k.of_sheet.0 in
     let part = part_length at-loop.at a.columns at-loop.matrix (omega (arith, at-loop.invariant.1.near, at-loop.invariant.1.filled.size, p.rows.1, p.rows.2, p.rows.0.few)) in record {
       needs = (
         omega (arith, four_size (sheet_of k.sheet.now k.counts) a.idle.now at-loop.r at-loop.cars c.four_at.ensures at-loop.invariant.2),
@@ -69,10 +69,9 @@ fill_car_of-counted-requires c =
           };
           policy_is = governed;
           counted = table_held _ k.masks.demand k.stops.points.now k.counts.stops (replicate 64 0)
-              (omega (arith, q.small.stops, length-replicate {A = ℕ} 64 0)) (rw p.known.1 at c.fill_table.ensures);
+              (omega (arith, q.small.stops, length-replicate {A = ℕ} 64 0)) (rw k.of_sheet.1 at c.fill_table.ensures);
         },
       );
-      counted = (p.known.1, p.known.2);
     }
 
 pub overflow_add-ranked : goal.overflow_add-ranked

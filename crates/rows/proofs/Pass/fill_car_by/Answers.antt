@@ -18,14 +18,13 @@ row_for-of-requires c =
     let p = c.requires.needs in
     let q = p.0.rows in record {
       small = (q.small, q.ids_size, q.xs_size, q.acar_size, q.adest_size, p.1, p.2);
-      counted = c.requires.counted;
-      policy_value = (p.0.policy_is, q.ready.held);
+      held = q.ready.held;
     }
 
 pub fill_halts-requires : goal.fill_halts-requires
 fill_halts-requires c =
     let p = c.requires.needs.0 in
-    let n = c.requires.counted.0 in
+    let n = c.args.self.now.known.of_sheet.1 in
     let few = p.rows.small.stops in (
       omega (arith, few, n),
       omega (arith, few, p.rows.xs_size, n),
@@ -38,7 +37,7 @@ unfolding sheet_of row_for
 car_row-held-requires c =
     let a = c.args in
     let p = c.requires.needs.0 in
-    let n = c.requires.counted.0 in
+    let n = c.args.self.now.known.of_sheet.1 in
     let s = a.self.now in
     let k = s.known in
     let q = p.rows in
@@ -73,7 +72,7 @@ unfolding sheet_of dests_for row_for
 returns c =
     let a = c.args in
     let p = c.requires.needs.0 in
-    let n = c.requires.counted.0 in
+    let n = c.args.self.now.known.of_sheet.1 in
     let s = a.self.now in
     let k = s.known in
     let of = c.row_for-of in
