@@ -108,9 +108,9 @@ fn front(x: u64, j: u32, rest: Option<Choice>) -> Option<Choice>
 
 // The best for the cars from car i on, of which so many are left, over the columns that are not taken: the first of these cars is given each free
 // column, and the remaining ones are passed on.
-fn best(m: Matrix<'_>, i: usize, left: usize, taken: [bool; 5]) -> Option<Choice>
-    requires { Rest m.cells.now m.columns i left taken }
-    ensures { HoldsBest m.entry.cells.now m.entry.columns i left taken result }
+fn best(m: &Matrix<'_>, i: usize, left: usize, taken: [bool; 5]) -> Option<Choice>
+    requires { Rest m.now.cells.now m.now.columns i left taken }
+    ensures { HoldsBest m.now.cells.now m.now.columns i left taken result }
 {
     if left == 0 {
         return Some(Choice {
@@ -142,7 +142,7 @@ fn choose(m: Matrix<'_>) -> Result<Chosen, Refusal>
     requires { Small m.rows m.columns m.cells.now }
     ensures { result ≡ chosen_of m.entry.rows m.entry.columns m.entry.cells.now }
 {
-    let best = best(m, 0, m.rows, [false; 5]).ok_or(Refusal::NotSmall)?;
+    let best = best(&m, 0, m.rows, [false; 5]).ok_or(Refusal::NotSmall)?;
     Ok(Chosen {
         columns: best.columns,
         total: best.total,
